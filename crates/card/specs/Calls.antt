@@ -1,0 +1,61 @@
+-- CHECK, RUN and LIST (document 01, What the product holds): which refusal, or which answer, for any bytes and any row number.
+use mathlib.Core.Bool.{Bool, true, false, not, _&&_}
+use mathlib.Core.List.{List, [], _∷_, _++_}
+use mathlib.Core.Option.{Option, none, some}
+use Prim.Native.Nat.{ℕ}
+use lib.Dec.{eqb}
+use lib.ListN.{getD}
+use Rattle.tables.specs.Lists.{tabulate, keep, same}
+use Rattle.tables.specs.Tables.{Row, tableCount, columnsOf, rowCount, tablesOf, rowsOf}
+use Rattle.tables.specs.Values.{Env}
+use Rattle.tables.specs.Refusals.{Refusal, _if_, lowest, Answer, unless, tooShort, tablesRefusals, rowRefusal}
+use Rattle.card.specs.Card.{Card, answer}
+use Rattle.card.specs.Layout.{tablesIn, columnsIn, cardFrom}
+use Rattle.card.specs.Sound.{sound}
+
+-- the judged row of table 1, at level 0
+abbrev pub judgedRow : List ℕ → ℕ → Env
+judgedRow file row = getD (rowsOf (tablesOf file) 1) row [] ∷ []
+
+abbrev pub cardSays : List ℕ → ℕ → Option Card → Bool
+cardSays file row none = false
+cardSays file row (some c) = answer (tablesOf file) (judgedRow file row) c
+
+-- what a card says of a row of table 1
+unfoldable pub saysYes : List ℕ → List ℕ → ℕ → Bool
+saysYes card file row = cardSays file row (cardFrom card)
+
+-- the numbers of the rows of table 1 of which a test holds, rising
+unfoldable pub rowsWhere : List ℕ → (ℕ → Bool) → List ℕ
+rowsWhere file p = keep p (tabulate (rowCount file 1) (λ r. r))
+
+-- ---- the refusals
+
+-- 9: card not sound
+unfoldable pub checkRefusals : List ℕ → List Refusal
+checkRefusals card = (9 if not (sound card)) ∷ []
+
+-- 10: "card's T or columns differ from the tables'"
+unfoldable pub fitsTables : List ℕ → List ℕ → Bool
+fitsTables card file = eqb (tablesIn card) (tableCount file) && same (columnsIn card) (columnsOf file)
+
+-- what RUN and LIST look at first
+unfoldable pub gateRefusals : List ℕ → List ℕ → List Refusal
+unfolding checkRefusals
+gateRefusals card file = tablesRefusals file ++ (checkRefusals card ++ ((10 if not (fitsTables card file)) ∷ []))
+
+-- ---- the calls
+
+-- CHECK: "a card alone, sound or refused"
+unfoldable pub checkCall : List ℕ → Answer (Unit {0})
+checkCall card = unless (lowest (checkRefusals card)) (λ _. tt)
+
+-- RUN: "card, tables, row number to yes or no"
+unfoldable pub runCall : List ℕ → List ℕ → ℕ → Answer Bool
+runCall card file row = unless (lowest (gateRefusals card file ++ (rowRefusal file row ∷ []))) (λ _. saysYes card file row)
+
+-- LIST: "card and tables to the admitted row numbers, rising": the numbers, where the lent list has room for that many
+unfoldable pub listCall : List ℕ → List ℕ → ℕ → Answer (List ℕ)
+listCall card file room =
+    let rows = rowsWhere file (saysYes card file) in
+    unless (lowest (gateRefusals card file ++ ((12 if tooShort rows room) ∷ []))) (λ _. rows)

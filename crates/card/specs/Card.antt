@@ -1,0 +1,89 @@
+-- Document 01, Card: a card's entries as a tree, and what they answer. A card knows yes and no alone.
+use mathlib.Core.Bool.{Bool, true, false, not, _&&_, _||_}
+use mathlib.Core.List.{List, [], _∷_, _++_}
+use Prim.Native.Nat.{ℕ, _+_}
+use lib.Dec.{leb, ltb}
+use lib.ListN.{length, getD}
+use Rattle.tables.specs.Lists.{numbered, any, all}
+use Rattle.tables.specs.Bytes.{between}
+use Rattle.tables.specs.Tables.{Cell, Blank, Present, Row, Tables, rowsOf}
+use Rattle.tables.specs.Values.{Value, Constant, Column, Comparison, holds, Joint, And, Or, Quantifier, Some, All, Env, _▸_, cellOf, isBlank}
+
+-- "at most three row entries around one another"
+abbrev pub mostRowEntries : ℕ
+mostRowEntries = 3
+
+-- what unknown counts as: no (false-interpreted), or yes (true-interpreted)
+pub data Interpretation : Type 0 where
+  AsNo AsYes : Interpretation
+
+abbrev pub unknownSays : Interpretation → Bool
+unknownSays AsNo = false
+unknownSays AsYes = true
+
+-- an entry without inner ones. Compare AsNo and AsYes: kinds 5 and 6, "comparison where unknown counts as no", "as yes".
+-- IsNull: kind 7, "blank". NotNull: kind 8, "not blank".
+pub data Leaf : Type 0 where
+  Compare : Interpretation → Comparison → Value → Value → Leaf
+  IsNull NotNull : Value → Leaf
+
+-- an entry with its inner ones. Both And, Both Or: kinds 1 and 2. Rows Some, Rows All: kinds 3 and 4, "some row", "every row".
+pub data Card : Type 0 where
+  At : Leaf → Card
+  Both : Joint → Card → Card → Card
+  Rows : Quantifier → ℕ → Card → Card
+
+-- ---- the answer
+
+-- a comparison of two cells, where one that is blank makes it unknown
+abbrev pub compares : Interpretation → Comparison → Cell → Cell → Bool
+compares u op Blank y = unknownSays u
+compares u op (Present x) Blank = unknownSays u
+compares u op (Present x) (Present y) = holds op x y
+
+abbrev pub leafSays : Env → Leaf → Bool
+leafSays env (Compare u op l r) = compares u op (cellOf env l) (cellOf env r)
+leafSays env (IsNull l) = isBlank (cellOf env l)
+leafSays env (NotNull l) = not (isBlank (cellOf env l))
+
+abbrev pub joined : Joint → Bool → Bool → Bool
+joined And a b = a && b
+joined Or a b = a || b
+
+abbrev pub overRows : Quantifier → (Row → Bool) → List Row → Bool
+overRows Some p rows = any p rows
+overRows All p rows = all p rows
+
+-- "A compound entry's answer comes from its smaller inner entries."
+unfoldable pub answer : Tables → Env → Card → Bool
+answer ts env (At x) = leafSays env x
+answer ts env (Both j a b) = joined j (answer ts env a) (answer ts env b)
+answer ts env (Rows q t c) = overRows q (λ row. answer ts (env ▸ row) c) (rowsOf ts t)
+
+-- ---- its size, and whether it fits the tables' columns
+
+unfoldable pub entries : Card → ℕ
+entries (At x) = 1
+entries (Both j a b) = 1 + entries a + entries b
+entries (Rows q t c) = 1 + entries c
+
+-- columns has the columns of each table; levels has the table of each level, level 0 first
+module _ (columns : List ℕ) where
+  -- "existing .. columns and levels"
+  abbrev pub valueFits : List ℕ → Value → Bool
+  valueFits levels (Constant k) = true
+  valueFits levels (Column l c) = ltb l (length levels) && between 1 (numbered columns (getD levels l 0) 0) c
+
+  abbrev pub leafFits : List ℕ → Leaf → Bool
+  leafFits levels (Compare u op l r) = valueFits levels l && valueFits levels r
+  leafFits levels (IsNull l) = valueFits levels l
+  leafFits levels (NotNull l) = valueFits levels l
+
+  -- "existing tables", and at most three row entries around one another: levels holds the judged row's and one for each row entry around
+  abbrev pub rowsFit : List ℕ → ℕ → Bool
+  rowsFit levels t = between 1 (length columns) t && leb (length levels) mostRowEntries
+
+  unfoldable pub cardFits : List ℕ → Card → Bool
+  cardFits levels (At x) = leafFits levels x
+  cardFits levels (Both j a b) = cardFits levels a && cardFits levels b
+  cardFits levels (Rows q t c) = rowsFit levels t && cardFits (levels ++ (t ∷ [])) c

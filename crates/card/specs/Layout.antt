@@ -1,0 +1,156 @@
+-- Document 01, Card: the bytes of a card, from its entries and back.
+use mathlib.Core.Bool.{Bool, true, false, _&&_}
+use mathlib.Core.List.{List, [], _∷_, _++_}
+use mathlib.Core.Option.{Option, none, some}
+use Prim.Native.Nat.{ℕ, zero, suc, _+_, _*_}
+use lib.Dec.{eqb}
+use lib.ListN.{length, take, drop}
+use Rattle.tables.specs.Lists.{tabulate, numbered, all, only, _>>=_}
+use Rattle.tables.specs.Bytes.{between, byteAt, word16, word32, bytes16, bytes32, signed, bits}
+use Rattle.tables.specs.Values.{Value, Constant, Column, Comparison, comparisonNumber, comparisonOf, Joint, And, Or, Quantifier, Some, All}
+use Rattle.card.specs.Card.{Interpretation, AsNo, AsYes, Leaf, Compare, IsNull, NotNull, Card, At, Both, Rows, entries}
+
+-- "n records of 14 bytes"
+abbrev pub recordSize : ℕ
+recordSize = 14
+
+-- "tag byte, then a 4-byte number": 255 for a constant, else the level
+abbrev pub constantTag : ℕ
+constantTag = 255
+
+-- ---- what an entry says by itself
+
+pub data Head : Type 0 where
+  AtHead : Leaf → Head
+  BothHead : Joint → Head
+  RowsHead : Quantifier → ℕ → Head
+
+-- "Kinds: 1 and, 2 or, 3 some row, 4 every row, 5 comparison where unknown counts as no, 6 .. as yes, 7 blank, 8 not blank."
+abbrev pub kindOf : Head → ℕ
+kindOf (BothHead And) = 1
+kindOf (BothHead Or) = 2
+kindOf (RowsHead Some t) = 3
+kindOf (RowsHead All t) = 4
+kindOf (AtHead (Compare AsNo op l r)) = 5
+kindOf (AtHead (Compare AsYes op l r)) = 6
+kindOf (AtHead (IsNull l)) = 7
+kindOf (AtHead (NotNull l)) = 8
+
+abbrev pub valueBytes : Value → List ℕ
+valueBytes (Constant k) = constantTag ∷ bytes32 (bits k)
+valueBytes (Column l c) = l ∷ bytes32 c
+
+-- "Unused bytes are 0."
+abbrev pub noValue : List ℕ
+noValue = 0 ∷ 0 ∷ 0 ∷ 0 ∷ 0 ∷ []
+
+-- "Kinds 3 and 4 use the table, 5 and 6 the comparison and both values, 7 and 8 the left value."
+abbrev pub fieldBytes : Head → List ℕ
+fieldBytes (BothHead j) = 0 ∷ 0 ∷ noValue ++ noValue
+fieldBytes (RowsHead q t) = t ∷ 0 ∷ noValue ++ noValue
+fieldBytes (AtHead (Compare u op l r)) = 0 ∷ comparisonNumber op ∷ valueBytes l ++ valueBytes r
+fieldBytes (AtHead (IsNull l)) = 0 ∷ 0 ∷ valueBytes l ++ noValue
+fieldBytes (AtHead (NotNull l)) = 0 ∷ 0 ∷ valueBytes l ++ noValue
+
+-- "Record: end (2 bytes), table, comparison, left value, right value."
+abbrev pub recordBytes : ℕ → Head → List ℕ
+recordBytes end h = bytes16 end ++ fieldBytes h
+
+-- ---- the bytes of a card
+
+-- "each entry precedes its inner ones, left first": the kinds of a card's entries
+unfoldable pub kindBytes : Card → List ℕ
+kindBytes (At x) = kindOf (AtHead x) ∷ []
+kindBytes (Both j a b) = kindOf (BothHead j) ∷ (kindBytes a ++ kindBytes b)
+kindBytes (Rows q t c) = kindOf (RowsHead q t) ∷ kindBytes c
+
+-- and their records, where the first entry has the number k; an end is the number of the first entry after it and its inner ones
+unfoldable pub recordsFrom : ℕ → Card → List ℕ
+recordsFrom k (At x) = recordBytes (k + 1) (AtHead x)
+recordsFrom k (Both j a b) =
+    recordBytes (k + (1 + entries a + entries b)) (BothHead j) ++ (recordsFrom (k + 1) a ++ recordsFrom (k + 1 + entries a) b)
+recordsFrom k (Rows q t c) = recordBytes (k + (1 + entries c)) (RowsHead q t) ++ recordsFrom (k + 1) c
+
+-- "Bytes 0 and 1: entries n. Byte 2: T. T bytes: columns. Then n kind bytes; then n records."
+unfoldable pub cardBytes : List ℕ → Card → List ℕ
+cardBytes columns c = bytes16 (entries c) ++ (length columns ∷ (columns ++ (kindBytes c ++ recordsFrom 0 c)))
+
+-- "the card takes 3 + T + 15n bytes"
+abbrev pub cardLength : ℕ → ℕ → ℕ
+cardLength tables n = 3 + tables + (1 + recordSize) * n
+
+-- ---- the entries of some bytes
+
+module _ (bs : List ℕ) where
+  abbrev pub entryCount : ℕ
+  entryCount = word16 bs 0
+
+  abbrev pub tablesIn : ℕ
+  tablesIn = byteAt bs 2
+
+  unfoldable pub columnsIn : List ℕ
+  columnsIn = tabulate tablesIn (λ j. byteAt bs (3 + j))
+
+  abbrev pub kindAt : ℕ → ℕ
+  kindAt i = byteAt bs (3 + tablesIn + i)
+
+  abbrev pub recordAt : ℕ → List ℕ
+  recordAt i = take recordSize (drop (3 + tablesIn + entryCount + recordSize * i) bs)
+
+  abbrev pub endAt : ℕ → ℕ
+  endAt i = word16 (recordAt i) 0
+
+-- a value's five bytes
+unfoldable pub valueFrom : List ℕ → ℕ → Value
+valueFrom record′ i = elim (eqb (byteAt record′ i) constantTag) [
+  | true ↦ Constant (signed (word32 record′ (i + 1)))
+  | false ↦ Column (byteAt record′ i) (word32 record′ (i + 1))
+]
+
+-- n bytes from i on are 0
+unfoldable pub zeros : List ℕ → ℕ → ℕ → Bool
+zeros record′ i n = all (λ k. eqb (byteAt record′ (i + k)) 0) (tabulate n (λ k. k))
+
+-- what an entry of this kind with this record says: none, if there is no such kind or comparison, or if an unused byte is not 0
+unfoldable pub headFrom : ℕ → List ℕ → Option Head
+unfolding zeros valueFrom
+headFrom kind r =
+    let op = comparisonOf (byteAt r 3) in
+    let twoInner = zeros r 2 12 in
+    let oneInner = zeros r 3 11 in
+    let compared = zeros r 2 1 && between 1 6 (byteAt r 3) in
+    let tested = zeros r 2 2 && zeros r 9 5 in
+    numbered
+    (only twoInner (BothHead And)
+    ∷ only twoInner (BothHead Or)
+    ∷ only oneInner (RowsHead Some (byteAt r 2))
+    ∷ only oneInner (RowsHead All (byteAt r 2))
+    ∷ only compared (AtHead (Compare AsNo op (valueFrom r 4) (valueFrom r 9)))
+    ∷ only compared (AtHead (Compare AsYes op (valueFrom r 4) (valueFrom r 9)))
+    ∷ only tested (AtHead (IsNull (valueFrom r 4)))
+    ∷ only tested (AtHead (NotNull (valueFrom r 4)))
+    ∷ [])
+    kind
+    none
+
+-- an entry with its inner ones, and the number of the entry after them
+abbrev pub Taken : Type 0
+Taken = Card × ℕ
+
+-- "Kinds 1 and 2 have two inner entries, 3 and 4 one, the rest none": `from` takes the entry that starts at a number
+abbrev pub inside : (ℕ → Option Taken) → ℕ → Head → Option Taken
+inside from i (AtHead x) = some (At x, i + 1)
+inside from i (BothHead j) = from (i + 1) >>= (λ a. from (a .1) >>= (λ b. some (Both j (a .0) (b .0), b .1)))
+inside from i (RowsHead q t) = from (i + 1) >>= (λ c. some (Rows q t (c .0), c .1))
+
+-- the entry i, if its end is the number of the entry after it and its inner ones; depth bounds how many entries stand around one another
+unfoldable pub entryFrom : List ℕ → ℕ → ℕ → Option Taken
+unfolding headFrom
+entryFrom bs zero i = none
+entryFrom bs (suc depth) i =
+    headFrom (kindAt bs i) (recordAt bs i) >>= (λ h. inside (entryFrom bs depth) i h >>= (λ x. only (eqb (endAt bs i) (x .1)) x))
+
+-- the card that some bytes hold: "entry 0 covering all"
+unfoldable pub cardFrom : List ℕ → Option Card
+unfolding entryFrom
+cardFrom bs = entryFrom bs (entryCount bs) 0 >>= (λ x. only (eqb (x .1) (entryCount bs)) (x .0))

@@ -1,0 +1,4 @@
+pub mod Card
+pub mod Layout
+pub mod Sound
+pub mod Calls

@@ -1,0 +1,49 @@
+-- Document 01, Card: "A sound card has this layout, ends that fit, entry 0 covering all, existing tables, columns and levels, at most
+-- three row entries around one another, and no spare bytes."
+use mathlib.Core.Path.{_≡_}
+use mathlib.Core.Bool.{Bool, true, false, _&&_}
+use mathlib.Core.List.{List, [], _∷_}
+use mathlib.Core.Option.{Option, none, some}
+use Prim.Native.Nat.{ℕ}
+use lib.Dec.{T, eqb}
+use lib.ListN.{length}
+use Rattle.tables.specs.Lists.{all}
+use Rattle.tables.specs.Bytes.{between}
+use Rattle.tables.specs.Tables.{mostTables, mostColumns}
+use Rattle.card.specs.Card.{Card, entries, cardFits}
+use Rattle.card.specs.Layout.{cardBytes, cardLength, entryCount, tablesIn, columnsIn, cardFrom}
+
+-- "entries n, 1 to 192"
+abbrev pub mostEntries : ℕ
+mostEntries = 192
+
+-- a card's tables: "T, 1 to 8. T bytes: columns, 1 to 16 each."
+abbrev pub columnsFit : List ℕ → Bool
+columnsFit columns = between 1 mostTables (length columns) && all (between 1 mostColumns) columns
+
+-- level 0 is the judged row of table 1
+abbrev pub atTheGate : List ℕ
+atTheGate = 1 ∷ []
+
+-- the entries hold a card for these columns
+abbrev pub holdsFitting : List ℕ → Option Card → Bool
+holdsFitting columns none = false
+holdsFitting columns (some c) = cardFits columns atTheGate c
+
+-- the test that CHECK makes: the numbers of entries, tables and columns, no spare bytes, and one card that fits
+unfoldable pub sound : List ℕ → Bool
+unfolding columnsIn cardFrom cardFits
+sound bs =
+    between 1 mostEntries (entryCount bs)
+    && (columnsFit (columnsIn bs)
+    && (eqb (length bs) (cardLength (tablesIn bs) (entryCount bs))
+    && holdsFitting (columnsIn bs) (cardFrom bs)))
+
+-- the same, said without a test: the bytes of a card of at most 192 entries that fits its columns
+pub record Sound (bs : List ℕ) : Type 0 where
+  pub columns : List ℕ
+  pub card : Card
+  pub bytes : bs ≡ cardBytes columns card
+  pub few : T (between 1 mostEntries (entries card))
+  pub sized : T (columnsFit columns)
+  pub fits : T (cardFits columns atTheGate card)

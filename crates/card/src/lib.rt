@@ -1,0 +1,1 @@
+// What a card is. The definitions are in specs/.

@@ -1,0 +1,72 @@
+-- READ and JUDGE (document 01, What the product holds): which refusal, or which answer, for any bytes and any row number.
+use mathlib.Core.Path.{_≡_}
+use mathlib.Core.Bool.{Bool, true, false, not}
+use mathlib.Core.List.{List, [], _∷_, _++_}
+use mathlib.Core.Option.{Option, none, some}
+use Prim.Native.Nat.{ℕ}
+use lib.Dec.{leb, ltb}
+use lib.IntN.{pos}
+use lib.ListN.{length}
+use Rattle.tables.specs.Lists.{_>>=_, isMissing}
+use Rattle.tables.specs.Tables.{columnsOf, tablesOf}
+use Rattle.tables.specs.Refusals.{Refusal, _if_, lowest, Answer, unless, tooShort, tablesRefusals, rowRefusal}
+use Rattle.rule.specs.Tokens.{Token, tokensOf, opensFit}
+use Rattle.rule.specs.Condition.{Text, Rule}
+use Rattle.rule.specs.Grammar.{Tokens}
+use Rattle.rule.specs.Reader.{readAll}
+use Rattle.rule.specs.Names.{limitsFit, outermost, ruleIn}
+use Rattle.rule.specs.Parts.{Part, partsOf}
+use Rattle.rule.specs.Meaning.{Truth, Unknown, judged}
+
+-- 3: "At most 4,096 bytes."
+abbrev pub mostBytes : ℕ
+mostBytes = 4096
+
+-- a test of something that may be missing: where it is missing an earlier refusal says so
+abbrev pub ifThere : {A : Type 0} → (A → Bool) → Option A → Bool
+ifThere p none = true
+ifThere p (some x) = p x
+
+-- the condition that a text reads as, and the rule that it is with these columns
+unfoldable pub textOf : List ℕ → Option Text
+textOf text = tokensOf text >>= readAll
+
+unfoldable pub ruleOf : List ℕ → List ℕ → Option Rule
+unfolding textOf
+ruleOf text columns = textOf text >>= ruleIn columns outermost
+
+-- ---- the refusals of reading, in the order in which they win: 1 to 8
+unfoldable pub readingRefusals : List ℕ → List ℕ → List Refusal
+unfolding ruleOf
+readingRefusals text file =
+    tablesRefusals file
+    ++ ((3 if ltb mostBytes (length text))
+    ∷ (4 if isMissing (tokensOf text))
+    ∷ (5 if not (ifThere (opensFit (pos 0)) (tokensOf text)))
+    ∷ (6 if isMissing (textOf text))
+    ∷ (7 if not (ifThere limitsFit (textOf text)))
+    ∷ (8 if isMissing (ruleOf text (columnsOf file)))
+    ∷ [])
+
+-- What demand 3 compares: "A rule is accepted with a tables file when no refusal of reading applies to the two."
+abbrev pub Accepted : List ℕ → List ℕ → Type 0
+Accepted text file = lowest (readingRefusals text file) ≡ none
+
+-- ---- the calls
+
+-- what is done with the rule of an accepted text; d is never given
+abbrev pub withRule : {A : Type 0} → Option Rule → A → (Rule → A) → A
+withRule none d f = d
+withRule (some r) d f = f r
+
+-- READ: "text and tables to a list of parts", where the lent list has room for that many
+unfoldable pub readCall : List ℕ → List ℕ → ℕ → Answer (List Part)
+readCall text file room =
+    let ps = withRule (ruleOf text (columnsOf file)) [] partsOf in
+    unless (lowest (readingRefusals text file ++ ((12 if tooShort ps room) ∷ []))) (λ _. ps)
+
+-- JUDGE: "text, tables, row number to true, false or unknown"
+unfoldable pub judgeCall : List ℕ → List ℕ → ℕ → Answer Truth
+judgeCall text file row =
+    unless (lowest (readingRefusals text file ++ (rowRefusal file row ∷ [])))
+    (λ _. withRule (ruleOf text (columnsOf file)) Unknown (judged (tablesOf file) row))

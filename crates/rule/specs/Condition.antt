@@ -1,0 +1,67 @@
+-- Document 01, Rule text: a condition as a tree. Brackets are gone, and OR and AND join two conditions each.
+use Prim.Native.Nat.{ℕ, _+_, max}
+use lib.IntN.{ℤ}
+use Rattle.tables.specs.Values.{Value, Comparison, Joint, Quantifier}
+
+-- the tests without inner parts, over operands A
+pub data Test (A : Type 0) : Type 0 where
+  Compare : Comparison → A → A → Test A
+  IsNull IsNotNull : A → Test A
+
+-- a condition over operands A, where F is what a FROM says.
+-- Exists f w: EXISTS (FROM f WHERE w). Listed Some op l s f w: l op SOME (SELECT s FROM f WHERE w); Listed All: l op ALL (..).
+pub data Condition (A F : Type 0) : Type 0 where
+  Alone : Test A → Condition A F
+  Join : Joint → Condition A F → Condition A F → Condition A F
+  Not : Condition A F → Condition A F
+  Exists : F → Condition A F → Condition A F
+  Listed : Quantifier → Comparison → A → A → F → Condition A F → Condition A F
+
+-- a value as it is written: a number, or a letter and a number
+pub data Written : Type 0 where
+  Plain : ℤ → Written
+  Named : ℕ → ℤ → Written
+
+-- FROM number letter
+pub record From : Type 0 where
+  pub table : ℤ
+  pub letter : ℕ
+
+-- a condition as it is written, and a rule: its letters are levels, and its tables and columns exist
+abbrev pub Text : Type 0
+Text = Condition Written From
+
+abbrev pub Rule : Type 0
+Rule = Condition Value ℕ
+
+module _ {A F : Type 0} where
+  -- "Parts: each OR, AND, NOT and test, brackets themselves excepted."
+  unfoldable pub parts : Condition A F → ℕ
+  parts (Alone x) = 1
+  parts (Join j a b) = 1 + parts a + parts b
+  parts (Not a) = 1 + parts a
+  parts (Exists f w) = 1 + parts w
+  parts (Listed q op l s f w) = 1 + parts w
+
+  -- how many FROMs stand around one another
+  unfoldable pub fromsDeep : Condition A F → ℕ
+  fromsDeep (Alone x) = 0
+  fromsDeep (Join j a b) = max (fromsDeep a) (fromsDeep b)
+  fromsDeep (Not a) = fromsDeep a
+  fromsDeep (Exists f w) = 1 + fromsDeep w
+  fromsDeep (Listed q op l s f w) = 1 + fromsDeep w
+
+  -- the parts of kind 3, and those of kinds 8 and 9
+  unfoldable pub nots : Condition A F → ℕ
+  nots (Alone x) = 0
+  nots (Join j a b) = nots a + nots b
+  nots (Not a) = 1 + nots a
+  nots (Exists f w) = nots w
+  nots (Listed q op l s f w) = nots w
+
+  unfoldable pub lists : Condition A F → ℕ
+  lists (Alone x) = 0
+  lists (Join j a b) = lists a + lists b
+  lists (Not a) = lists a
+  lists (Exists f w) = lists w
+  lists (Listed q op l s f w) = 1 + lists w

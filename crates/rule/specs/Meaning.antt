@@ -1,0 +1,100 @@
+-- Document 01, Meaning: the value of a rule with each level at a row: true, false or unknown. Nothing here knows of cards.
+use mathlib.Core.Bool.{Bool, true, false, not, cond}
+use mathlib.Core.List.{List, [], _∷_, map}
+use Prim.Native.Nat.{ℕ}
+use lib.ListN.{getD}
+use Rattle.tables.specs.Lists.{any, keep}
+use Rattle.tables.specs.Tables.{Cell, Blank, Present, Row, Tables, rowsOf}
+use Rattle.tables.specs.Values.{Value, Comparison, holds, Joint, And, Or, Quantifier, Some, All, Env, _▸_, cellOf, isBlank}
+use Rattle.rule.specs.Condition.{Test, Compare, IsNull, IsNotNull, Condition, Alone, Join, Not, Exists, Listed, Rule}
+
+-- ---- the three truth values
+
+pub data Truth : Type 0 where
+  False Unknown True : Truth
+
+abbrev pub truth : Bool → Truth
+truth true = True
+truth false = False
+
+abbrev pub isTrue : Truth → Bool
+isTrue False = false
+isTrue Unknown = false
+isTrue True = true
+
+abbrev pub isUnknown : Truth → Bool
+isUnknown False = false
+isUnknown Unknown = true
+isUnknown True = false
+
+abbrev pub isFalse : Truth → Bool
+isFalse False = true
+isFalse Unknown = false
+isFalse True = false
+
+-- "NOT keeps unknown."
+abbrev pub not3 : Truth → Truth
+not3 False = True
+not3 Unknown = Unknown
+not3 True = False
+
+-- "AND is false if one side is false, else unknown if one is unknown"
+abbrev pub and3 : Truth → Truth → Truth
+and3 False b = False
+and3 Unknown False = False
+and3 Unknown Unknown = Unknown
+and3 Unknown True = Unknown
+and3 True b = b
+
+-- "OR is its mirror": true if one side is true, else unknown if one is unknown
+abbrev pub or3 : Truth → Truth → Truth
+or3 True b = True
+or3 Unknown False = Unknown
+or3 Unknown Unknown = Unknown
+or3 Unknown True = True
+or3 False b = b
+
+abbrev pub join3 : Joint → Truth → Truth → Truth
+join3 And a b = and3 a b
+join3 Or a b = or3 a b
+
+-- ---- tests
+
+-- "A comparison with a blank is unknown, blank with blank too."
+abbrev pub compare3 : Comparison → Cell → Cell → Truth
+compare3 op Blank y = Unknown
+compare3 op (Present x) Blank = Unknown
+compare3 op (Present x) (Present y) = truth (holds op x y)
+
+-- "IS NULL is true or false only"
+abbrev pub test3 : Env → Test Value → Truth
+test3 env (Compare op l r) = compare3 op (cellOf env l) (cellOf env r)
+test3 env (IsNull l) = truth (isBlank (cellOf env l))
+test3 env (IsNotNull l) = truth (not (isBlank (cellOf env l)))
+
+-- ---- subqueries
+
+-- the values that a comparison takes over the retained rows, as one.
+-- "SOME: true if a retained row compares true, else unknown if one is unknown, else false; false over none."
+-- "ALL: false if one compares false, else unknown if one is unknown, else true; true over none."
+abbrev pub over3 : Quantifier → List Truth → Truth
+over3 Some vs = cond (any isTrue vs) True (cond (any isUnknown vs) Unknown False)
+over3 All vs = cond (any isFalse vs) False (cond (any isUnknown vs) Unknown True)
+
+-- ---- rules
+
+-- "A subquery retains the rows whose WHERE is true. EXISTS: some row retained."
+-- The value left of a list is read outside it, the selected one at the retained row.
+unfoldable pub meaning : Tables → Env → Rule → Truth
+meaning ts env (Alone x) = test3 env x
+meaning ts env (Join j a b) = join3 j (meaning ts env a) (meaning ts env b)
+meaning ts env (Not a) = not3 (meaning ts env a)
+meaning ts env (Exists t w) = truth (any (λ row. isTrue (meaning ts (env ▸ row) w)) (rowsOf ts t))
+meaning ts env (Listed q op l s t w) =
+    let retained = keep (λ row. isTrue (meaning ts (env ▸ row) w)) (rowsOf ts t) in
+    over3 q (map (λ row. compare3 op (cellOf env l) (cellOf (env ▸ row) s)) retained)
+
+-- the value on a row of table 1, at which level 0 stands
+unfoldable pub judged : Tables → ℕ → Rule → Truth
+unfolding meaning
+judged ts row r = meaning ts (getD (rowsOf ts 1) row [] ∷ []) r

@@ -1,0 +1,157 @@
+-- The grammar as a function on tokens: the reading that it has, or none. proofs/Reading.antt shows that it finds exactly the readings
+-- of Grammar.antt, and that no tokens have two.
+use mathlib.Core.Bool.{Bool, true, false}
+use mathlib.Core.List.{List, [], _∷_}
+use mathlib.Core.Option.{Option, none, some}
+use Prim.Native.Nat.{ℕ, zero, suc, _+_, _*_}
+use lib.Dec.{eqb}
+use lib.IntN.{ℤ}
+use lib.ListN.{length}
+use Rattle.tables.specs.Lists.{only, _>>=_, _<|>_}
+use Rattle.tables.specs.Values.{Comparison, Eq, Ne, And, Or, Quantifier, Some, All}
+use Rattle.rule.specs.Tokens.{Token, Fixed, Compares, Letter, Number, AND, OR, NOT, EXISTS, IN, SOME, ALL, IS, NULL, SELECT, FROM, WHERE, Open, Close, Point}
+use Rattle.rule.specs.Condition.{Compare, IsNull, IsNotNull, Alone, Join, Not, Exists, Listed, Written, Plain, Named, From, Text}
+use Rattle.rule.specs.Grammar.{Tokens, fromOf}
+
+-- ---- one token
+
+abbrev pub isFixed : Token → ℕ → Bool
+isFixed (Fixed n) k = eqb n k
+isFixed (Compares op) k = false
+isFixed (Letter x) k = false
+isFixed (Number n) k = false
+
+-- the tokens after a fixed one
+unfoldable pub expect : Token → Tokens → Option Tokens
+expect t [] = none
+expect t (Fixed k ∷ ts) = only (isFixed t k) ts
+expect t (Compares op ∷ ts) = none
+expect t (Letter x ∷ ts) = none
+expect t (Number n ∷ ts) = none
+
+unfoldable pub readNumber : Tokens → Option (ℤ × Tokens)
+readNumber [] = none
+readNumber (Fixed k ∷ ts) = none
+readNumber (Compares op ∷ ts) = none
+readNumber (Letter x ∷ ts) = none
+readNumber (Number n ∷ ts) = some (n, ts)
+
+unfoldable pub readLetter : Tokens → Option (ℕ × Tokens)
+readLetter [] = none
+readLetter (Fixed k ∷ ts) = none
+readLetter (Compares op ∷ ts) = none
+readLetter (Letter x ∷ ts) = some (x, ts)
+readLetter (Number n ∷ ts) = none
+
+unfoldable pub readComparison : Tokens → Option (Comparison × Tokens)
+readComparison [] = none
+readComparison (Fixed k ∷ ts) = none
+readComparison (Compares op ∷ ts) = some (op, ts)
+readComparison (Letter x ∷ ts) = none
+readComparison (Number n ∷ ts) = none
+
+-- ---- runs of tokens without a condition in them
+
+unfoldable pub readValue : Tokens → Option (Written × Tokens)
+unfolding expect readNumber
+readValue [] = none
+readValue (Fixed k ∷ ts) = none
+readValue (Compares op ∷ ts) = none
+readValue (Letter x ∷ ts) = expect Point ts >>= (λ us. readNumber us >>= (λ n. some (Named x (n .0), n .1)))
+readValue (Number n ∷ ts) = some (Plain n, ts)
+
+-- FROM number letter WHERE
+unfoldable pub readFrom : Tokens → Option (From × Tokens)
+unfolding expect readNumber readLetter
+readFrom ts =
+    expect FROM ts >>= (λ us. readNumber us >>= (λ n. readLetter (n .1) >>= (λ x. expect WHERE (x .1) >>= (λ vs. some (fromOf (n .0) (x .0), vs)))))
+
+-- what stands before the condition that a test holds
+pub data Opening : Type 0 where
+  Bracket : Opening
+  OfExists : From → Opening
+  OfList : Quantifier → Comparison → Written → Written → From → Opening
+
+-- the test, once that condition is read
+abbrev pub closed : Opening → Text → Text
+closed Bracket w = w
+closed (OfExists f) w = Exists f w
+closed (OfList q op l s f) w = Listed q op l s f w
+
+-- how a test begins: it is read to its end, or up to the condition that it holds
+pub data Start : Type 0 where
+  Whole : Text → Tokens → Start
+  Around : Opening → Tokens → Start
+
+-- ( SELECT value FROM number letter WHERE
+unfoldable pub startList : Quantifier → Comparison → Written → Tokens → Option Start
+unfolding expect readValue readFrom
+startList q op l ts = expect Open ts >>= (λ us. expect SELECT us >>= (λ vs. readValue vs >>= (λ s. readFrom (s .1) >>= (λ f. some (Around (OfList q op l (s .0) (f .0)) (f .1))))))
+
+-- what may stand behind a value
+unfoldable pub startValue : Written → Tokens → Option Start
+unfolding expect readComparison readValue startList
+startValue l ts =
+    (expect IS ts >>= (λ us. expect NULL us >>= (λ rest. some (Whole (Alone (IsNull l)) rest))))
+    <|> (expect IS ts >>= (λ us. expect NOT us >>= (λ vs. expect NULL vs >>= (λ rest. some (Whole (Alone (IsNotNull l)) rest)))))
+    <|> (readComparison ts >>= (λ c. readValue (c .1) >>= (λ r. some (Whole (Alone (Compare (c .0) l (r .0))) (r .1)))))
+    <|> (readComparison ts >>= (λ c. expect SOME (c .1) >>= (λ us. startList Some (c .0) l us)))
+    <|> (readComparison ts >>= (λ c. expect ALL (c .1) >>= (λ us. startList All (c .0) l us)))
+    <|> (expect IN ts >>= (λ us. startList Some Eq l us))
+    <|> (expect NOT ts >>= (λ us. expect IN us >>= (λ vs. startList All Ne l vs)))
+
+unfoldable pub start : Tokens → Option Start
+unfolding expect readFrom readValue startValue
+start ts =
+    (expect Open ts >>= (λ us. some (Around Bracket us)))
+    <|> (expect EXISTS ts >>= (λ us. expect Open us >>= (λ vs. readFrom vs >>= (λ f. some (Around (OfExists (f .0)) (f .1))))))
+    <|> (readValue ts >>= (λ l. startValue (l .0) (l .1)))
+
+-- ---- conditions
+
+-- what is asked for; more-or a: the rest of a condition of which a is read; more-and a: the rest of a conjunction
+pub data Goal : Type 0 where
+  condition conjunction factor test : Goal
+  more-or more-and : Text → Goal
+
+-- a reading, and the tokens after it
+abbrev pub Found : Type 0
+Found = Option (Text × Tokens)
+
+abbrev pub branch : Option Tokens → (Tokens → Found) → (Unit {0} → Found) → Found
+branch (some us) there missing = there us
+branch none there missing = missing tt
+
+abbrev pub started : Option Start → (Opening → Tokens → Found) → Found
+started none around = none
+started (some (Whole a rest)) around = some (a, rest)
+started (some (Around o us)) around = around o us
+
+-- the bracket that closes behind the condition that a test holds
+abbrev pub closing : Opening → Text × Tokens → Found
+closing o w = expect Close (w .1) >>= (λ rest. some (closed o (w .0), rest))
+
+-- the longest reading at the front of some tokens; depth bounds how deep the calls go
+unfoldable pub read : ℕ → Goal → Tokens → Found
+unfolding expect start
+read zero goal ts = none
+read (suc depth) condition ts = read depth conjunction ts >>= (λ a. read depth (more-or (a .0)) (a .1))
+read (suc depth) (more-or a) ts =
+    branch (expect OR ts) (λ us. read depth conjunction us >>= (λ b. read depth (more-or (Join Or a (b .0))) (b .1))) (λ _. some (a, ts))
+read (suc depth) conjunction ts = read depth factor ts >>= (λ a. read depth (more-and (a .0)) (a .1))
+read (suc depth) (more-and a) ts =
+    branch (expect AND ts) (λ us. read depth factor us >>= (λ b. read depth (more-and (Join And a (b .0))) (b .1))) (λ _. some (a, ts))
+read (suc depth) factor ts = branch (expect NOT ts) (λ us. read depth factor us >>= (λ a. some (Not (a .0), a .1))) (λ _. read depth test ts)
+read (suc depth) test ts = started (start ts) (λ o us. read depth condition us >>= closing o)
+
+-- a depth that is never used up
+abbrev pub enough : Tokens → ℕ
+enough ts = 8 * length ts + 5
+
+abbrev pub atEnd : Text × Tokens → Option Text
+atEnd x = elim (x .1) [ [] ↦ some (x .0) | t ∷ ts ↦ none ]
+
+-- the reading of all the tokens; none: refusal 6
+unfoldable pub readAll : Tokens → Option Text
+unfolding read
+readAll ts = read (enough ts) condition ts >>= atEnd

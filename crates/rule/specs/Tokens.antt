@@ -1,0 +1,203 @@
+-- Document 01, Rule text: a text as a list of tokens, and refusals 4 and 5.
+use mathlib.Core.Bool.{Bool, true, false, _&&_, _||_}
+use mathlib.Core.List.{List, [], _∷_}
+use mathlib.Core.Option.{Option, none, some, Option·map}
+use Prim.Native.Nat.{ℕ, zero, suc, _+_, _*_, _-_, pred}
+use Prim.Native.Char.{Char, code}
+use Prim.Native.String.{String, [] as []ˢ, _∷_ as _∷ˢ_}
+use lib.Dec.{eqb, leb, ltb}
+use lib.IntN.{ℤ, pos, negsuc, negℤ, _+ℤ_}
+use lib.ListN.{length}
+use lib.Signed.{ltZ}
+use Rattle.tables.specs.Lists.{same, only, _>>=_, _<|>_}
+use Rattle.tables.specs.Bytes.{between, inRange}
+use Rattle.tables.specs.Values.{Comparison, Eq, Ne, Lt, Le, Gt, Ge}
+
+-- a quoted text as its bytes, so that a word can be written as the paper writes it
+unfoldable pub bytes : String → List ℕ
+bytes []ˢ = []
+bytes (c ∷ˢ s) = code c ∷ bytes s
+
+-- ---- the tokens
+
+-- Fixed k: the word or sign that has the number k below. A letter is its byte.
+pub data Token : Type 0 where
+  Fixed : ℕ → Token
+  Compares : Comparison → Token
+  Letter : ℕ → Token
+  Number : ℤ → Token
+
+abbrev pub AND : Token
+AND = Fixed 1
+
+abbrev pub OR : Token
+OR = Fixed 2
+
+abbrev pub NOT : Token
+NOT = Fixed 3
+
+abbrev pub EXISTS : Token
+EXISTS = Fixed 4
+
+abbrev pub IN : Token
+IN = Fixed 5
+
+abbrev pub SOME : Token
+SOME = Fixed 6
+
+abbrev pub ALL : Token
+ALL = Fixed 7
+
+abbrev pub IS : Token
+IS = Fixed 8
+
+abbrev pub NULL : Token
+NULL = Fixed 9
+
+abbrev pub SELECT : Token
+SELECT = Fixed 10
+
+abbrev pub FROM : Token
+FROM = Fixed 11
+
+abbrev pub WHERE : Token
+WHERE = Fixed 12
+
+abbrev pub Open : Token
+Open = Fixed 13
+
+abbrev pub Close : Token
+Close = Fixed 14
+
+abbrev pub Point : Token
+Point = Fixed 15
+
+-- a token that is always written the same
+pub record Spelling : Type 0 where
+  pub text : List ℕ
+  pub token : Token
+
+infix 10 _is_
+abbrev _is_ : String → Token → Spelling
+unfolding bytes
+s is t = record { text = bytes s; token = t }
+
+-- "a run of capitals, which must be AND OR NOT EXISTS IN SOME ALL IS NULL SELECT FROM WHERE"
+unfoldable pub words : List Spelling
+unfolding _is_
+words =
+    ("AND" is AND) ∷ ("OR" is OR) ∷ ("NOT" is NOT) ∷ ("EXISTS" is EXISTS) ∷ ("IN" is IN) ∷ ("SOME" is SOME) ∷ ("ALL" is ALL)
+    ∷ ("IS" is IS) ∷ ("NULL" is NULL) ∷ ("SELECT" is SELECT) ∷ ("FROM" is FROM) ∷ ("WHERE" is WHERE) ∷ []
+
+-- "( ) . = <> < <= > >=": where one sign begins another, the longer stands first
+unfoldable pub signs : List Spelling
+unfolding _is_
+signs =
+    ("<>" is Compares Ne) ∷ ("<=" is Compares Le) ∷ (">=" is Compares Ge) ∷ ("(" is Open) ∷ (")" is Close) ∷ ("." is Point)
+    ∷ ("=" is Compares Eq) ∷ ("<" is Compares Lt) ∷ (">" is Compares Gt) ∷ []
+
+-- ---- the bytes of a token
+
+-- "any spaces (byte 32) and line feeds (byte 10) before, between and after them"
+abbrev pub isGap : ℕ → Bool
+isGap b = eqb b 32 || eqb b 10
+
+abbrev pub isCapital : ℕ → Bool
+isCapital = between 65 90
+
+abbrev pub isSmall : ℕ → Bool
+isSmall = between 97 122
+
+abbrev pub isDigit : ℕ → Bool
+isDigit = between 48 57
+
+-- the longest run of bytes of one class that a text begins with: "longest first", "the whole run of digits"
+unfoldable pub run : (ℕ → Bool) → List ℕ → List ℕ
+run p [] = []
+run p (b ∷ bs) = elim (p b) [ true ↦ b ∷ run p bs | false ↦ [] ]
+
+-- a token, and how many bytes it takes
+abbrev pub Lexed : Type 0
+Lexed = Token × ℕ
+
+-- the word that a run of capitals is
+unfoldable pub wordIn : List Spelling → List ℕ → Option Lexed
+wordIn [] w = none
+wordIn (s ∷ ss) w = elim (same (s .text) w) [ true ↦ some (s .token, length w) | false ↦ wordIn ss w ]
+
+abbrev pub begins : List ℕ → List ℕ → Bool
+begins [] text = true
+begins (a ∷ as′) [] = false
+begins (a ∷ as′) (b ∷ bs) = eqb a b && begins as′ bs
+
+-- the first listed sign that a text begins with
+unfoldable pub signIn : List Spelling → List ℕ → Option Lexed
+signIn [] text = none
+signIn (s ∷ ss) text = elim (begins (s .text) text) [ true ↦ some (s .token, length (s .text)) | false ↦ signIn ss text ]
+
+-- "at most 10" digits
+abbrev pub mostDigits : ℕ
+mostDigits = 10
+
+-- the number that digits spell, where n is spelled before them
+abbrev pub spelled : ℕ → List ℕ → ℕ
+spelled n [] = n
+spelled n (d ∷ ds) = spelled (10 * n + (d - 48)) ds
+
+-- the digits of a number, with a minus before them or none: 1 to 10 digits, −2,147,483,648 to 2,147,483,647
+unfoldable pub numberFrom : (ℕ → ℤ) → ℕ → List ℕ → Option Lexed
+numberFrom sign before digits =
+    let n = sign (spelled 0 digits) in
+    only (between 1 mostDigits (length digits) && inRange n) (Number n, before + length digits)
+
+-- the token that a text begins with, where its first byte is b and is no gap
+unfoldable pub firstToken : ℕ → List ℕ → Option Lexed
+unfolding run wordIn signIn numberFrom words signs
+firstToken b bs =
+    elim (isCapital b) [
+      | true ↦ wordIn words (run isCapital (b ∷ bs))
+      | false ↦
+          elim (isSmall b) [
+            | true ↦ some (Letter b, 1)
+            | false ↦
+                elim (isDigit b) [
+                  | true ↦ numberFrom pos 0 (run isDigit (b ∷ bs))
+                  | false ↦ elim (eqb b 45) [ true ↦ numberFrom (λ n. negℤ (pos n)) 1 (run isDigit bs) | false ↦ signIn signs (b ∷ bs) ]
+                ]
+          ]
+    ]
+
+-- ---- the tokens of a text
+
+-- this token and those behind it, which `behind` finds once the token's own bytes are passed
+abbrev pub andThen : Option Lexed → (ℕ → Option (List Token)) → Option (List Token)
+andThen none behind = none
+andThen (some x) behind = Option·map (λ ts. x .0 ∷ ts) (behind (pred (x .1)))
+
+-- the tokens of a text, of whose first bytes n belong to a token found already; none: "no such token"
+unfoldable pub tokensAfter : ℕ → List ℕ → Option (List Token)
+unfolding firstToken
+tokensAfter n [] = some []
+tokensAfter (suc n) (b ∷ bs) = tokensAfter n bs
+tokensAfter zero (b ∷ bs) = elim (isGap b) [ true ↦ tokensAfter 0 bs | false ↦ andThen (firstToken b bs) (λ n. tokensAfter n bs) ]
+
+unfoldable pub tokensOf : List ℕ → Option (List Token)
+unfolding tokensAfter
+tokensOf text = tokensAfter 0 text
+
+-- ---- 5: "over 32 more ( than ) up to some token"
+
+abbrev pub mostOpen : ℤ
+mostOpen = pos 32
+
+-- what a token adds to the count of ( less that of )
+abbrev pub opening : Token → ℤ
+opening (Fixed k) = elim (eqb k 13) [ true ↦ pos 1 | false ↦ elim (eqb k 14) [ true ↦ negsuc 0 | false ↦ pos 0 ] ]
+opening (Compares c) = pos 0
+opening (Letter b) = pos 0
+opening (Number n) = pos 0
+
+-- with n more ( than ) before these tokens, there are at most 32 more up to each of them; n may be negative
+unfoldable pub opensFit : ℤ → List Token → Bool
+opensFit n [] = true
+opensFit n (t ∷ ts) = let m = n +ℤ opening t in elim (ltZ mostOpen m) [ true ↦ false | false ↦ opensFit m ts ]

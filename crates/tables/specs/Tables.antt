@@ -1,0 +1,152 @@
+-- Document 01, Tables: the bytes of a tables file, and what they say.
+use mathlib.Core.Path.{_≡_}
+use mathlib.Core.Bool.{Bool, not, _&&_}
+use mathlib.Core.List.{List, [], _∷_, map}
+use Prim.Native.Nat.{ℕ, zero, suc, _+_, _*_}
+use lib.Dec.{leb, ltb, eqb}
+use lib.IntN.{ℤ}
+use lib.ListN.{length, take}
+use Rattle.tables.specs.Lists.{tabulate, numbered, any, all, total, same}
+use Rattle.tables.specs.Bytes.{between, byteAt, word16, word32, signed}
+
+-- ---- the limits
+
+abbrev pub mostTables : ℕ
+mostTables = 8
+
+abbrev pub mostColumns : ℕ
+mostColumns = 16
+
+abbrev pub mostRows : ℕ
+mostRows = 1000
+
+-- "At most 8,192 cells over all."
+abbrev pub mostCells : ℕ
+mostCells = 8192
+
+-- "0 present, 1 blank": the highest mark
+abbrev pub highestMark : ℕ
+highestMark = 1
+
+-- ---- the sizes
+
+pub record Size : Type 0 where
+  pub columns : ℕ
+  pub rows : ℕ
+
+-- "Byte 0: number of tables T."
+abbrev pub tableCount : List ℕ → ℕ
+tableCount bs = byteAt bs 0
+
+-- "Per table: columns (1 byte), rows (2 bytes)." Here j counts the tables from 0.
+abbrev pub sizeAt : List ℕ → ℕ → Size
+sizeAt bs j = record { columns = byteAt bs (1 + 3 * j); rows = word16 bs (2 + 3 * j) }
+
+unfoldable pub sizes : List ℕ → List Size
+sizes bs = tabulate (tableCount bs) (sizeAt bs)
+
+-- the columns of each table: what a card keeps of the sizes, and what stays the same in later tables
+unfoldable pub columnsOf : List ℕ → List ℕ
+unfolding sizes
+columnsOf bs = map (λ s. s .columns) (sizes bs)
+
+-- "Tables .. are numbered from 1": the rows of table t
+unfoldable pub rowCount : List ℕ → ℕ → ℕ
+unfolding sizes
+rowCount bs t = numbered (map (λ s. s .rows) (sizes bs)) t 0
+
+abbrev pub cellsIn : Size → ℕ
+cellsIn s = s .rows * s .columns
+
+-- the cells of the tables before table number j + 1
+unfoldable pub cellsBefore : List ℕ → ℕ → ℕ
+unfolding sizes
+cellsBefore bs j = total (map cellsIn (take j (sizes bs)))
+
+-- the cells of all tables
+unfoldable pub cellCount : List ℕ → ℕ
+unfolding sizes
+cellCount bs = total (map cellsIn (sizes bs))
+
+-- "Sizes first, then two parallel arrays": where the values start, and the marks
+abbrev pub valuesAt : List ℕ → ℕ
+valuesAt bs = 1 + 3 * tableCount bs
+
+abbrev pub marksAt : List ℕ → ℕ
+marksAt bs = valuesAt bs + 4 * cellCount bs
+
+-- cell k of all: its value's bits, and its mark
+abbrev pub valueBits : List ℕ → ℕ → ℕ
+valueBits bs k = word32 bs (valuesAt bs + 4 * k)
+
+abbrev pub markOf : List ℕ → ℕ → ℕ
+markOf bs k = byteAt bs (marksAt bs + k)
+
+-- ---- when a file is refused
+
+abbrev pub sizeFits : Size → Bool
+sizeFits s = between 1 mostColumns (s .columns) && leb (s .rows) mostRows
+
+-- refusal 1 does not apply: T from 1 to 8, each table's sizes, at most 8,192 cells, and "the length fits exactly"
+unfoldable pub sizesFit : List ℕ → Bool
+unfolding sizes cellCount
+sizesFit bs =
+    between 1 mostTables (tableCount bs)
+    && (all sizeFits (sizes bs)
+    && (leb (cellCount bs) mostCells
+    && eqb (length bs) (1 + 3 * tableCount bs + 5 * cellCount bs)))
+
+-- refusal 2 does not apply: no mark is above 1
+unfoldable pub marksFit : List ℕ → Bool
+unfolding cellCount
+marksFit bs = all (λ k. leb (markOf bs k) highestMark) (tabulate (cellCount bs) (λ k. k))
+
+-- ---- the cells
+
+-- a cell is blank, or present with a signed number
+pub data Cell : Type 0 where
+  Blank : Cell
+  Present : ℤ → Cell
+
+-- "0 present, 1 blank"; the value bits of a blank cell are dropped here, so that they affect no answer
+abbrev pub cellFrom : ℕ → ℕ → Cell
+cellFrom zero raw = Present (signed raw)
+cellFrom (suc mark) raw = Blank
+
+unfoldable pub cellAt : List ℕ → ℕ → Cell
+unfolding cellCount
+cellAt bs k = cellFrom (markOf bs k) (valueBits bs k)
+
+abbrev pub Row : Type 0
+Row = List Cell
+
+abbrev pub Table : Type 0
+Table = List Row
+
+abbrev pub Tables : Type 0
+Tables = List Table
+
+-- the cells from number k on, as rows of c cells each: "by table, row, column"
+unfoldable pub tableFrom : List ℕ → ℕ → Size → Table
+unfolding cellAt
+tableFrom bs k s = tabulate (s .rows) (λ r. tabulate (s .columns) (λ c. cellAt bs (k + r * s .columns + c)))
+
+-- the tables that a file holds
+unfoldable pub tablesOf : List ℕ → Tables
+unfolding tableFrom cellsBefore
+tablesOf bs = tabulate (tableCount bs) (λ j. tableFrom bs (cellsBefore bs j) (sizeAt bs j))
+
+-- the rows of table t, numbered from 1
+abbrev pub rowsOf : Tables → ℕ → Table
+rowsOf ts t = numbered ts t []
+
+-- the cell in a column, numbered from 1
+abbrev pub cellIn : Row → ℕ → Cell
+cellIn row c = numbered row c Blank
+
+-- ---- later tables
+
+-- What demand 3 compares: "the same T and the same columns per table"
+unfoldable pub sameColumns : List ℕ → List ℕ → Bool
+unfolding columnsOf
+sameColumns bs cs = eqb (tableCount bs) (tableCount cs) && same (columnsOf bs) (columnsOf cs)

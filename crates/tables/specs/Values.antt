@@ -1,0 +1,74 @@
+-- Values and comparisons, which rules and cards share. Document 01, Rule text: a value is a constant, or a level and a column.
+use mathlib.Core.Bool.{Bool, true, false, not}
+use mathlib.Core.List.{List, [], _∷_, _++_}
+use Prim.Native.Nat.{ℕ}
+use lib.Dec.{eqb}
+use lib.IntN.{ℤ, pos, negsuc}
+use lib.ListN.{getD}
+use lib.Signed.{ltZ, leZ}
+use Rattle.tables.specs.Tables.{Cell, Blank, Present, Row, Tables, cellIn}
+
+-- Constant k: the number k. Column l c: column c of the row at which level l stands.
+pub data Value : Type 0 where
+  Constant : ℤ → Value
+  Column : ℕ → ℕ → Value
+
+-- "1 =, 2 <>, 3 <, 4 <=, 5 >, 6 >="
+pub data Comparison : Type 0 where
+  Eq Ne Lt Le Gt Ge : Comparison
+
+abbrev pub comparisonNumber : Comparison → ℕ
+comparisonNumber Eq = 1
+comparisonNumber Ne = 2
+comparisonNumber Lt = 3
+comparisonNumber Le = 4
+comparisonNumber Gt = 5
+comparisonNumber Ge = 6
+
+-- the comparison with a number from 1 to 6; any other number is taken for =
+abbrev pub comparisonOf : ℕ → Comparison
+comparisonOf n = getD (Eq ∷ Eq ∷ Ne ∷ Lt ∷ Le ∷ Gt ∷ Ge ∷ []) n Eq
+
+-- what joins two conditions, or two entries
+pub data Joint : Type 0 where
+  And Or : Joint
+
+-- what is asked of a table's rows
+pub data Quantifier : Type 0 where
+  Some All : Quantifier
+
+-- ---- comparing two numbers
+
+abbrev pub eqZ : ℤ → ℤ → Bool
+eqZ (pos a) (pos b) = eqb a b
+eqZ (pos a) (negsuc b) = false
+eqZ (negsuc a) (pos b) = false
+eqZ (negsuc a) (negsuc b) = eqb a b
+
+abbrev pub holds : Comparison → ℤ → ℤ → Bool
+holds Eq x y = eqZ x y
+holds Ne x y = not (eqZ x y)
+holds Lt x y = ltZ x y
+holds Le x y = leZ x y
+holds Gt x y = ltZ y x
+holds Ge x y = leZ y x
+
+-- ---- the cell that a value names
+
+-- the rows at which the levels stand, level 0 first
+abbrev pub Env : Type 0
+Env = List Row
+
+-- one level deeper, at this row
+infixl 60 _▸_
+abbrev pub _▸_ : Env → Row → Env
+env ▸ row = env ++ (row ∷ [])
+
+-- "a number is never blank"
+abbrev pub cellOf : Env → Value → Cell
+cellOf env (Constant k) = Present k
+cellOf env (Column level c) = cellIn (getD env level []) c
+
+abbrev pub isBlank : Cell → Bool
+isBlank Blank = true
+isBlank (Present x) = false

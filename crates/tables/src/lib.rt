@@ -1,0 +1,1 @@
+// What a tables file is. The definitions are in specs/.

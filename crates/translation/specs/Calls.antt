@@ -1,0 +1,19 @@
+-- CARD (document 01, What the product holds): which refusal, or which card bytes, for any text, tables and room.
+use mathlib.Core.List.{List, [], _∷_, _++_}
+use Prim.Native.Nat.{ℕ}
+use Rattle.tables.specs.Tables.{columnsOf}
+use Rattle.tables.specs.Refusals.{_if_, lowest, Answer, unless, tooShort}
+use Rattle.card.specs.Layout.{cardBytes}
+use Rattle.rule.specs.Condition.{Rule}
+use Rattle.rule.specs.Calls.{ruleOf, readingRefusals, withRule}
+use Rattle.translation.specs.Translation.{ruleCard}
+
+-- the card bytes of a rule, for the columns of a tables file
+unfoldable pub ruleBytes : List ℕ → Rule → List ℕ
+ruleBytes file r = cardBytes (columnsOf file) (ruleCard r)
+
+-- CARD: "text and tables to card bytes", where the lent buffer has room for that many
+unfoldable pub cardCall : List ℕ → List ℕ → ℕ → Answer (List ℕ)
+cardCall text file room =
+    let bs = withRule (ruleOf text (columnsOf file)) [] (ruleBytes file) in
+    unless (lowest (readingRefusals text file ++ ((12 if tooShort bs room) ∷ []))) (λ _. bs)

@@ -1,0 +1,57 @@
+-- Document 01, What demand 3 compares: one claim over all rules, files, rows and lent buffers.
+use mathlib.Core.Path.{_≡_}
+use mathlib.Core.Bool.{Bool, true}
+use mathlib.Core.List.{List, _++_}
+use mathlib.Core.Option.{Option, none, some}
+use Prim.Native.Nat.{ℕ, _≤_, _<_}
+use lib.ListN.{length, drop}
+use Rattle.tables.specs.Tables.{tableCount, columnsOf, rowCount, tablesOf, sizesFit, marksFit, sameColumns}
+use Rattle.tables.specs.Refusals.{Answer, Refused, Given, lowest, tablesRefusals, lentAfter}
+use Rattle.card.specs.Layout.{cardLength}
+use Rattle.card.specs.Calls.{rowsWhere, runCall, listCall}
+use Rattle.rule.specs.Condition.{Rule}
+use Rattle.rule.specs.Meaning.{judged, isTrue}
+use Rattle.rule.specs.Calls.{ruleOf, Accepted}
+use Rattle.translation.specs.Translation.{entrySum}
+use Rattle.translation.specs.Calls.{ruleBytes, cardCall}
+
+-- "The tables it was accepted for, later, are any file with no refusal 1 or 2, the same T and the same columns per table"
+pub record Later (file later : List ℕ) : Type 0 where
+  pub no-refusal : lowest (tablesRefusals later) ≡ none
+  pub same-columns : sameColumns file later ≡ true
+
+-- "A rule is true .. on a row by Meaning, with level 0 at that row of that later file, and by nothing in the card."
+abbrev pub trueAt : List ℕ → Rule → ℕ → Bool
+trueAt later r row = isTrue (judged (tablesOf later) row r)
+
+-- the bytes that a card takes
+abbrev pub publishedLength : List ℕ → Rule → ℕ
+publishedLength file r = cardLength (tableCount file) (entrySum r)
+
+-- "CARD refuses only with 12, exactly when its buffer is shorter than the length in bytes under Card. Its card is the translation under
+-- Card, that many bytes from the buffer's start."
+pub record CardClaim (text file : List ℕ) (r : Rule) (buffer : List ℕ) : Type 0 where
+  pub length-is : length (ruleBytes file r) ≡ publishedLength file r
+  pub short : length buffer < publishedLength file r → cardCall text file (length buffer) ≡ Refused 12
+  pub fits : publishedLength file r ≤ length buffer → cardCall text file (length buffer) ≡ Given (ruleBytes file r)
+
+-- "With any later file, RUN refuses no row of table 1 and says yes exactly where the rule is true, else no."
+abbrev pub RunClaim : List ℕ → List ℕ → Rule → ℕ → Type 0
+RunClaim card later r row = row < rowCount later 1 → runCall card later row ≡ Given (trueAt later r row)
+
+-- "LIST refuses only with 12, exactly when the lent list has fewer elements than there are rows where the rule is true. Otherwise it gives
+-- the numbers of those rows from the list's start, each once, rising, and its count is how many they are."
+pub record ListClaim (card later : List ℕ) (r : Rule) (out : List ℕ) : Type 0 where
+  pub short : length out < length (rowsWhere later (trueAt later r)) → listCall card later (length out) ≡ Refused 12
+  pub fits : length (rowsWhere later (trueAt later r)) ≤ length out → listCall card later (length out) ≡ Given (rowsWhere later (trueAt later r))
+
+-- a text that is accepted with a file is a rule, and for that rule all three hold
+pub record Demand3For (text file : List ℕ) : Type 0 where
+  pub rule : Rule
+  pub is-rule : ruleOf text (columnsOf file) ≡ some rule
+  pub cards : (buffer : List ℕ) → CardClaim text file rule buffer
+  pub runs : (later : List ℕ) → Later file later → (row : ℕ) → RunClaim (ruleBytes file rule) later rule row
+  pub listings : (later : List ℕ) → Later file later → (out : List ℕ) → ListClaim (ruleBytes file rule) later rule out
+
+abbrev pub Demand3 : Type 0
+Demand3 = (text file : List ℕ) → Accepted text file → Demand3For text file

@@ -1,0 +1,4 @@
+pub mod Translation
+pub mod Calls
+pub mod Demand3
+pub mod Cases
