@@ -1,1 +1,4 @@
 pub mod Computed
+pub mod Logic
+pub mod Says
+pub mod Sums
