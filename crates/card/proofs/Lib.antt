@@ -1,1 +1,3 @@
 pub mod Places
+pub mod Back
+pub mod Exact

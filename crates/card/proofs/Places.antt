@@ -6,7 +6,8 @@ use Prim.Native.Nat.{ℕ, zero, suc, _+_, _-_, _*_, _/_, _%_, _≤_, _<_}
 use native.Mathlib.Nat.{le-of-suc-le-suc, not-suc-le-zero, add-zero}
 use native.Mathlib.Omega.{arith}
 use borrow.Author.Tests.{lt-ltb, le-ltb, ltb-true, ltb-false}
-use lib.Dec.{T, leb, ltb, lt→ltb, ltb→lt}
+use lib.Dec.{T, leb, leb→le, ltb, lt→ltb, ltb→lt}
+use lib.Ieee.Fits.{and-l, and-r}
 use lib.IntN.{ℤ, pos, negsuc}
 use lib.ListN.{length, getD, take, drop}
 use lib.Seq.{getD-drop, drop-drop, drop-append-seam}
@@ -19,6 +20,9 @@ use Rattle.tables.specs.Bytes.{between, bytes16, bytes32, signed, bits, inRange
 pub at : (xs : List ℕ) (i k : ℕ) (p : List ℕ) → drop i xs ≡ p → getD xs (i + k) 0 ≡ getD p k 0
 at xs i k p h = sym (getD-drop i xs k 0) ∙ ap (λ (l : List ℕ). getD l k 0) h
 
+pub at0 : (xs : List ℕ) (i : ℕ) (p : List ℕ) → drop i xs ≡ p → getD xs i 0 ≡ getD p 0 0
+at0 xs i p h = ap (λ (k : ℕ). getD xs k 0) (sym (add-zero i)) ∙ at xs i 0 p h
+
 pub skip-to : (xs : List ℕ) (i j : ℕ) (p r : List ℕ) → drop i xs ≡ p ++ r → j ≡ i + length p → drop j xs ≡ r
 skip-to xs i j p r h e =
     ap (λ (n : ℕ). drop n xs) e ∙ sym (drop-drop (length p) i xs) ∙ ap (drop (length p)) h ∙ drop-append-seam p r
@@ -28,6 +32,14 @@ pub tabulated : (n : ℕ) (xs : List ℕ) (f : ℕ → ℕ) → n ≤ length xs 
 tabulated zero xs f l h = refl
 tabulated (suc n) [] f l h = absurd (not-suc-le-zero l)
 tabulated (suc n) (x ∷ xs) f l h = ap₂ _∷_ (h 0) (tabulated n xs (λ k. f (suc k)) (le-of-suc-le-suc l) (λ k. h (suc k)))
+
+-- ---- tests
+
+pub both : (a b : Bool) → T (a && b) → T a × T b
+both a b h = (and-l a b h, and-r a b h)
+
+pub bounds : (low high n : ℕ) → T (between low high n) → (low ≤ n) × (n ≤ high)
+bounds low high n h = let (p, q) = both (leb low n) (leb n high) h in (leb→le low n p, leb→le n high q)
 
 -- ---- numbers from their bytes
 

@@ -22,10 +22,9 @@ pub data Written : Type 0 where
   Plain : ℤ → Written
   Named : ℕ → ℤ → Written
 
--- FROM number letter
-pub record From : Type 0 where
-  pub table : ℤ
-  pub letter : ℕ
+-- Over n x: FROM n x, the rows of table n under the letter x
+pub data From : Type 0 where
+  Over : ℤ → ℕ → From
 
 -- a condition as it is written, and a rule: its letters are levels, and its tables and columns exist
 abbrev pub Text : Type 0

@@ -5,19 +5,10 @@ use Prim.Native.Nat.{ℕ}
 use lib.IntN.{ℤ}
 use Rattle.tables.specs.Values.{Comparison, Eq, Ne, And, Or, Some, All}
 use Rattle.rule.specs.Tokens.{Token, Compares, Letter, Number, AND, OR, NOT, EXISTS, IN, SOME, ALL, IS, NULL, SELECT, FROM, WHERE, Open, Close, Point}
-use Rattle.rule.specs.Condition.{Compare, IsNull, IsNotNull, Alone, Join, Not, Exists, Listed, Written, Plain, Named, From, Text}
+use Rattle.rule.specs.Condition.{Compare, IsNull, IsNotNull, Alone, Join, Not, Exists, Listed, Written, Plain, Named, From, Over, Text}
 
 abbrev pub Tokens : Type 0
 Tokens = List Token
-
--- what a list says: its selected value, its FROM, and its WHERE
-pub record Selected : Type 0 where
-  pub value : Written
-  pub from : From
-  pub where′ : Text
-
-abbrev pub fromOf : ℤ → ℕ → From
-fromOf n x = record { table = n; letter = x }
 
 -- "value: a number, or letter . number (a column)."
 pub data IsValue : Tokens → Written → Tokens → Type 0 where
@@ -44,18 +35,19 @@ mutual
   -- value comparison SOME list; value comparison ALL list; value IN list; value NOT IN list." "IN is 8 with =; NOT IN is 9 with <>."
   pub data IsTest : Tokens → Text → Tokens → Type 0 where
     bracketed : {ts rest : Tokens} {a : Text} → IsCondition ts a (Close ∷ rest) → IsTest (Open ∷ ts) a rest
-    exists : {n : ℤ} {x : ℕ} {ts rest : Tokens} {w : Text} → IsCondition ts w (Close ∷ rest) → IsTest (EXISTS ∷ Open ∷ FROM ∷ Number n ∷ Letter x ∷ WHERE ∷ ts) (Exists (fromOf n x) w) rest
+    exists : {n : ℤ} {x : ℕ} {ts rest : Tokens} {w : Text} → IsCondition ts w (Close ∷ rest) → IsTest (EXISTS ∷ Open ∷ FROM ∷ Number n ∷ Letter x ∷ WHERE ∷ ts) (Exists (Over n x) w) rest
     is-null : {ts rest : Tokens} {l : Written} → IsValue ts l (IS ∷ NULL ∷ rest) → IsTest ts (Alone (IsNull l)) rest
     is-not-null : {ts rest : Tokens} {l : Written} → IsValue ts l (IS ∷ NOT ∷ NULL ∷ rest) → IsTest ts (Alone (IsNotNull l)) rest
     compared : {ts us rest : Tokens} {op : Comparison} {l r : Written} → IsValue ts l (Compares op ∷ us) → IsValue us r rest → IsTest ts (Alone (Compare op l r)) rest
-    some-of : {ts us rest : Tokens} {op : Comparison} {l : Written} {s : Selected} → IsValue ts l (Compares op ∷ SOME ∷ us) → IsList us s rest → IsTest ts (Listed Some op l (s .value) (s .from) (s .where′)) rest
-    all-of : {ts us rest : Tokens} {op : Comparison} {l : Written} {s : Selected} → IsValue ts l (Compares op ∷ ALL ∷ us) → IsList us s rest → IsTest ts (Listed All op l (s .value) (s .from) (s .where′)) rest
-    is-in : {ts us rest : Tokens} {l : Written} {s : Selected} → IsValue ts l (IN ∷ us) → IsList us s rest → IsTest ts (Listed Some Eq l (s .value) (s .from) (s .where′)) rest
-    not-in : {ts us rest : Tokens} {l : Written} {s : Selected} → IsValue ts l (NOT ∷ IN ∷ us) → IsList us s rest → IsTest ts (Listed All Ne l (s .value) (s .from) (s .where′)) rest
+    some-of : {ts us rest : Tokens} {op : Comparison} {l : Written} {s : Written} {f : From} {w : Text} → IsValue ts l (Compares op ∷ SOME ∷ us) → IsList us s f w rest → IsTest ts (Listed Some op l s f w) rest
+    all-of : {ts us rest : Tokens} {op : Comparison} {l : Written} {s : Written} {f : From} {w : Text} → IsValue ts l (Compares op ∷ ALL ∷ us) → IsList us s f w rest → IsTest ts (Listed All op l s f w) rest
+    is-in : {ts us rest : Tokens} {l : Written} {s : Written} {f : From} {w : Text} → IsValue ts l (IN ∷ us) → IsList us s f w rest → IsTest ts (Listed Some Eq l s f w) rest
+    not-in : {ts us rest : Tokens} {l : Written} {s : Written} {f : From} {w : Text} → IsValue ts l (NOT ∷ IN ∷ us) → IsList us s f w rest → IsTest ts (Listed All Ne l s f w) rest
 
   -- "list: ( SELECT value FROM number letter WHERE condition )."
-  pub data IsList : Tokens → Selected → Tokens → Type 0 where
-    list : {n : ℤ} {x : ℕ} {ts us rest : Tokens} {v : Written} {w : Text} → IsValue ts v (FROM ∷ Number n ∷ Letter x ∷ WHERE ∷ us) → IsCondition us w (Close ∷ rest) → IsList (Open ∷ SELECT ∷ ts) (record { value = v; from = fromOf n x; where′ = w }) rest
+  -- `IsList ts s f w rest`: the list selects s, its FROM is f and its WHERE is w.
+  pub data IsList : Tokens → Written → From → Text → Tokens → Type 0 where
+    list : {n : ℤ} {x : ℕ} {ts us rest : Tokens} {v : Written} {w : Text} → IsValue ts v (FROM ∷ Number n ∷ Letter x ∷ WHERE ∷ us) → IsCondition us w (Close ∷ rest) → IsList (Open ∷ SELECT ∷ ts) v (Over n x) w rest
 
 -- the whole of some tokens is a condition
 abbrev pub Reads : Tokens → Text → Type 0

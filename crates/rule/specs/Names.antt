@@ -9,7 +9,7 @@ use lib.ListN.{length}
 use Rattle.tables.specs.Lists.{numbered, only, _>>=_}
 use Rattle.tables.specs.Bytes.{between}
 use Rattle.tables.specs.Values.{Value, Constant, Column}
-use Rattle.rule.specs.Condition.{Test, Compare, IsNull, IsNotNull, Condition, Alone, Join, Not, Exists, Listed, Written, Plain, Named, From, Text, Rule, parts, fromsDeep}
+use Rattle.rule.specs.Condition.{Test, Compare, IsNull, IsNotNull, Condition, Alone, Join, Not, Exists, Listed, Written, Plain, Named, From, Over, Text, Rule, parts, fromsDeep}
 
 -- ---- 7: "At most 64 parts, at most three FROMs around one another."
 
@@ -71,13 +71,11 @@ module _ (columns : List ℕ) where
   ruleIn scope (Alone x) = testIn scope x >>= (λ y. some (Alone y))
   ruleIn scope (Join j a b) = ruleIn scope a >>= (λ x. ruleIn scope b >>= (λ y. some (Join j x y)))
   ruleIn scope (Not a) = ruleIn scope a >>= (λ x. some (Not x))
-  ruleIn scope (Exists f w) =
-      existing (length columns) (f .table) >>= (λ t. ruleIn (bound scope (f .letter) t) w >>= (λ x. some (Exists t x)))
-  ruleIn scope (Listed q op l s f w) =
-      existing (length columns) (f .table) >>= (λ t.
-      valueIn scope l >>= (λ x.
-      valueIn (bound scope (f .letter) t) s >>= (λ y.
-      ruleIn (bound scope (f .letter) t) w >>= (λ z. some (Listed q op x y t z)))))
+  ruleIn scope (Exists (Over n x) w) =
+      existing (length columns) n >>= (λ t. ruleIn (bound scope x t) w >>= (λ w′. some (Exists t w′)))
+  ruleIn scope (Listed q op l s (Over n x) w) =
+      existing (length columns) n >>= (λ t.
+      valueIn scope l >>= (λ l′. valueIn (bound scope x t) s >>= (λ s′. ruleIn (bound scope x t) w >>= (λ w′. some (Listed q op l′ s′ t w′)))))
 
 -- ---- the levels that a rule names
 

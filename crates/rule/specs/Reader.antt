@@ -10,8 +10,8 @@ use lib.ListN.{length}
 use Rattle.tables.specs.Lists.{only, _>>=_, _<|>_}
 use Rattle.tables.specs.Values.{Comparison, Eq, Ne, And, Or, Quantifier, Some, All}
 use Rattle.rule.specs.Tokens.{Token, Fixed, Compares, Letter, Number, AND, OR, NOT, EXISTS, IN, SOME, ALL, IS, NULL, SELECT, FROM, WHERE, Open, Close, Point}
-use Rattle.rule.specs.Condition.{Compare, IsNull, IsNotNull, Alone, Join, Not, Exists, Listed, Written, Plain, Named, From, Text}
-use Rattle.rule.specs.Grammar.{Tokens, fromOf}
+use Rattle.rule.specs.Condition.{Compare, IsNull, IsNotNull, Alone, Join, Not, Exists, Listed, Written, Plain, Named, From, Over, Text}
+use Rattle.rule.specs.Grammar.{Tokens}
 
 -- ---- one token
 
@@ -64,7 +64,7 @@ readValue (Number n ∷ ts) = some (Plain n, ts)
 unfoldable pub readFrom : Tokens → Option (From × Tokens)
 unfolding expect readNumber readLetter
 readFrom ts =
-    expect FROM ts >>= (λ us. readNumber us >>= (λ n. readLetter (n .1) >>= (λ x. expect WHERE (x .1) >>= (λ vs. some (fromOf (n .0) (x .0), vs)))))
+    expect FROM ts >>= (λ us. readNumber us >>= (λ n. readLetter (n .1) >>= (λ x. expect WHERE (x .1) >>= (λ vs. some (Over (n .0) (x .0), vs)))))
 
 -- what stands before the condition that a test holds
 pub data Opening : Type 0 where

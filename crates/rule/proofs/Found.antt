@@ -1,0 +1,180 @@
+-- The runs of tokens of a test: what Reader's functions find is what the productions of Grammar say, and the other way round.
+-- The first half goes by induction principles: whatever holds of "nothing found" and of each form holds of what is found.
+use mathlib.Core.Path.{_≡_, refl, ap, subst, _∙_}
+use mathlib.Core.Bool.{Bool, true, false}
+use mathlib.Core.List.{List, [], _∷_}
+use mathlib.Core.Option.{Option, none, some}
+use Prim.Native.Nat.{ℕ}
+use lib.Dec.{eqb}
+use lib.IntN.{ℤ}
+use borrow.Author.Tests.{eqb-true}
+use Rattle.tables.specs.Lists.{only, _>>=_, _<|>_}
+use Rattle.tables.specs.Values.{Comparison, Eq, Ne, Quantifier, Some, All}
+use Rattle.rule.specs.Tokens.{Token, Fixed, Compares, Letter, Number, NOT, EXISTS, IN, SOME, ALL, IS, NULL, SELECT, FROM, WHERE, Open, Close, Point}
+use Rattle.rule.specs.Condition.{Compare, IsNull, IsNotNull, Alone, Exists, Listed, Written, Plain, Named, From, Over, Text}
+use Rattle.rule.specs.Grammar.{Tokens, IsValue, number, column, IsCondition, IsTest, bracketed, exists, is-null, is-not-null, compared, some-of, all-of, is-in, not-in, IsList, list}
+use Rattle.rule.specs.Reader.{expect, readNumber, readLetter, readComparison, readValue, readFrom, Opening, Bracket, OfExists, OfList, closed, Start, Whole, Around, startList, startValue, start, Found, branch}
+
+module _ {A : Type 0} where
+  pub bind-ind : {B : Type 0} (P : Option B → Type 0) (o : Option A) (f : A → Option B) → P none → ((x : A) → o ≡ some x → P (f x)) → P (o >>= f)
+  bind-ind P none f z h = z
+  bind-ind P (some x) f z h = h x refl
+
+  or-ind : (P : Option A → Type 0) (o o′ : Option A) → P o → P o′ → P (o <|> o′)
+  or-ind P none o′ p q = q
+  or-ind P (some x) o′ p q = p
+
+-- ---- what is found has the form
+
+module _ {B : Type 0} (Q : Tokens → Option B → Type 0) (missing : (ts : Tokens) → Q ts none) where
+  pub expect-at : (n : ℕ) (f : Tokens → Option B) → ((us : Tokens) → Q (Fixed n ∷ us) (f us)) → (ts : Tokens) → Q ts (expect (Fixed n) ts >>= f)
+  unfolding expect
+  expect-at n f h [] = missing []
+  expect-at n f h (Fixed k ∷ us) = go (eqb n k) refl
+    where
+      go : (b : Bool) → eqb n k ≡ b → Q (Fixed k ∷ us) (only b us >>= f)
+      go true e = subst (λ (j : ℕ). Q (Fixed j ∷ us) (f us)) (eqb-true n k e) (h us)
+      go false e = missing (Fixed k ∷ us)
+  expect-at n f h (Compares op ∷ us) = missing (Compares op ∷ us)
+  expect-at n f h (Letter x ∷ us) = missing (Letter x ∷ us)
+  expect-at n f h (Number m ∷ us) = missing (Number m ∷ us)
+
+  number-at : (f : ℤ × Tokens → Option B) → ((n : ℤ) (us : Tokens) → Q (Number n ∷ us) (f (n, us))) → (ts : Tokens) → Q ts (readNumber ts >>= f)
+  unfolding readNumber
+  number-at f h [] = missing []
+  number-at f h (Fixed k ∷ us) = missing (Fixed k ∷ us)
+  number-at f h (Compares op ∷ us) = missing (Compares op ∷ us)
+  number-at f h (Letter x ∷ us) = missing (Letter x ∷ us)
+  number-at f h (Number n ∷ us) = h n us
+
+  letter-at : (f : ℕ × Tokens → Option B) → ((x : ℕ) (us : Tokens) → Q (Letter x ∷ us) (f (x, us))) → (ts : Tokens) → Q ts (readLetter ts >>= f)
+  unfolding readLetter
+  letter-at f h [] = missing []
+  letter-at f h (Fixed k ∷ us) = missing (Fixed k ∷ us)
+  letter-at f h (Compares op ∷ us) = missing (Compares op ∷ us)
+  letter-at f h (Letter x ∷ us) = h x us
+  letter-at f h (Number n ∷ us) = missing (Number n ∷ us)
+
+  comparison-at : (f : Comparison × Tokens → Option B) → ((op : Comparison) (us : Tokens) → Q (Compares op ∷ us) (f (op, us))) → (ts : Tokens) → Q ts (readComparison ts >>= f)
+  unfolding readComparison
+  comparison-at f h [] = missing []
+  comparison-at f h (Fixed k ∷ us) = missing (Fixed k ∷ us)
+  comparison-at f h (Compares op ∷ us) = h op us
+  comparison-at f h (Letter x ∷ us) = missing (Letter x ∷ us)
+  comparison-at f h (Number n ∷ us) = missing (Number n ∷ us)
+
+-- a chain of steps whose last one is f
+bind-bind : {A B C : Type 0} (o : Option A) (g : A → Option B) (f : B → Option C) → ((o >>= g) >>= f) ≡ (o >>= (λ x. g x >>= f))
+bind-bind none g f = refl
+bind-bind (some x) g f = refl
+
+module _ {B : Type 0} (Q : Tokens → Option B → Type 0) (missing : (ts : Tokens) → Q ts none) where
+  value-at : (f : Written × Tokens → Option B) → ((v : Written) (ts us : Tokens) → IsValue ts v us → Q ts (f (v, us))) → (ts : Tokens) → Q ts (readValue ts >>= f)
+  unfolding readValue
+  value-at f h [] = missing []
+  value-at f h (Fixed k ∷ us) = missing (Fixed k ∷ us)
+  value-at f h (Compares op ∷ us) = missing (Compares op ∷ us)
+  value-at f h (Letter x ∷ us) =
+      simp bind-bind
+      (expect-at (λ vs o. Q (Letter x ∷ vs) o) (λ vs. missing (Letter x ∷ vs)) 15 _
+      (λ vs. number-at (λ ws o. Q (Letter x ∷ Point ∷ ws) o) (λ ws. missing (Letter x ∷ Point ∷ ws)) _
+      (λ n ws. h (Named x n) (Letter x ∷ Point ∷ Number n ∷ ws) ws column) vs) us)
+  value-at f h (Number n ∷ us) = h (Plain n) (Number n ∷ us) us number
+
+  from-at : (f : From × Tokens → Option B) → ((n : ℤ) (x : ℕ) (us : Tokens) → Q (FROM ∷ Number n ∷ Letter x ∷ WHERE ∷ us) (f (Over n x, us))) → (ts : Tokens) → Q ts (readFrom ts >>= f)
+  unfolding readFrom
+  from-at f h ts =
+      simp bind-bind
+      (expect-at Q missing 11 _ (λ us.
+      number-at (λ vs o. Q (FROM ∷ vs) o) (λ vs. missing (FROM ∷ vs)) _ (λ n vs.
+      letter-at (λ ws o. Q (FROM ∷ Number n ∷ ws) o) (λ ws. missing (FROM ∷ Number n ∷ ws)) _ (λ x ws.
+      expect-at (λ xs o. Q (FROM ∷ Number n ∷ Letter x ∷ xs) o) (λ xs. missing (FROM ∷ Number n ∷ Letter x ∷ xs)) 12 _ (λ xs. h n x xs) ws) vs) us) ts)
+
+-- what a start promises: the whole test is read, or it is once its condition and the bracket behind it are
+pub data Promised (ts : Tokens) : Option Start → Type 0 where
+  nothing : Promised ts none
+  whole : {a : Text} {rest : Tokens} → IsTest ts a rest → Promised ts (some (Whole a rest))
+  around : {o : Opening} {us : Tokens} → ((w : Text) (rest : Tokens) → IsCondition us w (Close ∷ rest) → IsTest ts (closed o w) rest) → Promised ts (some (Around o us))
+
+-- a list that is read to its WHERE; `h` makes the test of it
+list-promised : (q : Quantifier) (op : Comparison) (l : Written) (ts us : Tokens)
+    → ((s : Written) (f : From) (w : Text) (rest : Tokens) → IsList us s f w rest → IsTest ts (Listed q op l s f w) rest) → Promised ts (startList q op l us)
+unfolding startList
+list-promised q op l ts =
+    let Q : Tokens → Option Start → Type 0 = λ us o. ((s : Written) (f : From) (w : Text) (rest : Tokens) → IsList us s f w rest → IsTest ts (Listed q op l s f w) rest) → Promised ts o in
+    expect-at Q (λ _ _. nothing) 13 _ (λ us.
+    expect-at (λ vs o. Q (Open ∷ vs) o) (λ _ _. nothing) 10 _ (λ vs.
+    value-at (λ ws o. Q (Open ∷ SELECT ∷ ws) o) (λ _ _. nothing) _ (λ v ws xs is.
+    from-at (λ ys o. IsValue ws v ys → Q (Open ∷ SELECT ∷ ws) o) (λ _ _ _. nothing) _ (λ n x ys is′ h. around (λ w rest c. h v (Over n x) w rest (list is′ c))) xs is) vs) us)
+
+-- what stands behind a value: the productions in the order of startValue
+module _ (l : Written) where
+  abbrev Behind : Tokens → Option Start → Type 0
+  Behind us o = (ts : Tokens) → IsValue ts l us → Promised ts o
+
+  value-promised : (us : Tokens) → Behind us (startValue l us)
+  unfolding startValue
+  value-promised us =
+      or-ind (Behind us) _ _ (or-ind (Behind us) _ _ (or-ind (Behind us) _ _ (or-ind (Behind us) _ _ (or-ind (Behind us) _ _ (or-ind (Behind us) _ _
+      (expect-at Behind (λ _ _ _. nothing) 8 _ (λ vs. expect-at (λ ws o. Behind (IS ∷ ws) o) (λ _ _ _. nothing) 9 _ (λ rest ts v. whole (is-null v)) vs) us)
+      (expect-at Behind (λ _ _ _. nothing) 8 _ (λ vs. expect-at (λ ws o. Behind (IS ∷ ws) o) (λ _ _ _. nothing) 3 _ (λ ws. expect-at (λ xs o. Behind (IS ∷ NOT ∷ xs) o) (λ _ _ _. nothing) 9 _ (λ rest ts v. whole (is-not-null v)) ws) vs) us))
+      (comparison-at Behind (λ _ _ _. nothing) _ (λ op vs. value-at (λ ws o. Behind (Compares op ∷ ws) o) (λ _ _ _. nothing) _ (λ r ws rest is ts v. whole (compared v is)) vs) us))
+      (comparison-at Behind (λ _ _ _. nothing) _ (λ op vs. expect-at (λ ws o. Behind (Compares op ∷ ws) o) (λ _ _ _. nothing) 6 _ (λ ws ts v. list-promised Some op l ts ws (λ s f w rest is. some-of v is)) vs) us))
+      (comparison-at Behind (λ _ _ _. nothing) _ (λ op vs. expect-at (λ ws o. Behind (Compares op ∷ ws) o) (λ _ _ _. nothing) 7 _ (λ ws ts v. list-promised All op l ts ws (λ s f w rest is. all-of v is)) vs) us))
+      (expect-at Behind (λ _ _ _. nothing) 5 _ (λ vs ts v. list-promised Some Eq l ts vs (λ s f w rest is. is-in v is)) us))
+      (expect-at Behind (λ _ _ _. nothing) 3 _ (λ vs. expect-at (λ ws o. Behind (NOT ∷ ws) o) (λ _ _ _. nothing) 5 _ (λ ws ts v. list-promised All Ne l ts ws (λ s f w rest is. not-in v is)) vs) us)
+
+pub start-promised : (ts : Tokens) → Promised ts (start ts)
+unfolding start
+start-promised ts =
+    or-ind (Promised ts) _ _ (or-ind (Promised ts) _ _
+    (expect-at Promised (λ _. nothing) 13 _ (λ us. around (λ w rest c. bracketed c)) ts)
+    (expect-at Promised (λ _. nothing) 4 _ (λ us. expect-at (λ vs o. Promised (EXISTS ∷ vs) o) (λ _. nothing) 13 _ (λ vs. from-at (λ ws o. Promised (EXISTS ∷ Open ∷ ws) o) (λ _. nothing) _ (λ n x ws. around (λ w rest c. exists c)) vs) us) ts))
+    (value-at Promised (λ _. nothing) _ (λ l us vs is. value-promised l vs us is) ts)
+
+-- ---- every form is found
+
+start-value : {ts us : Tokens} {l : Written} → IsValue ts l us → start ts ≡ startValue l us
+unfolding start
+start-value number = refl
+start-value column = refl
+
+pub null-found : {ts rest : Tokens} {l : Written} → IsValue ts l (IS ∷ NULL ∷ rest) → start ts ≡ some (Whole (Alone (IsNull l)) rest)
+unfolding startValue
+null-found v = start-value v
+
+pub not-null-found : {ts rest : Tokens} {l : Written} → IsValue ts l (IS ∷ NOT ∷ NULL ∷ rest) → start ts ≡ some (Whole (Alone (IsNotNull l)) rest)
+unfolding startValue
+not-null-found v = start-value v
+
+pub compared-found : {ts us rest : Tokens} {op : Comparison} {l r : Written} → IsValue ts l (Compares op ∷ us) → IsValue us r rest → start ts ≡ some (Whole (Alone (Compare op l r)) rest)
+unfolding startValue
+compared-found v number = start-value v
+compared-found v column = start-value v
+
+pub list-found : (q : Quantifier) (op : Comparison) (l : Written) {us vs : Tokens} {s : Written} {n : ℤ} {x : ℕ}
+    → IsValue us s (FROM ∷ Number n ∷ Letter x ∷ WHERE ∷ vs) → startList q op l (Open ∷ SELECT ∷ us) ≡ some (Around (OfList q op l s (Over n x)) vs)
+unfolding startList
+list-found q op l number = refl
+list-found q op l column = refl
+
+or-left : {A : Type 0} (o o′ : Option A) {x : A} → o ≡ some x → (o <|> o′) ≡ some x
+or-left o o′ e = ap (_<|> o′) e
+
+-- a list after SOME, ALL, IN and NOT IN
+module _ {ts us : Tokens} {l : Written} {x : Start} where
+  pub some-found : (op : Comparison) → startList Some op l us ≡ some x → IsValue ts l (Compares op ∷ SOME ∷ us) → start ts ≡ some x
+  unfolding startValue
+  some-found op e v = start-value v ∙ or-left _ _ (or-left _ _ (or-left _ _ e))
+
+  pub all-found : (op : Comparison) → startList All op l us ≡ some x → IsValue ts l (Compares op ∷ ALL ∷ us) → start ts ≡ some x
+  unfolding startValue
+  all-found op e v = start-value v ∙ or-left _ _ (or-left _ _ e)
+
+  pub in-found : startList Some Eq l us ≡ some x → IsValue ts l (IN ∷ us) → start ts ≡ some x
+  unfolding startValue
+  in-found e v = start-value v ∙ or-left _ _ e
+
+  pub not-in-found : startList All Ne l us ≡ some x → IsValue ts l (NOT ∷ IN ∷ us) → start ts ≡ some x
+  unfolding startValue
+  not-in-found e v = start-value v ∙ e
