@@ -1,2 +1,4 @@
 pub mod Found
 pub mod Reading
+pub mod Levels
+pub mod Parts

@@ -1,5 +1,5 @@
 -- Document 01, Rule text: the parts of a rule, one record each, and the rule that parts stand for.
-use mathlib.Core.Bool.{Bool, true, false}
+use mathlib.Core.Bool.{cond}
 use mathlib.Core.List.{List, [], _∷_, _++_}
 use mathlib.Core.Option.{Option, none, some}
 use Prim.Native.Nat.{ℕ, _+_}
@@ -86,7 +86,7 @@ naturalOf (pos n) = n
 naturalOf (negsuc n) = 0
 
 abbrev pub valueOf : Field → Value
-valueOf f = elim (eqb (f .tag) 255) [ true ↦ Constant (f .number) | false ↦ Column (f .tag) (naturalOf (f .number)) ]
+valueOf f = cond (eqb (f .tag) 255) (Constant (f .number)) (Column (f .tag) (naturalOf (f .number)))
 
 abbrev pub headOf : Part → Head
 headOf p =
