@@ -4,22 +4,17 @@ use mathlib.Core.List.{List, [], _∷_, _++_}
 use mathlib.Core.Option.{Option, none, some}
 use Prim.Native.Nat.{ℕ}
 use lib.Dec.{eqb}
-use lib.ListN.{getD}
 use Rattle.tables.specs.Lists.{tabulate, keep, same}
-use Rattle.tables.specs.Tables.{Row, tableCount, columnsOf, rowCount, tablesOf, rowsOf}
-use Rattle.tables.specs.Values.{Env}
-use Rattle.tables.specs.Refusals.{Refusal, _if_, lowest, Answer, unless, tooShort, tablesRefusals, rowRefusal}
+use Rattle.tables.specs.Tables.{tableCount, columnsOf, rowCount, tablesOf}
+use Rattle.tables.specs.Values.{judgedRow}
+use Rattle.tables.specs.Refusals.{Refusal, _if_, lowest, Answer, unless, Lent, lend, tablesRefusals, rowRefusal}
 use Rattle.card.specs.Card.{Card, answer}
 use Rattle.card.specs.Layout.{tablesIn, columnsIn, cardFrom}
 use Rattle.card.specs.Sound.{sound}
 
--- the judged row of table 1, at level 0
-abbrev pub judgedRow : List ℕ → ℕ → Env
-judgedRow file row = getD (rowsOf (tablesOf file) 1) row [] ∷ []
-
 abbrev pub cardSays : List ℕ → ℕ → Option Card → Bool
 cardSays file row none = false
-cardSays file row (some c) = answer (tablesOf file) (judgedRow file row) c
+cardSays file row (some c) = answer (tablesOf file) (judgedRow (tablesOf file) row) c
 
 -- what a card says of a row of table 1
 unfoldable pub saysYes : List ℕ → List ℕ → ℕ → Bool
@@ -54,8 +49,6 @@ checkCall card = unless (lowest (checkRefusals card)) (λ _. tt)
 unfoldable pub runCall : List ℕ → List ℕ → ℕ → Answer Bool
 runCall card file row = unless (lowest (gateRefusals card file ++ (rowRefusal file row ∷ []))) (λ _. saysYes card file row)
 
--- LIST: "card and tables to the admitted row numbers, rising": the numbers, where the lent list has room for that many
-unfoldable pub listCall : List ℕ → List ℕ → ℕ → Answer (List ℕ)
-listCall card file room =
-    let rows = rowsWhere file (saysYes card file) in
-    unless (lowest (gateRefusals card file ++ ((12 if tooShort rows room) ∷ []))) (λ _. rows)
+-- LIST: "card and tables to the admitted row numbers, rising, one element of the lent list each, with their count"
+unfoldable pub listCall : List ℕ → List ℕ → List ℕ → Lent ℕ
+listCall card file buffer = lend (gateRefusals card file) (rowsWhere file (saysYes card file)) buffer

@@ -1,3 +1,4 @@
+pub mod Computed
 pub mod Found
 pub mod Reading
 pub mod Levels

@@ -4,12 +4,12 @@ use mathlib.Core.Bool.{Bool, true, false, not}
 use mathlib.Core.List.{List, [], _∷_, _++_}
 use mathlib.Core.Option.{Option, none, some}
 use Prim.Native.Nat.{ℕ}
-use lib.Dec.{leb, ltb}
+use lib.Dec.{ltb}
 use lib.IntN.{pos}
 use lib.ListN.{length}
 use Rattle.tables.specs.Lists.{_>>=_, isMissing}
 use Rattle.tables.specs.Tables.{columnsOf, tablesOf}
-use Rattle.tables.specs.Refusals.{Refusal, _if_, lowest, Answer, unless, tooShort, tablesRefusals, rowRefusal}
+use Rattle.tables.specs.Refusals.{Refusal, _if_, lowest, Answer, unless, Lent, lend, tablesRefusals, rowRefusal}
 use Rattle.rule.specs.Tokens.{Token, tokensOf, opensFit}
 use Rattle.rule.specs.Condition.{Text, Rule}
 use Rattle.rule.specs.Grammar.{Tokens}
@@ -22,10 +22,13 @@ use Rattle.rule.specs.Meaning.{Truth, Unknown, judged}
 abbrev pub mostBytes : ℕ
 mostBytes = 4096
 
--- a test of something that may be missing: where it is missing an earlier refusal says so
-abbrev pub ifThere : {A : Type 0} → (A → Bool) → Option A → Bool
-ifThere p none = true
-ifThere p (some x) = p x
+-- a test that fails of something; where that is missing, an earlier refusal says so
+abbrev pub fails : {A : Type 0} → (A → Bool) → Option A → Bool
+fails p none = false
+fails p (some x) = not (p x)
+
+abbrev pub isThere : {A : Type 0} → Option A → Bool
+isThere x = not (isMissing x)
 
 -- the condition that a text reads as, and the rule that it is with these columns
 unfoldable pub textOf : List ℕ → Option Text
@@ -42,10 +45,10 @@ readingRefusals text file =
     tablesRefusals file
     ++ ((3 if ltb mostBytes (length text))
     ∷ (4 if isMissing (tokensOf text))
-    ∷ (5 if not (ifThere (opensFit (pos 0)) (tokensOf text)))
-    ∷ (6 if isMissing (textOf text))
-    ∷ (7 if not (ifThere limitsFit (textOf text)))
-    ∷ (8 if isMissing (ruleOf text (columnsOf file)))
+    ∷ (5 if fails (opensFit (pos 0)) (tokensOf text))
+    ∷ (6 if fails (λ ts. isThere (readAll ts)) (tokensOf text))
+    ∷ (7 if fails limitsFit (textOf text))
+    ∷ (8 if fails (λ a. isThere (ruleIn (columnsOf file) outermost a)) (textOf text))
     ∷ [])
 
 -- What demand 3 compares: "A rule is accepted with a tables file when no refusal of reading applies to the two."
@@ -59,11 +62,9 @@ abbrev pub withRule : {A : Type 0} → Option Rule → A → (Rule → A) → A
 withRule none d f = d
 withRule (some r) d f = f r
 
--- READ: "text and tables to a list of parts", where the lent list has room for that many
-unfoldable pub readCall : List ℕ → List ℕ → ℕ → Answer (List Part)
-readCall text file room =
-    let ps = withRule (ruleOf text (columnsOf file)) [] partsOf in
-    unless (lowest (readingRefusals text file ++ ((12 if tooShort ps room) ∷ []))) (λ _. ps)
+-- READ: "text and tables to a list of parts", in a lent list
+unfoldable pub readCall : List ℕ → List ℕ → List Part → Lent Part
+readCall text file buffer = lend (readingRefusals text file) (withRule (ruleOf text (columnsOf file)) [] partsOf) buffer
 
 -- JUDGE: "text, tables, row number to true, false or unknown"
 unfoldable pub judgeCall : List ℕ → List ℕ → ℕ → Answer Truth

@@ -6,3 +6,4 @@ pub mod Names
 pub mod Parts
 pub mod Meaning
 pub mod Calls
+pub mod Cases

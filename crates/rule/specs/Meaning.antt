@@ -2,10 +2,9 @@
 use mathlib.Core.Bool.{Bool, true, false, not, cond}
 use mathlib.Core.List.{List, [], _∷_, map}
 use Prim.Native.Nat.{ℕ}
-use lib.ListN.{getD}
 use Rattle.tables.specs.Lists.{any, keep}
 use Rattle.tables.specs.Tables.{Cell, Blank, Present, Row, Tables, rowsOf}
-use Rattle.tables.specs.Values.{Value, Comparison, holds, Joint, And, Or, Quantifier, Some, All, Env, _▸_, cellOf, isBlank}
+use Rattle.tables.specs.Values.{Value, Comparison, holds, Joint, And, Or, Quantifier, Some, All, Env, judgedRow, _▸_, cellOf, isBlank}
 use Rattle.rule.specs.Condition.{Test, Compare, IsNull, IsNotNull, Condition, Alone, Join, Not, Exists, Listed, Rule}
 
 -- ---- the three truth values
@@ -94,7 +93,7 @@ meaning ts env (Listed q op l s t w) =
     let retained = keep (λ row. isTrue (meaning ts (env ▸ row) w)) (rowsOf ts t) in
     over3 q (map (λ row. compare3 op (cellOf env l) (cellOf (env ▸ row) s)) retained)
 
--- the value on a row of table 1, at which level 0 stands
+-- the value on a row of table 1
 unfoldable pub judged : Tables → ℕ → Rule → Truth
 unfolding meaning
-judged ts row r = meaning ts (getD (rowsOf ts 1) row [] ∷ []) r
+judged ts row r = meaning ts (judgedRow ts row) r

@@ -27,19 +27,41 @@ pub data Answer (A : Type 0) : Type 0 where
   Refused : ℕ → Answer A
   Given : A → Answer A
 
--- a refusal, if there is one; else the answer, which is not computed before
+-- the first refusal that applies, or else the answer, which is not computed before
 unfoldable pub unless : {A : Type 0} → Option ℕ → (Unit {0} → A) → Answer A
 unless (some n) answer = Refused n
 unless none answer = Given (answer tt)
 
--- a lent buffer afterwards: the answer from its start and "the buffer past the answer .. untouched"; after a refusal, as it was before
-unfoldable pub lentAfter : {A : Type 0} → Answer (List A) → List A → List A
-lentAfter (Refused n) old = old
-lentAfter (Given xs) old = xs ++ drop (length xs) old
+-- ---- calls that write their answer into a lent buffer
 
--- 12: the buffer has room for fewer elements than the whole answer has
-abbrev pub tooShort : {A : Type 0} → List A → ℕ → Bool
-tooShort xs room = ltb room (length xs)
+-- how many elements the answer has, or a refusal; and what the buffer holds afterwards
+pub record Lent (A : Type 0) : Type 0 where
+  pub result : Answer ℕ
+  pub buffer : List A
+
+module _ {A : Type 0} where
+  -- a refusal: "each lent buffer then holds what it held before"
+  abbrev pub refusedWith : ℕ → List A → Lent A
+  refusedWith n buffer = record { result = Refused n; buffer = buffer }
+
+  -- an answer, from the buffer's start: "After a success the buffer past the answer is untouched."
+  abbrev pub filledWith : List A → List A → Lent A
+  filledWith answer buffer = record { result = Given (length answer); buffer = answer ++ drop (length answer) buffer }
+
+  -- 12: "output buffer shorter than the whole answer"
+  abbrev pub shortRefusal : List A → List A → Refusal
+  shortRefusal answer buffer = 12 if ltb (length buffer) (length answer)
+
+  abbrev pub lendUnless : Option ℕ → List A → List A → Lent A
+  lendUnless (some n) answer buffer = refusedWith n buffer
+  lendUnless none answer buffer = filledWith answer buffer
+
+  -- the call's own refusals, and then 12
+  unfoldable pub lend : List Refusal → List A → List A → Lent A
+  unfolding lowest
+  lend refusals answer buffer = lendUnless (lowest (refusals ++ (shortRefusal answer buffer ∷ []))) answer buffer
+
+-- ---- refusals that several calls share
 
 -- 1 and 2: what any call that is given a tables file looks at first
 unfoldable pub tablesRefusals : List ℕ → List Refusal

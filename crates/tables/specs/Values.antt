@@ -6,7 +6,7 @@ use lib.Dec.{eqb}
 use lib.IntN.{ℤ, pos, negsuc}
 use lib.ListN.{getD}
 use lib.Signed.{ltZ, leZ}
-use Rattle.tables.specs.Tables.{Cell, Blank, Present, Row, Tables, cellIn}
+use Rattle.tables.specs.Tables.{Cell, Blank, Present, Row, Tables, rowsOf, cellIn}
 
 -- Constant k: the number k. Column l c: column c of the row at which level l stands.
 pub data Value : Type 0 where
@@ -58,6 +58,10 @@ holds Ge x y = leZ y x
 -- the rows at which the levels stand, level 0 first
 abbrev pub Env : Type 0
 Env = List Row
+
+-- level 0 stands at the judged row of table 1
+abbrev pub judgedRow : Tables → ℕ → Env
+judgedRow ts row = getD (rowsOf ts 1) row [] ∷ []
 
 -- one level deeper, at this row
 infixl 60 _▸_

@@ -2,7 +2,7 @@
 use mathlib.Core.List.{List, [], _∷_, _++_}
 use Prim.Native.Nat.{ℕ}
 use Rattle.tables.specs.Tables.{columnsOf}
-use Rattle.tables.specs.Refusals.{_if_, lowest, Answer, unless, tooShort}
+use Rattle.tables.specs.Refusals.{Lent, lend}
 use Rattle.card.specs.Layout.{cardBytes}
 use Rattle.rule.specs.Condition.{Rule}
 use Rattle.rule.specs.Calls.{ruleOf, readingRefusals, withRule}
@@ -12,8 +12,6 @@ use Rattle.translation.specs.Translation.{ruleCard}
 unfoldable pub ruleBytes : List ℕ → Rule → List ℕ
 ruleBytes file r = cardBytes (columnsOf file) (ruleCard r)
 
--- CARD: "text and tables to card bytes", where the lent buffer has room for that many
-unfoldable pub cardCall : List ℕ → List ℕ → ℕ → Answer (List ℕ)
-cardCall text file room =
-    let bs = withRule (ruleOf text (columnsOf file)) [] (ruleBytes file) in
-    unless (lowest (readingRefusals text file ++ ((12 if tooShort bs room) ∷ []))) (λ _. bs)
+-- CARD: "text and tables to card bytes", in a lent buffer
+unfoldable pub cardCall : List ℕ → List ℕ → List ℕ → Lent ℕ
+cardCall text file buffer = lend (readingRefusals text file) (withRule (ruleOf text (columnsOf file)) [] (ruleBytes file)) buffer

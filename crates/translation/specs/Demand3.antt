@@ -1,12 +1,12 @@
 -- Document 01, What demand 3 compares: one claim over all rules, files, rows and lent buffers.
 use mathlib.Core.Path.{_≡_}
 use mathlib.Core.Bool.{Bool, true}
-use mathlib.Core.List.{List, _++_}
+use mathlib.Core.List.{List}
 use mathlib.Core.Option.{Option, none, some}
 use Prim.Native.Nat.{ℕ, _≤_, _<_}
-use lib.ListN.{length, drop}
-use Rattle.tables.specs.Tables.{tableCount, columnsOf, rowCount, tablesOf, sizesFit, marksFit, sameColumns}
-use Rattle.tables.specs.Refusals.{Answer, Refused, Given, lowest, tablesRefusals, lentAfter}
+use lib.ListN.{length}
+use Rattle.tables.specs.Tables.{tableCount, columnsOf, rowCount, tablesOf, sameColumns}
+use Rattle.tables.specs.Refusals.{Given, lowest, tablesRefusals, refusedWith, filledWith}
 use Rattle.card.specs.Layout.{cardLength}
 use Rattle.card.specs.Calls.{rowsWhere, runCall, listCall}
 use Rattle.rule.specs.Condition.{Rule}
@@ -32,18 +32,22 @@ publishedLength file r = cardLength (tableCount file) (entrySum r)
 -- Card, that many bytes from the buffer's start."
 pub record CardClaim (text file : List ℕ) (r : Rule) (buffer : List ℕ) : Type 0 where
   pub length-is : length (ruleBytes file r) ≡ publishedLength file r
-  pub short : length buffer < publishedLength file r → cardCall text file (length buffer) ≡ Refused 12
-  pub fits : publishedLength file r ≤ length buffer → cardCall text file (length buffer) ≡ Given (ruleBytes file r)
+  pub short : length buffer < publishedLength file r → cardCall text file buffer ≡ refusedWith 12 buffer
+  pub long : publishedLength file r ≤ length buffer → cardCall text file buffer ≡ filledWith (ruleBytes file r) buffer
 
 -- "With any later file, RUN refuses no row of table 1 and says yes exactly where the rule is true, else no."
 abbrev pub RunClaim : List ℕ → List ℕ → Rule → ℕ → Type 0
 RunClaim card later r row = row < rowCount later 1 → runCall card later row ≡ Given (trueAt later r row)
 
+-- "exactly the rows where the rule is true, each once, rising"
+abbrev pub trueRows : List ℕ → Rule → List ℕ
+trueRows later r = rowsWhere later (trueAt later r)
+
 -- "LIST refuses only with 12, exactly when the lent list has fewer elements than there are rows where the rule is true. Otherwise it gives
 -- the numbers of those rows from the list's start, each once, rising, and its count is how many they are."
-pub record ListClaim (card later : List ℕ) (r : Rule) (out : List ℕ) : Type 0 where
-  pub short : length out < length (rowsWhere later (trueAt later r)) → listCall card later (length out) ≡ Refused 12
-  pub fits : length (rowsWhere later (trueAt later r)) ≤ length out → listCall card later (length out) ≡ Given (rowsWhere later (trueAt later r))
+pub record ListClaim (card later : List ℕ) (r : Rule) (buffer : List ℕ) : Type 0 where
+  pub short : length buffer < length (trueRows later r) → listCall card later buffer ≡ refusedWith 12 buffer
+  pub long : length (trueRows later r) ≤ length buffer → listCall card later buffer ≡ filledWith (trueRows later r) buffer
 
 -- a text that is accepted with a file is a rule, and for that rule all three hold
 pub record Demand3For (text file : List ℕ) : Type 0 where
@@ -51,7 +55,8 @@ pub record Demand3For (text file : List ℕ) : Type 0 where
   pub is-rule : ruleOf text (columnsOf file) ≡ some rule
   pub cards : (buffer : List ℕ) → CardClaim text file rule buffer
   pub runs : (later : List ℕ) → Later file later → (row : ℕ) → RunClaim (ruleBytes file rule) later rule row
-  pub listings : (later : List ℕ) → Later file later → (out : List ℕ) → ListClaim (ruleBytes file rule) later rule out
+  pub listings : (later : List ℕ) → Later file later → (buffer : List ℕ) → ListClaim (ruleBytes file rule) later rule buffer
 
+-- "This is one claim over all rules, files, rows and lent buffers."
 abbrev pub Demand3 : Type 0
 Demand3 = (text file : List ℕ) → Accepted text file → Demand3For text file
