@@ -36,7 +36,6 @@ fitsTables card file = eqb (tablesIn card) (tableCount file) && same (columnsIn 
 
 -- what RUN and LIST look at first
 unfoldable pub gateRefusals : List ℕ → List ℕ → List Refusal
-unfolding checkRefusals
 gateRefusals card file = tablesRefusals file ++ (checkRefusals card ++ ((10 if not (fitsTables card file)) ∷ []))
 
 -- ---- the calls

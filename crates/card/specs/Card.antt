@@ -5,7 +5,7 @@ use Prim.Native.Nat.{ℕ, _+_}
 use lib.Dec.{leb, ltb}
 use lib.ListN.{length, getD}
 use Rattle.tables.specs.Lists.{numbered, any, all}
-use Rattle.tables.specs.Bytes.{between}
+use Rattle.tables.specs.Bytes.{between, inRange}
 use Rattle.tables.specs.Tables.{Cell, Blank, Present, Row, Tables, rowsOf}
 use Rattle.tables.specs.Values.{Value, Constant, Column, Comparison, holds, Joint, And, Or, Quantifier, Some, All, Env, _▸_, cellOf, isBlank}
 
@@ -69,9 +69,9 @@ entries (Rows q t c) = 1 + entries c
 
 -- columns has the columns of each table; levels has the table of each level, level 0 first
 module _ (columns : List ℕ) where
-  -- "existing .. columns and levels"
+  -- "existing .. columns and levels", and a number that 4 bytes can hold
   abbrev pub valueFits : List ℕ → Value → Bool
-  valueFits levels (Constant k) = true
+  valueFits levels (Constant k) = inRange k
   valueFits levels (Column l c) = ltb l (length levels) && between 1 (numbered columns (getD levels l 0) 0) c
 
   abbrev pub leafFits : List ℕ → Leaf → Bool

@@ -1,5 +1,5 @@
 -- Document 01, Card: the bytes of a card, from its entries and back.
-use mathlib.Core.Bool.{Bool, true, false, _&&_}
+use mathlib.Core.Bool.{Bool, cond, _&&_}
 use mathlib.Core.List.{List, [], _∷_, _++_}
 use mathlib.Core.Option.{Option, none, some}
 use Prim.Native.Nat.{ℕ, zero, suc, _+_, _*_}
@@ -100,20 +100,19 @@ module _ (bs : List ℕ) where
   abbrev pub endAt : ℕ → ℕ
   endAt i = word16 (recordAt i) 0
 
--- a value's five bytes
-unfoldable pub valueFrom : List ℕ → ℕ → Value
-valueFrom record′ i = elim (eqb (byteAt record′ i) constantTag) [
-  | true ↦ Constant (signed (word32 record′ (i + 1)))
-  | false ↦ Column (byteAt record′ i) (word32 record′ (i + 1))
-]
+-- a value's tag and number, and its five bytes
+abbrev pub valueOf : ℕ → ℕ → Value
+valueOf tag n = cond (eqb tag constantTag) (Constant (signed n)) (Column tag n)
+
+abbrev pub valueFrom : List ℕ → ℕ → Value
+valueFrom r i = valueOf (byteAt r i) (word32 r (i + 1))
 
 -- n bytes from i on are 0
 unfoldable pub zeros : List ℕ → ℕ → ℕ → Bool
-zeros record′ i n = all (λ k. eqb (byteAt record′ (i + k)) 0) (tabulate n (λ k. k))
+zeros r i n = all (λ k. eqb (byteAt r (i + k)) 0) (tabulate n (λ k. k))
 
 -- what an entry of this kind with this record says: none, if there is no such kind or comparison, or if an unused byte is not 0
 unfoldable pub headFrom : ℕ → List ℕ → Option Head
-unfolding zeros valueFrom
 headFrom kind r =
     let op = comparisonOf (byteAt r 3) in
     let twoInner = zeros r 2 12 in
@@ -145,12 +144,10 @@ inside from i (RowsHead q t) = from (i + 1) >>= (λ c. some (Rows q t (c .0), c 
 
 -- the entry i, if its end is the number of the entry after it and its inner ones; depth bounds how many entries stand around one another
 unfoldable pub entryFrom : List ℕ → ℕ → ℕ → Option Taken
-unfolding headFrom
 entryFrom bs zero i = none
 entryFrom bs (suc depth) i =
     headFrom (kindAt bs i) (recordAt bs i) >>= (λ h. inside (entryFrom bs depth) i h >>= (λ x. only (eqb (endAt bs i) (x .1)) x))
 
 -- the card that some bytes hold: "entry 0 covering all"
 unfoldable pub cardFrom : List ℕ → Option Card
-unfolding entryFrom
 cardFrom bs = entryFrom bs (entryCount bs) 0 >>= (λ x. only (eqb (x .1) (entryCount bs)) (x .0))

@@ -22,17 +22,16 @@ abbrev pub columnsFit : List ℕ → Bool
 columnsFit columns = between 1 mostTables (length columns) && all (between 1 mostColumns) columns
 
 -- level 0 is the judged row of table 1
-abbrev pub atTheGate : List ℕ
-atTheGate = 1 ∷ []
+abbrev pub judgedLevels : List ℕ
+judgedLevels = 1 ∷ []
 
 -- the entries hold a card for these columns
 abbrev pub holdsFitting : List ℕ → Option Card → Bool
 holdsFitting columns none = false
-holdsFitting columns (some c) = cardFits columns atTheGate c
+holdsFitting columns (some c) = cardFits columns judgedLevels c
 
 -- the test that CHECK makes: the numbers of entries, tables and columns, no spare bytes, and one card that fits
 unfoldable pub sound : List ℕ → Bool
-unfolding columnsIn cardFrom cardFits
 sound bs =
     between 1 mostEntries (entryCount bs)
     && (columnsFit (columnsIn bs)
@@ -46,4 +45,4 @@ pub record Sound (bs : List ℕ) : Type 0 where
   pub bytes : bs ≡ cardBytes columns card
   pub few : T (between 1 mostEntries (entries card))
   pub sized : T (columnsFit columns)
-  pub fits : T (cardFits columns atTheGate card)
+  pub fits : T (cardFits columns judgedLevels card)

@@ -135,26 +135,26 @@ start-promised ts =
 -- ---- every form is found
 
 start-value : {ts us : Tokens} {l : Written} → IsValue ts l us → start ts ≡ startValue l us
-unfolding start
+unfolding start expect readValue readNumber
 start-value number = refl
 start-value column = refl
 
 pub null-found : {ts rest : Tokens} {l : Written} → IsValue ts l (IS ∷ NULL ∷ rest) → start ts ≡ some (Whole (Alone (IsNull l)) rest)
-unfolding startValue
+unfolding startValue expect
 null-found v = start-value v
 
 pub not-null-found : {ts rest : Tokens} {l : Written} → IsValue ts l (IS ∷ NOT ∷ NULL ∷ rest) → start ts ≡ some (Whole (Alone (IsNotNull l)) rest)
-unfolding startValue
+unfolding startValue expect
 not-null-found v = start-value v
 
 pub compared-found : {ts us rest : Tokens} {op : Comparison} {l r : Written} → IsValue ts l (Compares op ∷ us) → IsValue us r rest → start ts ≡ some (Whole (Alone (Compare op l r)) rest)
-unfolding startValue
+unfolding startValue expect readComparison readValue readNumber
 compared-found v number = start-value v
 compared-found v column = start-value v
 
 pub list-found : (q : Quantifier) (op : Comparison) (l : Written) {us vs : Tokens} {s : Written} {n : ℤ} {x : ℕ}
     → IsValue us s (FROM ∷ Number n ∷ Letter x ∷ WHERE ∷ vs) → startList q op l (Open ∷ SELECT ∷ us) ≡ some (Around (OfList q op l s (Over n x)) vs)
-unfolding startList
+unfolding startList expect readValue readNumber readFrom readLetter
 list-found q op l number = refl
 list-found q op l column = refl
 
@@ -164,17 +164,17 @@ or-left o o′ e = ap (_<|> o′) e
 -- a list after SOME, ALL, IN and NOT IN
 module _ {ts us : Tokens} {l : Written} {x : Start} where
   pub some-found : (op : Comparison) → startList Some op l us ≡ some x → IsValue ts l (Compares op ∷ SOME ∷ us) → start ts ≡ some x
-  unfolding startValue
+  unfolding startValue expect readComparison readValue
   some-found op e v = start-value v ∙ or-left _ _ (or-left _ _ (or-left _ _ e))
 
   pub all-found : (op : Comparison) → startList All op l us ≡ some x → IsValue ts l (Compares op ∷ ALL ∷ us) → start ts ≡ some x
-  unfolding startValue
+  unfolding startValue expect readComparison readValue
   all-found op e v = start-value v ∙ or-left _ _ (or-left _ _ e)
 
   pub in-found : startList Some Eq l us ≡ some x → IsValue ts l (IN ∷ us) → start ts ≡ some x
-  unfolding startValue
+  unfolding startValue expect readComparison readValue
   in-found e v = start-value v ∙ or-left _ _ e
 
   pub not-in-found : startList All Ne l us ≡ some x → IsValue ts l (NOT ∷ IN ∷ us) → start ts ≡ some x
-  unfolding startValue
+  unfolding startValue expect readComparison readValue
   not-in-found e v = start-value v ∙ e

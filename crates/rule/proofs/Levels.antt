@@ -1,25 +1,27 @@
--- A rule that names resolve to names existing levels alone: those around it, and one for each FROM.
-use mathlib.Core.Path.{_≡_, refl}
+-- The rule that a condition stands for has the condition's size, and names existing levels alone: those around it, and one for each FROM.
+use mathlib.Core.Path.{_≡_, refl, ap, ap₂}
 use mathlib.Core.Bool.{Bool, true, false}
 use mathlib.Core.List.{List, [], _∷_}
 use mathlib.Core.Option.{Option, none, some}
-use Prim.Native.Nat.{ℕ, zero, suc, _<_, _≤_}
+use Prim.Native.Nat.{ℕ, zero, suc, _+_, _<_, max}
 use native.Mathlib.Omega.{arith}
 use lib.Dec.{eqb}
 use lib.IntN.{ℤ}
 use lib.ListN.{length}
 use Rattle.tables.specs.Lists.{numbered, _>>=_}
 use Rattle.tables.specs.Values.{Value, Constant, Column}
-use Rattle.rule.specs.Condition.{Test, Compare, IsNull, IsNotNull, Condition, Alone, Join, Not, Exists, Listed, Written, Plain, Named, From, Over, Text, Rule}
+use Rattle.rule.specs.Condition.{Test, Compare, IsNull, IsNotNull, Condition, Alone, Join, Not, Exists, Listed, Written, Plain, Named, From, Over, Text, Rule, parts, fromsDeep}
 use Rattle.rule.specs.Names.{Binding, Scope, outermost, bound, nearest, existing, valueIn, testIn, ruleIn, ValueScoped, TestScoped, Scoped}
-use Rattle.rule.proofs.Found.{bind-ind}
 
 -- something found has the property P
-data Every {A : Type 0} (P : A → Type 0) : Option A → Type 0 where
+pub data Every {A : Type 0} (P : A → Type 0) : Option A → Type 0 where
   missing : Every P none
   there : {x : A} → P x → Every P (some x)
 
-every-bind : {A B : Type 0} (P : A → Type 0) (Q : B → Type 0) {o : Option A} (f : A → Option B) → Every P o → ((x : A) → P x → Every Q (f x)) → Every Q (o >>= f)
+pub found : {A : Type 0} {P : A → Type 0} {x : A} → Every P (some x) → P x
+found (there p) = p
+
+pub every-bind : {A B : Type 0} (P : A → Type 0) (Q : B → Type 0) {o : Option A} (f : A → Option B) → Every P o → ((x : A) → P x → Every Q (f x)) → Every Q (o >>= f)
 every-bind P Q f missing h = missing
 every-bind P Q f (there {x = x} p) h = h x p
 
@@ -41,11 +43,11 @@ nearest-below {n} (one-bound {b = b} {scope = scope} h r) x = go (eqb (b .letter
     go true e = there h
     go false e = e
 
-module _ (columns : List ℕ) where
-  any-number : {A : Type 0} (o : Option A) → Every (λ _. Unit {0}) o
-  any-number none = missing
-  any-number (some x) = there tt
+pub any-number : {A : Type 0} (o : Option A) → Every (λ _. Unit {0}) o
+any-number none = missing
+any-number (some x) = there tt
 
+module _ (columns : List ℕ) where
   value-scoped : {n : ℕ} {scope : Scope} → Below n scope → (v : Written) → Every (ValueScoped n) (valueIn columns scope v)
   unfolding valueIn
   value-scoped s (Plain k) = there tt
@@ -74,9 +76,29 @@ module _ (columns : List ℕ) where
       every-bind (ValueScoped (suc (length scope))) (Scoped _) _ (value-scoped {scope = bound scope x t} (one-bound (omega arith) (raise s)) v) (λ v′ hv.
       every-bind (Scoped (suc (length scope))) (Scoped _) _ (rule-scoped {scope = bound scope x t} (one-bound (omega arith) (raise s)) w) (λ w′ hw. there (hl, hv, hw)))))
 
+  -- as many parts, and as many FROMs around one another
+  abbrev SameSize : Text → Rule → Type 0
+  SameSize a r = (parts r ≡ parts a) × (fromsDeep r ≡ fromsDeep a)
+
+  rule-sized : (scope : Scope) (a : Text) → Every (SameSize a) (ruleIn columns scope a)
+  unfolding ruleIn parts fromsDeep
+  rule-sized scope (Alone x) = every-bind (λ _. Unit {0}) (SameSize (Alone x)) _ (any-number (testIn columns scope x)) (λ y _. there (refl, refl))
+  rule-sized scope (Join j a b) =
+      every-bind (SameSize a) (SameSize (Join j a b)) _ (rule-sized scope a) (λ x h.
+      every-bind (SameSize b) (SameSize (Join j a b)) _ (rule-sized scope b) (λ y g. there (ap₂ (λ m n. 1 + m + n) (h .0) (g .0), ap₂ max (h .1) (g .1))))
+  rule-sized scope (Not a) = every-bind (SameSize a) (SameSize (Not a)) _ (rule-sized scope a) (λ x h. there (ap (1 +_) (h .0), h .1))
+  rule-sized scope (Exists (Over n x) w) =
+      every-bind (λ _. Unit {0}) (SameSize (Exists (Over n x) w)) _ (any-number (existing (length columns) n)) (λ t _.
+      every-bind (SameSize w) (SameSize (Exists (Over n x) w)) _ (rule-sized (bound scope x t) w) (λ w′ h. there (ap (1 +_) (h .0), ap (1 +_) (h .1))))
+  rule-sized scope (Listed q op l s (Over n x) w) =
+      every-bind (λ _. Unit {0}) (SameSize (Listed q op l s (Over n x) w)) _ (any-number (existing (length columns) n)) (λ t _.
+      every-bind (λ _. Unit {0}) (SameSize (Listed q op l s (Over n x) w)) _ (any-number (valueIn columns scope l)) (λ l′ _.
+      every-bind (λ _. Unit {0}) (SameSize (Listed q op l s (Over n x) w)) _ (any-number (valueIn columns (bound scope x t) s)) (λ s′ _.
+      every-bind (SameSize w) (SameSize (Listed q op l s (Over n x) w)) _ (rule-sized (bound scope x t) w) (λ w′ h. there (ap (1 +_) (h .0), ap (1 +_) (h .1))))))
+
   -- the judged row's level is the only one around a whole rule
-  pub accepted-scoped : (a : Text) {r : Rule} → ruleIn columns outermost a ≡ some r → Scoped 1 r
-  accepted-scoped a {r} e = go (rw e at (rule-scoped {scope = outermost} (one-bound (omega arith) none-bound) a))
-    where
-      go : Every (Scoped 1) (some r) → Scoped 1 r
-      go (there h) = h
+  pub names-scoped : (a : Text) {r : Rule} → ruleIn columns outermost a ≡ some r → Scoped 1 r
+  names-scoped a e = found (rw e at (rule-scoped {scope = outermost} (one-bound (omega arith) none-bound) a))
+
+  pub names-sized : (a : Text) {r : Rule} → ruleIn columns outermost a ≡ some r → SameSize a r
+  names-sized a e = found (rw e at (rule-sized outermost a))

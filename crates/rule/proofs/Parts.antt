@@ -9,18 +9,11 @@ use borrow.Author.Tests.{ne-eqb}
 use lib.Dec.{eqb}
 use lib.IntN.{pos}
 use lib.ListN.{length, length-append}
-use Rattle.tables.specs.Values.{Value, Constant, Column, Comparison, Eq, Ne, Lt, Le, Gt, Ge, comparisonNumber, comparisonOf, Joint, And, Or, Quantifier, Some, All}
+use Rattle.tables.specs.Values.{Value, Constant, Column, Joint, And, Or, Quantifier, Some, All}
+use Rattle.tables.proofs.Values.{comparison-back}
 use Rattle.rule.specs.Condition.{Test, Compare, IsNull, IsNotNull, Condition, Alone, Join, Not, Exists, Listed, Rule, parts, fromsDeep}
 use Rattle.rule.specs.Names.{ValueScoped, TestScoped, Scoped}
 use Rattle.rule.specs.Parts.{Field, fieldOf, Part, Head, AloneHead, JoinHead, NotHead, ExistsHead, ListedHead, partOf, partsFrom, partsOf, valueOf, headOf, onto, rulesOf, single, ruleOfParts}
-
-comparison-back : (op : Comparison) → comparisonOf (comparisonNumber op) ≡ op
-comparison-back Eq = refl
-comparison-back Ne = refl
-comparison-back Lt = refl
-comparison-back Le = refl
-comparison-back Gt = refl
-comparison-back Ge = refl
 
 -- a level below 255 is not taken for a constant's tag
 value-back : (n : ℕ) (v : Value) → n ≤ 255 → ValueScoped n v → valueOf (fieldOf v) ≡ v

@@ -15,7 +15,8 @@ use Rattle.tables.specs.Values.{Comparison, Eq, Ne, And, Or, Quantifier, Some, 
 use Rattle.rule.specs.Tokens.{Token, Fixed, Compares, Letter, Number, AND, OR, NOT, EXISTS, IN, SOME, ALL, IS, NULL, SELECT, FROM, WHERE, Open, Close}
 use Rattle.rule.specs.Condition.{Alone, Join, Not, Exists, Listed, Written, From, Over, Text}
 use Rattle.rule.specs.Grammar.{Tokens, IsValue, number, column, IsCondition, one-conjunction, joined-by-or, IsConjunction, one-factor, joined-by-and, IsFactor, not-factor, one-test, IsTest, bracketed, exists, is-null, is-not-null, compared, some-of, all-of, is-in, not-in, IsList, list, Reads}
-use Rattle.rule.specs.Reader.{expect, Opening, Bracket, OfExists, OfList, closed, Start, Whole, Around, startList, start, Goal, condition, conjunction, factor, test, more-or, more-and, Found, branch, started, closing, read, enough, atEnd, readAll}
+use Rattle.rule.specs.Reader.{expect, readNumber, readLetter, readFrom, Opening, Bracket, OfExists, OfList, closed, Start, Whole, Around, startList, start, Goal, condition, conjunction, factor, test, more-or, more-and, Found, branch, started, closing, read, enough, atEnd, readAll}
+use Rattle.rule.specs.Claims.{ReadingClaim}
 use Rattle.rule.proofs.Found.{bind-ind, expect-at, Promised, nothing, whole, around, start-promised, null-found, not-null-found, compared-found, list-found, some-found, all-found, in-found, not-in-found}
 
 -- ---- a reading of the function is one of the grammar
@@ -244,11 +245,11 @@ unfolding expect
 or-is-no-and us = refl
 
 bracket-start : (ts : Tokens) → start (Open ∷ ts) ≡ some (Around Bracket ts)
-unfolding start
+unfolding start expect
 bracket-start ts = refl
 
 exists-start : (n : ℤ) (x : ℕ) (ts : Tokens) → start (EXISTS ∷ Open ∷ FROM ∷ Number n ∷ Letter x ∷ WHERE ∷ ts) ≡ some (Around (OfExists (Over n x)) ts)
-unfolding start
+unfolding start expect readFrom readNumber readLetter
 exists-start n x ts = refl
 
 mutual
@@ -315,3 +316,6 @@ read-unique ts a b p q = let x = read-complete ts a p in let y = read-complete t
 -- none: no reading at all
 pub read-none : (ts : Tokens) → readAll ts ≡ none → (a : Text) → ¬ Reads ts a
 read-none ts e a r = let x = read-complete ts a r in let z : _≡_ {A = ℕ} 0 1 = cc in omega arith
+
+pub reading-claim : ReadingClaim
+reading-claim = record { finds = read-complete; finds-only = read-sound; finds-none = read-none; single = read-unique }

@@ -35,12 +35,10 @@ unfoldable pub textOf : List ℕ → Option Text
 textOf text = tokensOf text >>= readAll
 
 unfoldable pub ruleOf : List ℕ → List ℕ → Option Rule
-unfolding textOf
 ruleOf text columns = textOf text >>= ruleIn columns outermost
 
 -- ---- the refusals of reading, in the order in which they win: 1 to 8
 unfoldable pub readingRefusals : List ℕ → List ℕ → List Refusal
-unfolding ruleOf
 readingRefusals text file =
     tablesRefusals file
     ++ ((3 if ltb mostBytes (length text))

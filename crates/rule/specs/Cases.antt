@@ -1,12 +1,14 @@
--- Document 01, Proved cases: the texts and the tables' bytes, and what JUDGE is to answer.
+-- Document 01, Proved cases: the texts and the tables' bytes, and what JUDGE is to answer; and texts at the edges of the refusals of reading.
 use mathlib.Core.List.{List, [], _∷_, _++_, map}
-use Prim.Native.Nat.{ℕ}
+use mathlib.Core.Option.{Option, none, some}
+use Prim.Native.Nat.{ℕ, zero, suc}
+use lib.ListN.{replicate}
 use Prim.Native.String.{String}
 use Rattle.tables.specs.Bytes.{bytes32}
-use Rattle.tables.specs.Refusals.{Answer, Given}
+use Rattle.tables.specs.Refusals.{Answer, Given, lowest}
 use Rattle.rule.specs.Tokens.{bytes}
 use Rattle.rule.specs.Meaning.{Truth, False, Unknown, True}
-use Rattle.rule.specs.Calls.{judgeCall}
+use Rattle.rule.specs.Calls.{readingRefusals, judgeCall}
 
 -- "Table 1, two columns: (1, 5), (2, blank), (3, 0). Table 2, one column: 1, blank. Table 3, one column, no rows."
 -- The bytes of a blank cell's value may be anything: here they are 7 and 9.
@@ -52,8 +54,47 @@ cases =
 
 -- what JUDGE answers at rows 0, 1 and 2
 unfoldable pub judgedAt : Case → List (Answer Truth)
-unfolding bytes
 judgedAt c = map (judgeCall (bytes (c .text)) caseTables) (0 ∷ 1 ∷ 2 ∷ [])
 
 abbrev pub expectedAt : Case → List (Answer Truth)
 expectedAt c = map Given (c .values)
+
+-- ---- texts at the edges, with the tables above: "The lowest applying number is given, and none where no row applies."
+
+pub record Edge : Type 0 where
+  pub text : List ℕ
+  pub refusal : Option ℕ
+
+infix 10 _refused_
+abbrev _refused_ : List ℕ → ℕ → Edge
+t refused n = record { text = t; refusal = some n }
+
+abbrev accepted : List ℕ → Edge
+accepted t = record { text = t; refusal = none }
+
+-- "1 = 1" n + 1 times, joined by OR: 2n + 1 parts
+unfoldable pub chained : ℕ → List ℕ
+chained zero = bytes "1 = 1"
+chained (suc n) = bytes "1 = 1 OR " ++ chained n
+
+unfoldable pub edges : List Edge
+edges =
+    -- tokens: two letters, no word, two numbers, 10 and 11 digits, the ends of the range, a lone minus, another byte
+    (bytes "ab" refused 6) ∷ (bytes "1 = 1 ANDOR 1 = 1" refused 4) ∷ (bytes "1-2" refused 6) ∷ accepted (bytes "0000000001=-1") ∷ (bytes "00000000001 = 1" refused 4)
+    ∷ accepted (bytes "2147483647 > -2147483648") ∷ (bytes "1 = -2147483649" refused 4) ∷ (bytes "1 = -" refused 4) ∷ (bytes "1 =\t1" refused 4)
+    -- a bad token at the end comes before brackets at the start
+    ∷ ((replicate 33 40 ++ bytes "!") refused 4)
+    -- brackets: 32 open may pass, a ) before them counts, and grammar comes after them
+    ∷ accepted (replicate 32 40 ++ bytes "1 = 1" ++ replicate 32 41) ∷ ((bytes ")" ++ replicate 33 40) refused 6) ∷ ((bytes ")" ++ replicate 34 40) refused 5)
+    -- grammar comes before limits, and limits before names
+    ∷ ((chained 32 ++ bytes " OR") refused 6) ∷ ((chained 32 ++ bytes " OR k.1 = 1") refused 7) ∷ accepted (chained 31)
+    ∷ accepted (bytes "EXISTS (FROM 1 a WHERE EXISTS (FROM 1 b WHERE EXISTS (FROM 1 c WHERE a.1 = b.2)))")
+    ∷ (bytes "EXISTS (FROM 1 a WHERE EXISTS (FROM 1 b WHERE EXISTS (FROM 1 c WHERE EXISTS (FROM 1 d WHERE 1 = 1))))" refused 7)
+    -- names: a negative column, an absent table or column, a letter outside its FROM, the selected value inside it
+    ∷ (bytes "m.-1 = 1" refused 8) ∷ (bytes "m.3 = 1" refused 8) ∷ (bytes "m.0 = 1" refused 8) ∷ (bytes "EXISTS (FROM 4 v WHERE 1 = 1)" refused 8)
+    ∷ (bytes "EXISTS (FROM 2 v WHERE v.2 = 1)" refused 8) ∷ (bytes "v.1 IN (SELECT v.1 FROM 2 v WHERE 1 = 1)" refused 8) ∷ accepted (bytes "m.2 IN (SELECT m.1 FROM 2 m WHERE m.1 = 1)")
+    -- NOT before NOT, and no test without its value
+    ∷ accepted (bytes "NOT NOT 1 = 1") ∷ (bytes "NOT" refused 6) ∷ (bytes "(1 = 1" refused 6) ∷ []
+
+abbrev pub refusalAt : Edge → Option ℕ
+refusalAt e = lowest (readingRefusals (e .text) caseTables)

@@ -7,3 +7,4 @@ pub mod Parts
 pub mod Meaning
 pub mod Calls
 pub mod Cases
+pub mod Claims

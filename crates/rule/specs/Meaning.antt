@@ -95,5 +95,4 @@ meaning ts env (Listed q op l s t w) =
 
 -- the value on a row of table 1
 unfoldable pub judged : Tables → ℕ → Rule → Truth
-unfolding meaning
 judged ts row r = meaning ts (judgedRow ts row) r

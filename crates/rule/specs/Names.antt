@@ -55,19 +55,16 @@ existing most (negsuc n) = none
 -- columns has the columns of each table
 module _ (columns : List ℕ) where
   unfoldable pub valueIn : Scope → Written → Option Value
-  unfolding nearest
   valueIn scope (Plain k) = some (Constant k)
   valueIn scope (Named x n) = nearest scope x >>= (λ b. existing (numbered columns (b .table) 0) n >>= (λ c. some (Column (b .level) c)))
 
   unfoldable pub testIn : Scope → Test Written → Option (Test Value)
-  unfolding valueIn
   testIn scope (Compare op l r) = valueIn scope l >>= (λ x. valueIn scope r >>= (λ y. some (Compare op x y)))
   testIn scope (IsNull l) = valueIn scope l >>= (λ x. some (IsNull x))
   testIn scope (IsNotNull l) = valueIn scope l >>= (λ x. some (IsNotNull x))
 
   -- the rule that a written condition stands for; "The value left of a list belongs outside it."
   unfoldable pub ruleIn : Scope → Text → Option Rule
-  unfolding testIn
   ruleIn scope (Alone x) = testIn scope x >>= (λ y. some (Alone y))
   ruleIn scope (Join j a b) = ruleIn scope a >>= (λ x. ruleIn scope b >>= (λ y. some (Join j x y)))
   ruleIn scope (Not a) = ruleIn scope a >>= (λ x. some (Not x))

@@ -53,7 +53,6 @@ readComparison (Number n ∷ ts) = none
 -- ---- runs of tokens without a condition in them
 
 unfoldable pub readValue : Tokens → Option (Written × Tokens)
-unfolding expect readNumber
 readValue [] = none
 readValue (Fixed k ∷ ts) = none
 readValue (Compares op ∷ ts) = none
@@ -62,7 +61,6 @@ readValue (Number n ∷ ts) = some (Plain n, ts)
 
 -- FROM number letter WHERE
 unfoldable pub readFrom : Tokens → Option (From × Tokens)
-unfolding expect readNumber readLetter
 readFrom ts =
     expect FROM ts >>= (λ us. readNumber us >>= (λ n. readLetter (n .1) >>= (λ x. expect WHERE (x .1) >>= (λ vs. some (Over (n .0) (x .0), vs)))))
 
@@ -85,12 +83,10 @@ pub data Start : Type 0 where
 
 -- ( SELECT value FROM number letter WHERE
 unfoldable pub startList : Quantifier → Comparison → Written → Tokens → Option Start
-unfolding expect readValue readFrom
 startList q op l ts = expect Open ts >>= (λ us. expect SELECT us >>= (λ vs. readValue vs >>= (λ s. readFrom (s .1) >>= (λ f. some (Around (OfList q op l (s .0) (f .0)) (f .1))))))
 
 -- what may stand behind a value
 unfoldable pub startValue : Written → Tokens → Option Start
-unfolding expect readComparison readValue startList
 startValue l ts =
     (expect IS ts >>= (λ us. expect NULL us >>= (λ rest. some (Whole (Alone (IsNull l)) rest))))
     <|> (expect IS ts >>= (λ us. expect NOT us >>= (λ vs. expect NULL vs >>= (λ rest. some (Whole (Alone (IsNotNull l)) rest)))))
@@ -101,7 +97,6 @@ startValue l ts =
     <|> (expect NOT ts >>= (λ us. expect IN us >>= (λ vs. startList All Ne l vs)))
 
 unfoldable pub start : Tokens → Option Start
-unfolding expect readFrom readValue startValue
 start ts =
     (expect Open ts >>= (λ us. some (Around Bracket us)))
     <|> (expect EXISTS ts >>= (λ us. expect Open us >>= (λ vs. readFrom vs >>= (λ f. some (Around (OfExists (f .0)) (f .1))))))
@@ -133,7 +128,6 @@ closing o w = expect Close (w .1) >>= (λ rest. some (closed o (w .0), rest))
 
 -- the longest reading at the front of some tokens; depth bounds how deep the calls go
 unfoldable pub read : ℕ → Goal → Tokens → Found
-unfolding expect start
 read zero goal ts = none
 read (suc depth) condition ts = read depth conjunction ts >>= (λ a. read depth (more-or (a .0)) (a .1))
 read (suc depth) (more-or a) ts =
@@ -153,5 +147,4 @@ atEnd x = elim (x .1) [ [] ↦ some (x .0) | t ∷ ts ↦ none ]
 
 -- the reading of all the tokens; none: refusal 6
 unfoldable pub readAll : Tokens → Option Text
-unfolding read
 readAll ts = read (enough ts) condition ts >>= atEnd

@@ -79,19 +79,16 @@ pub record Spelling : Type 0 where
 
 infix 10 _is_
 abbrev _is_ : String → Token → Spelling
-unfolding bytes
 s is t = record { text = bytes s; token = t }
 
 -- "a run of capitals, which must be AND OR NOT EXISTS IN SOME ALL IS NULL SELECT FROM WHERE"
 unfoldable pub words : List Spelling
-unfolding _is_
 words =
     ("AND" is AND) ∷ ("OR" is OR) ∷ ("NOT" is NOT) ∷ ("EXISTS" is EXISTS) ∷ ("IN" is IN) ∷ ("SOME" is SOME) ∷ ("ALL" is ALL)
     ∷ ("IS" is IS) ∷ ("NULL" is NULL) ∷ ("SELECT" is SELECT) ∷ ("FROM" is FROM) ∷ ("WHERE" is WHERE) ∷ []
 
 -- "( ) . = <> < <= > >=": where one sign begins another, the longer stands first
 unfoldable pub signs : List Spelling
-unfolding _is_
 signs =
     ("<>" is Compares Ne) ∷ ("<=" is Compares Le) ∷ (">=" is Compares Ge) ∷ ("(" is Open) ∷ (")" is Close) ∷ ("." is Point)
     ∷ ("=" is Compares Eq) ∷ ("<" is Compares Lt) ∷ (">" is Compares Gt) ∷ []
@@ -152,7 +149,6 @@ numberFrom sign before digits =
 
 -- the token that a text begins with, where its first byte is b and is no gap
 unfoldable pub firstToken : ℕ → List ℕ → Option Lexed
-unfolding run wordIn signIn numberFrom words signs
 firstToken b bs =
     elim (isCapital b) [
       | true ↦ wordIn words (run isCapital (b ∷ bs))
@@ -176,13 +172,11 @@ andThen (some x) behind = Option·map (λ ts. x .0 ∷ ts) (behind (pred (x .1))
 
 -- the tokens of a text, of whose first bytes n belong to a token found already; none: "no such token"
 unfoldable pub tokensAfter : ℕ → List ℕ → Option (List Token)
-unfolding firstToken
 tokensAfter n [] = some []
 tokensAfter (suc n) (b ∷ bs) = tokensAfter n bs
 tokensAfter zero (b ∷ bs) = elim (isGap b) [ true ↦ tokensAfter 0 bs | false ↦ andThen (firstToken b bs) (λ n. tokensAfter n bs) ]
 
 unfoldable pub tokensOf : List ℕ → Option (List Token)
-unfolding tokensAfter
 tokensOf text = tokensAfter 0 text
 
 -- ---- 5: "over 32 more ( than ) up to some token"

@@ -58,7 +58,6 @@ module _ {A : Type 0} where
 
   -- the call's own refusals, and then 12
   unfoldable pub lend : List Refusal → List A → List A → Lent A
-  unfolding lowest
   lend refusals answer buffer = lendUnless (lowest (refusals ++ (shortRefusal answer buffer ∷ []))) answer buffer
 
 -- ---- refusals that several calls share

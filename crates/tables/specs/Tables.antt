@@ -47,12 +47,10 @@ sizes bs = tabulate (tableCount bs) (sizeAt bs)
 
 -- the columns of each table: what a card keeps of the sizes, and what stays the same in later tables
 unfoldable pub columnsOf : List ℕ → List ℕ
-unfolding sizes
 columnsOf bs = map (λ s. s .columns) (sizes bs)
 
 -- "Tables .. are numbered from 1": the rows of table t
 unfoldable pub rowCount : List ℕ → ℕ → ℕ
-unfolding sizes
 rowCount bs t = numbered (map (λ s. s .rows) (sizes bs)) t 0
 
 abbrev pub cellsIn : Size → ℕ
@@ -60,12 +58,10 @@ cellsIn s = s .rows * s .columns
 
 -- the cells of the tables before table number j + 1
 unfoldable pub cellsBefore : List ℕ → ℕ → ℕ
-unfolding sizes
 cellsBefore bs j = total (map cellsIn (take j (sizes bs)))
 
 -- the cells of all tables
 unfoldable pub cellCount : List ℕ → ℕ
-unfolding sizes
 cellCount bs = total (map cellsIn (sizes bs))
 
 -- "Sizes first, then two parallel arrays": where the values start, and the marks
@@ -89,7 +85,6 @@ sizeFits s = between 1 mostColumns (s .columns) && leb (s .rows) mostRows
 
 -- refusal 1 does not apply: T from 1 to 8, each table's sizes, at most 8,192 cells, and "the length fits exactly"
 unfoldable pub sizesFit : List ℕ → Bool
-unfolding sizes cellCount
 sizesFit bs =
     between 1 mostTables (tableCount bs)
     && (all sizeFits (sizes bs)
@@ -98,7 +93,6 @@ sizesFit bs =
 
 -- refusal 2 does not apply: no mark is above 1
 unfoldable pub marksFit : List ℕ → Bool
-unfolding cellCount
 marksFit bs = all (λ k. leb (markOf bs k) highestMark) (tabulate (cellCount bs) (λ k. k))
 
 -- ---- the cells
@@ -114,7 +108,6 @@ cellFrom zero raw = Present (signed raw)
 cellFrom (suc mark) raw = Blank
 
 unfoldable pub cellAt : List ℕ → ℕ → Cell
-unfolding cellCount
 cellAt bs k = cellFrom (markOf bs k) (valueBits bs k)
 
 abbrev pub Row : Type 0
@@ -128,12 +121,10 @@ Tables = List Table
 
 -- the cells from number k on, as rows of c cells each: "by table, row, column"
 unfoldable pub tableFrom : List ℕ → ℕ → Size → Table
-unfolding cellAt
 tableFrom bs k s = tabulate (s .rows) (λ r. tabulate (s .columns) (λ c. cellAt bs (k + r * s .columns + c)))
 
 -- the tables that a file holds
 unfoldable pub tablesOf : List ℕ → Tables
-unfolding tableFrom cellsBefore
 tablesOf bs = tabulate (tableCount bs) (λ j. tableFrom bs (cellsBefore bs j) (sizeAt bs j))
 
 -- the rows of table t, numbered from 1
@@ -148,5 +139,4 @@ cellIn row c = numbered row c Blank
 
 -- What demand 3 compares: "the same T and the same columns per table"
 unfoldable pub sameColumns : List ℕ → List ℕ → Bool
-unfolding columnsOf
 sameColumns bs cs = eqb (tableCount bs) (tableCount cs) && same (columnsOf bs) (columnsOf cs)

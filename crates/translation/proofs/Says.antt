@@ -17,6 +17,7 @@ use Rattle.rule.specs.Condition.{Test, Compare as Compare₃, IsNull as IsNull�
 use Rattle.rule.specs.Names.{ValueScoped, Scoped}
 use Rattle.rule.specs.Meaning.{Truth, Unknown, truth, isTrue, isFalse, compare3, test3, meaning}
 use Rattle.translation.specs.Translation.{other, says, otherComparison, otherLeaf, negated, leafOf, cardOf}
+use Rattle.translation.specs.Claims.{TranslationClaim}
 use Rattle.translation.proofs.Logic.{same-test, not-joined, not-over, says-join, says-not, says-truth, isTrue-says, isFalse-says, says-some, says-all}
 
 -- ---- comparisons
@@ -110,10 +111,9 @@ module _ (ts : Tables) where
       simp (says-truth, isTrue-says, inner)
   card-says (Listed q op l x t w) i env s = listed-says ts q op l x t w i env (s .0) (λ row. card-says w AsNo (env ▸ row) (rw deeper (s .2)))
 
-  -- false-interpreted, the card says yes exactly where the rule is true
-  pub yes-is-true : (r : Rule) (env : Env) → Scoped (length env) r → answer ts env (cardOf AsNo r) ≡ isTrue (meaning ts env r)
-  yes-is-true r env s = simp isTrue-says (card-says r AsNo env s)
-
-  -- true-interpreted, it says no exactly where the rule is false
-  pub no-is-false : (r : Rule) (env : Env) → Scoped (length env) r → not (answer ts env (cardOf AsYes r)) ≡ isFalse (meaning ts env r)
-  no-is-false r env s = simp isFalse-says (ap not (card-says r AsYes env s))
+pub translation-claim : TranslationClaim
+translation-claim = record {
+  yes-is-true = λ ts env r s. simp isTrue-says (card-says ts r AsNo env s);
+  no-is-false = λ ts env r s. simp isFalse-says (ap not (card-says ts r AsYes env s));
+  negates = λ ts env c. negated-not ts c env;
+}

@@ -5,7 +5,8 @@ use native.Mathlib.Omega.{arith}
 use Rattle.tables.specs.Values.{Some, All}
 use Rattle.card.specs.Card.{Interpretation, AsNo, Card, At, Both, Rows, entries}
 use Rattle.rule.specs.Condition.{Alone, Join, Not, Exists, Listed, Rule, parts, nots, lists}
-use Rattle.translation.specs.Translation.{other, negated, cardOf, entrySum}
+use Rattle.translation.specs.Translation.{other, negated, cardOf}
+use Rattle.translation.specs.Claims.{SumClaim}
 
 entries-negated : (c : Card) → entries (negated c) ≡ entries c
 unfolding entries negated
@@ -23,5 +24,5 @@ card-sum i (Exists t w) = omega (arith, card-sum AsNo w)
 card-sum i (Listed Some op l s t w) = omega (arith, card-sum AsNo w)
 card-sum i (Listed All op l s t w) = omega (arith, card-sum AsNo w, entries-negated (cardOf AsNo w))
 
-pub entry-sum : (i : Interpretation) (r : Rule) → entries (cardOf i r) ≡ entrySum r
-entry-sum i r = omega (arith, card-sum i r)
+pub sum-claim : SumClaim
+sum-claim r = omega (arith, card-sum AsNo r)

@@ -1,13 +1,14 @@
 -- Document 01, the worked card under Card and the examples of 'Gate says why not': their texts and bytes, and what is to come of them.
 use mathlib.Core.List.{List, [], _∷_, _++_, map}
 use mathlib.Core.Option.{Option, none, some}
-use Prim.Native.Nat.{ℕ, zero, suc}
+use Prim.Native.Nat.{ℕ}
 use lib.ListN.{replicate}
 use Rattle.tables.specs.Refusals.{Answer, Refused, Given}
 use Rattle.card.specs.Calls.{checkCall, runCall}
 use Rattle.rule.specs.Tokens.{bytes}
 use Rattle.rule.specs.Parts.{partWith, unused}
 use Rattle.rule.specs.Calls.{readCall, judgeCall}
+use Rattle.rule.specs.Cases.{chained}
 use Rattle.translation.specs.Calls.{cardCall}
 
 -- ---- the worked card: "For one table of 3 columns, NOT m.2 < 5 gives, in hexadecimal, .."
@@ -16,7 +17,6 @@ abbrev pub workedTables : List ℕ
 workedTables = 1 ∷ 3 ∷ 0 ∷ 0 ∷ []
 
 unfoldable pub workedText : List ℕ
-unfolding bytes
 workedText = bytes "NOT m.2 < 5"
 
 abbrev pub workedCard : List ℕ
@@ -38,19 +38,12 @@ emptyTables = 1 ∷ 1 ∷ 0 ∷ 0 ∷ []
 abbrev pub threeRows : List ℕ
 threeRows = (1 ∷ 2 ∷ 3 ∷ 0 ∷ []) ++ replicate 30 0
 
--- "1 = 1" n + 1 times, joined by OR
-unfoldable pub chained : ℕ → List ℕ
-unfolding bytes
-chained zero = bytes "1 = 1"
-chained (suc n) = bytes "1 = 1 OR " ++ chained n
-
 -- READ with room for 64 parts
 unfoldable pub readRefusal : List ℕ → List ℕ → Option ℕ
 readRefusal text file = refusalOf (readCall text file (replicate 64 (partWith 0 0 0 0 unused unused)) .result)
 
 -- the examples of the table, in its order; 6 has two
 unfoldable pub refusalExamples : List (Option ℕ)
-unfolding bytes readRefusal chained workedText
 refusalExamples =
     readRefusal (bytes "1 = 1") (0 ∷ [])
     ∷ readRefusal (bytes "1 = 1") (0x01 ∷ 0x01 ∷ 0x01 ∷ 0x00 ∷ 0x00 ∷ 0x00 ∷ 0x00 ∷ 0x00 ∷ 0x02 ∷ [])

@@ -1,0 +1,326 @@
+-- Bytes that pass the test are those of the card that they hold.
+use mathlib.Core.Path.{_≡_, refl, sym, ap, ap₂, subst, _∙_}
+use mathlib.Core.Bool.{Bool, true, false, _&&_, cond}
+use mathlib.Core.List.{List, [], _∷_, _++_, append-assoc, append-nil}
+use mathlib.Core.Option.{Option, none, some}
+use Prim.Native.Nat.{ℕ, zero, suc, _+_, _≤_, _<_}
+use native.Mathlib.Omega.{arith}
+use borrow.Author.Tests.{eqb-true}
+use lib.Dec.{T, eqb, eqb→eq}
+use lib.ListN.{length, getD, take, drop, length-drop, take-append-drop, drop-of-length-le}
+use lib.Seq.{take-take, drop-cons, drop-drop, getD-drop, length-take-le}
+use Rattle.tables.specs.Lists.{tabulate, all, only, _>>=_}
+use Rattle.tables.specs.Bytes.{between, byteAt, word16, word32, bytes16, bytes32, signed}
+use Rattle.tables.specs.Values.{Value, Constant, Column, comparisonNumber, comparisonOf, Joint, And, Or, Quantifier, Some, All}
+use Rattle.card.specs.Card.{Interpretation, AsNo, AsYes, Leaf, Compare, IsNull, NotNull, Card, At, Both, Rows, entries, cardFits}
+use Rattle.card.specs.Layout.{recordSize, constantTag, Head, AtHead, BothHead, RowsHead, kindOf, valueBytes, noValue, fieldBytes, recordBytes, kindBytes, recordsFrom, cardBytes, cardLength, entryCount, tablesIn, columnsIn, kindAt, recordAt, endAt, valueFrom, zeros, headFrom, Taken, inside, entryFrom, cardFrom}
+use Rattle.card.specs.Sound.{mostEntries, columnsFit, judgedLevels, holdsFitting, sound, Sound}
+use Rattle.card.proofs.Places.{both, bounds, tabulated, to16, to32, in-range}
+use Rattle.card.proofs.Walk.{kindPlace, recordPlace}
+
+-- each is below 256
+abbrev pub Bytes : List ℕ → Type 0
+Bytes bs = (i : ℕ) → getD bs i 0 < 256
+
+drop-bytes : (n : ℕ) (bs : List ℕ) → Bytes bs → Bytes (drop n bs)
+drop-bytes n bs b i = rw getD-drop (b (n + i))
+
+take-bytes : (n : ℕ) (bs : List ℕ) → Bytes bs → Bytes (take n bs)
+take-bytes zero bs b i = omega arith
+take-bytes (suc n) [] b i = omega arith
+take-bytes (suc n) (x ∷ xs) b zero = b 0
+take-bytes (suc n) (x ∷ xs) b (suc i) = take-bytes n xs (λ k. b (suc k)) i
+
+-- ---- what may be missing, and is there
+
+module _ {A : Type 0} where
+  none-some : {x : A} → none ≡ some x → ⊥
+  none-some e = let z : _≡_ {A = ℕ} 0 1 = cc in omega arith
+
+  only-some : (t : Bool) (x y : A) → only t x ≡ some y → T t × (x ≡ y)
+  only-some true x y e = (tt, cc)
+  only-some false x y e = absurd (none-some e)
+
+  bind-some : {B : Type 0} (o : Option B) (f : B → Option A) (y : A) → (o >>= f) ≡ some y → (x : B) × (o ≡ some x) × (f x ≡ some y)
+  bind-some none f y e = absurd (none-some e)
+  bind-some (some x) f y e = (x, refl, e)
+
+-- ---- one entry
+
+-- a value is its five bytes
+value-of : (tag n : ℕ) → n < 4294967296 → (t : Bool) → eqb tag constantTag ≡ t
+    → valueBytes (cond t (Constant (signed n)) (Column tag n)) ≡ tag ∷ bytes32 n
+value-of tag n small true e = ap₂ (λ (x y : ℕ). x ∷ bytes32 y) (sym (eqb-true tag constantTag e)) (in-range n small .0)
+value-of tag n small false e = refl
+
+all-zero : (n : ℕ) (g f : ℕ → ℕ) → T (all (λ k. eqb (g k) 0) (tabulate n f)) → tabulate n (λ k. g (f k)) ≡ tabulate n (λ k. 0)
+all-zero zero g f t = refl
+all-zero (suc n) g f t =
+    let (p, q) = both (eqb (g (f 0)) 0) (all (λ k. eqb (g k) 0) (tabulate n (λ k. f (suc k)))) t in
+    ap₂ _∷_ (eqb→eq (g (f 0)) 0 p) (all-zero n g (λ k. f (suc k)) q)
+
+comparison-exact : (n : ℕ) → T (between 1 6 n) → comparisonNumber (comparisonOf n) ≡ n
+comparison-exact zero t = absurd t
+comparison-exact (suc zero) t = refl
+comparison-exact (suc (suc zero)) t = refl
+comparison-exact (suc (suc (suc zero))) t = refl
+comparison-exact (suc (suc (suc (suc zero)))) t = refl
+comparison-exact (suc (suc (suc (suc (suc zero))))) t = refl
+comparison-exact (suc (suc (suc (suc (suc (suc zero)))))) t = refl
+comparison-exact (suc (suc (suc (suc (suc (suc (suc n))))))) t = absurd (omega (arith, bounds 1 6 (suc (suc (suc (suc (suc (suc (suc n))))))) t))
+
+-- the record r with this kind is the entry h
+record Says (r : List ℕ) (kind : ℕ) (h : Head) : Type 0 where
+  kind-is : kindOf h ≡ kind
+  bytes-are : recordBytes (word16 r 0) h ≡ tabulate recordSize (byteAt r)
+
+module _ (r : List ℕ) (b : Bytes r) where
+  value-exact : (i : ℕ) → valueBytes (valueFrom r i) ≡ byteAt r i ∷ byteAt r (i + 1) ∷ byteAt r (i + 1 + 1) ∷ byteAt r (i + 1 + 2) ∷ byteAt r (i + 1 + 3) ∷ []
+  value-exact i =
+      let b1 = b (i + 1) in
+      let b2 = b (i + 1 + 1) in
+      let b3 = b (i + 1 + 2) in
+      let b4 = b (i + 1 + 3) in
+      value-of (byteAt r i) (word32 r (i + 1)) (omega arith) (eqb (byteAt r i) constantTag) refl
+      ∙ ap (λ (l : List ℕ). byteAt r i ∷ l) (to32 _ _ _ _ b1 b2 b3 b4)
+
+  zeros-exact : (i n : ℕ) → T (zeros r i n) → tabulate n (λ k. byteAt r (i + k)) ≡ tabulate n (λ k. 0)
+  unfolding zeros
+  zeros-exact i n t = all-zero n (λ k. byteAt r (i + k)) (λ k. k) t
+
+  says : (h : Head) → fieldBytes h ≡ tabulate 12 (λ k. byteAt r (2 + k)) → Says r (kindOf h) h
+  says h p = record { kind-is = refl; bytes-are = ap₂ _++_ (to16 (byteAt r 0) (byteAt r 1) (b 0) (b 1)) p }
+
+  both-says : (j : Joint) → T (zeros r 2 12) → Says r (kindOf (BothHead j)) (BothHead j)
+  both-says j t = says (BothHead j) (sym (zeros-exact 2 12 t))
+
+  rows-says : (q : Quantifier) → T (zeros r 3 11) → let h = RowsHead q (byteAt r 2) in Says r (kindOf h) h
+  rows-says q t = says (RowsHead q (byteAt r 2)) (ap (λ (l : List ℕ). byteAt r 2 ∷ l) (sym (zeros-exact 3 11 t)))
+
+  compare-says : (u : Interpretation) → T (zeros r 2 1 && between 1 6 (byteAt r 3))
+      → let h = AtHead (Compare u (comparisonOf (byteAt r 3)) (valueFrom r 4) (valueFrom r 9)) in Says r (kindOf h) h
+  compare-says u t =
+      let (z, c) = both (zeros r 2 1) (between 1 6 (byteAt r 3)) t in
+      let first : 0 ∷ comparisonNumber (comparisonOf (byteAt r 3)) ∷ [] ≡ byteAt r 2 ∷ byteAt r 3 ∷ [] =
+      ap₂ _++_ (sym (zeros-exact 2 1 z)) (ap (λ (n : ℕ). n ∷ []) (comparison-exact (byteAt r 3) c)) in
+      says (AtHead (Compare u (comparisonOf (byteAt r 3)) (valueFrom r 4) (valueFrom r 9))) (ap₂ _++_ first (ap₂ _++_ (value-exact 4) (value-exact 9)))
+
+  -- the fields of a record that has a left value alone
+  left-alone : T (zeros r 2 2 && zeros r 9 5) → 0 ∷ 0 ∷ valueBytes (valueFrom r 4) ++ noValue ≡ tabulate 12 (λ k. byteAt r (2 + k))
+  left-alone t =
+      let (z, w) = both (zeros r 2 2) (zeros r 9 5) t in
+      ap₂ _++_ (sym (zeros-exact 2 2 z)) (ap₂ _++_ (value-exact 4) (sym (zeros-exact 9 5 w)))
+
+  head-exact : (kind : ℕ) (h : Head) → headFrom kind r ≡ some h → Says r kind h
+  unfolding headFrom
+  head-exact zero h e = absurd (none-some e)
+  head-exact (suc zero) h e = let (t, p) = only-some (zeros r 2 12) _ h e in subst (Says r 1) p (both-says And t)
+  head-exact (suc (suc zero)) h e = let (t, p) = only-some (zeros r 2 12) _ h e in subst (Says r 2) p (both-says Or t)
+  head-exact (suc (suc (suc zero))) h e = let (t, p) = only-some (zeros r 3 11) _ h e in subst (Says r 3) p (rows-says Some t)
+  head-exact (suc (suc (suc (suc zero)))) h e = let (t, p) = only-some (zeros r 3 11) _ h e in subst (Says r 4) p (rows-says All t)
+  head-exact (suc (suc (suc (suc (suc zero))))) h e = let (t, p) = only-some (zeros r 2 1 && between 1 6 (byteAt r 3)) _ h e in subst (Says r 5) p (compare-says AsNo t)
+  head-exact (suc (suc (suc (suc (suc (suc zero)))))) h e = let (t, p) = only-some (zeros r 2 1 && between 1 6 (byteAt r 3)) _ h e in subst (Says r 6) p (compare-says AsYes t)
+  head-exact (suc (suc (suc (suc (suc (suc (suc zero))))))) h e = let (t, p) = only-some (zeros r 2 2 && zeros r 9 5) _ h e in subst (Says r 7) p (says (AtHead (IsNull (valueFrom r 4))) (left-alone t))
+  head-exact (suc (suc (suc (suc (suc (suc (suc (suc zero)))))))) h e = let (t, p) = only-some (zeros r 2 2 && zeros r 9 5) _ h e in subst (Says r 8) p (says (AtHead (NotNull (valueFrom r 4))) (left-alone t))
+  head-exact (suc (suc (suc (suc (suc (suc (suc (suc (suc n))))))))) h e = absurd (none-some e)
+
+-- ---- an entry with its inner ones
+
+-- an entry that is read stands there, up to the entry after it
+pub record Read (bs : List ℕ) (i : ℕ) (x : Taken) : Type 0 where
+  pub ends : x .1 ≡ i + entries (x .0)
+  pub kinds : drop (kindPlace bs i) bs ≡ kindBytes (x .0) ++ drop (kindPlace bs (x .1)) bs
+  pub records : drop (recordPlace bs i) bs ≡ recordsFrom i (x .0) ++ drop (recordPlace bs (x .1)) bs
+
+module _ (bs : List ℕ) (b : Bytes bs) (long : length bs ≡ cardLength (tablesIn bs) (entryCount bs)) where
+  -- its own kind and record
+  module _ (i : ℕ) (h : Head) (there : i < entryCount bs) (e : headFrom (kindAt bs i) (recordAt bs i) ≡ some h) where
+    own : Says (recordAt bs i) (kindAt bs i) h
+    own = head-exact (recordAt bs i) (take-bytes recordSize (drop (recordPlace bs i) bs) (drop-bytes (recordPlace bs i) bs b)) (kindAt bs i) h e
+
+    own-kind : drop (kindPlace bs i) bs ≡ kindOf h ∷ drop (kindPlace bs (i + 1)) bs
+    own-kind =
+        let next : suc (kindPlace bs i) ≡ kindPlace bs (i + 1) = omega arith in
+        drop-cons bs (kindPlace bs i) 0 (omega arith) ∙ ap₂ (λ (k n : ℕ). k ∷ drop n bs) (sym (own .kind-is)) next
+
+    own-record : drop (recordPlace bs i) bs ≡ recordBytes (endAt bs i) h ++ drop (recordPlace bs (i + 1)) bs
+    own-record =
+        let from : List ℕ = drop (recordPlace bs i) bs in
+        let fourteen : recordSize ≤ length from = simp length-drop (omega arith) in
+        let next : recordPlace bs i + recordSize ≡ recordPlace bs (i + 1) = omega arith in
+        let exact : recordBytes (endAt bs i) h ≡ recordAt bs i =
+        own .bytes-are
+        ∙ tabulated recordSize (recordAt bs i) (byteAt (recordAt bs i)) (rw (length-take-le recordSize from fourteen) (omega arith)) (λ k. refl)
+        ∙ take-take recordSize recordSize from (omega arith) in
+        sym (take-append-drop recordSize from) ∙ ap₂ _++_ (sym exact) (drop-drop recordSize (recordPlace bs i) bs ∙ ap (λ (n : ℕ). drop n bs) next)
+
+  -- it with its inner ones
+  module _ (i : ℕ) where
+    -- the entry i by itself is h
+    abbrev Own : Head → Type 0
+    Own h = headFrom (kindAt bs i) (recordAt bs i) ≡ some h
+
+    read-leaf : (y : Leaf) → Own (AtHead y) → endAt bs i ≡ i + 1 → i + 1 ≤ entryCount bs → Read bs i (At y, i + 1)
+    unfolding entries kindBytes recordsFrom
+    read-leaf y e end l =
+        let there : i < entryCount bs = omega arith in
+        record {
+          ends = refl;
+          kinds = own-kind i (AtHead y) there e;
+          records = own-record i (AtHead y) there e ∙ ap (λ (n : ℕ). recordBytes n (AtHead y) ++ drop (recordPlace bs (i + 1)) bs) end;
+        }
+
+    read-both : (j : Joint) (x y : Taken) → Own (BothHead j) → Read bs (i + 1) x → Read bs (x .1) y → endAt bs i ≡ y .1 → y .1 ≤ entryCount bs → Read bs i (Both j (x .0) (y .0), y .1)
+    unfolding entries kindBytes recordsFrom
+    read-both j x y e rx ry end l =
+        let ex = rx .ends in
+        let ey = ry .ends in
+        let there : i < entryCount bs = omega arith in
+        let whole : endAt bs i ≡ i + (1 + entries (x .0) + entries (y .0)) = omega arith in
+        record {
+          ends = omega arith;
+          kinds =
+              own-kind i (BothHead j) there e
+              ∙ ap (λ (l : List ℕ). kindOf (BothHead j) ∷ l)
+              (rx .kinds
+              ∙ ap (λ (l : List ℕ). kindBytes (x .0) ++ l) (ry .kinds)
+              ∙ sym (append-assoc (kindBytes (x .0)) (kindBytes (y .0)) (drop (kindPlace bs (y .1)) bs)));
+          records =
+              own-record i (BothHead j) there e
+              ∙ ap₂ (λ (n : ℕ) (l : List ℕ). recordBytes n (BothHead j) ++ l) whole
+              (rx .records
+              ∙ ap (λ (l : List ℕ). recordsFrom (i + 1) (x .0) ++ l) (ry .records ∙ ap (λ (n : ℕ). recordsFrom n (y .0) ++ drop (recordPlace bs (y .1)) bs) ex)
+              ∙ sym (append-assoc (recordsFrom (i + 1) (x .0)) (recordsFrom (i + 1 + entries (x .0)) (y .0)) (drop (recordPlace bs (y .1)) bs)));
+        }
+
+    read-row : (q : Quantifier) (t : ℕ) (x : Taken) → Own (RowsHead q t) → Read bs (i + 1) x → endAt bs i ≡ x .1 → x .1 ≤ entryCount bs → Read bs i (Rows q t (x .0), x .1)
+    unfolding entries kindBytes recordsFrom
+    read-row q t x e rx end l =
+        let ex = rx .ends in
+        let there : i < entryCount bs = omega arith in
+        let whole : endAt bs i ≡ i + (1 + entries (x .0)) = omega arith in
+        record {
+          ends = omega arith;
+          kinds = own-kind i (RowsHead q t) there e ∙ ap (λ (l : List ℕ). kindOf (RowsHead q t) ∷ l) (rx .kinds);
+          records = own-record i (RowsHead q t) there e ∙ ap₂ (λ (n : ℕ) (l : List ℕ). recordBytes n (RowsHead q t) ++ l) whole (rx .records);
+        }
+
+  -- and so where the inner ones are read by `from`
+  module _ (from : ℕ → Option Taken) (inner : (i : ℕ) (x : Taken) → from i ≡ some x → x .1 ≤ entryCount bs → Read bs i x) (i : ℕ) where
+    abbrev Done : Taken → Type 0
+    Done x = endAt bs i ≡ x .1 → x .1 ≤ entryCount bs → Read bs i x
+
+    read-inside : (h : Head) (x : Taken) → headFrom (kindAt bs i) (recordAt bs i) ≡ some h → inside from i h ≡ some x → Done x
+    read-inside (AtHead y) x e p = let q : (At y, i + 1) ≡ x = cc in subst Done q (read-leaf i y e)
+    read-inside (BothHead j) x e p =
+        let (y, py, p′) = bind-some (from (i + 1)) _ x p in
+        let (z, pz, p″) = bind-some (from (y .1)) _ x p′ in
+        let q : (Both j (y .0) (z .0), z .1) ≡ x = cc in
+        subst Done q (λ end l.
+        let rz = inner (y .1) z pz l in
+        let ry = inner (i + 1) y py (omega (arith, rz .ends)) in
+        read-both i j y z e ry rz end l)
+    read-inside (RowsHead k t) x e p =
+        let (y, py, p′) = bind-some (from (i + 1)) _ x p in
+        let q : (Rows k t (y .0), y .1) ≡ x = cc in
+        subst Done q (λ end l. read-row i k t y e (inner (i + 1) y py l) end l)
+
+  pub entry-exact : (depth i : ℕ) (x : Taken) → entryFrom bs depth i ≡ some x → x .1 ≤ entryCount bs → Read bs i x
+  unfolding entryFrom
+  entry-exact zero i x e l = absurd (none-some e)
+  entry-exact (suc depth) i x e l =
+      let (h, ph, e′) = bind-some (headFrom (kindAt bs i) (recordAt bs i)) _ x e in
+      let (y, py, e″) = bind-some (inside (entryFrom bs depth) i h) _ x e′ in
+      let (t, q) = only-some (eqb (endAt bs i) (y .1)) y x e″ in
+      read-inside (entryFrom bs depth) (entry-exact depth) i h x ph (py ∙ ap some q) (eqb→eq _ _ t ∙ ap (λ (x : Taken). x .1) q) l
+
+  -- ---- a card
+
+  columns-are : columnsIn bs ≡ take (tablesIn bs) (drop 3 bs)
+  unfolding columnsIn
+  columns-are = tabulated (tablesIn bs) (drop 3 bs) _ (simp length-drop (omega arith)) (λ k. sym (getD-drop 3 bs k 0))
+
+  columns-count : length (columnsIn bs) ≡ tablesIn bs
+  columns-count = ap length columns-are ∙ length-take-le (tablesIn bs) (drop 3 bs) (simp length-drop (omega arith))
+
+  read-card : (x : Taken) → Read bs 0 x → x .1 ≡ entryCount bs → bs ≡ cardBytes (columnsIn bs) (x .0)
+  unfolding cardBytes
+  read-card x r whole =
+      let c : Card = x .0 in
+      let n : entries c ≡ entryCount bs = omega (arith, r .ends) in
+      let start : take 3 bs ≡ bytes16 (entries c) ++ (length (columnsIn bs) ∷ []) =
+      sym (tabulated 3 bs (byteAt bs) (omega arith) (λ k. refl))
+      ∙ ap₂ (λ (l : List ℕ) (t : ℕ). l ++ (t ∷ [])) (sym (ap bytes16 n ∙ to16 (byteAt bs 0) (byteAt bs 1) (b 0) (b 1))) (sym columns-count) in
+      let columns : drop 3 bs ≡ columnsIn bs ++ drop (3 + tablesIn bs) bs =
+      sym (take-append-drop (tablesIn bs) (drop 3 bs)) ∙ ap₂ _++_ (sym columns-are) (drop-drop (tablesIn bs) 3 bs) in
+      let first : 3 + tablesIn bs ≡ kindPlace bs 0 = omega arith in
+      let then : kindPlace bs (x .1) ≡ recordPlace bs 0 = omega arith in
+      let records : drop (kindPlace bs (x .1)) bs ≡ recordsFrom 0 c =
+      ap (λ (k : ℕ). drop k bs) then
+      ∙ r .records
+      ∙ ap (λ (l : List ℕ). recordsFrom 0 c ++ l) (drop-of-length-le bs {i = recordPlace bs (x .1)} (omega arith))
+      ∙ append-nil (recordsFrom 0 c) in
+      let kinds : drop (3 + tablesIn bs) bs ≡ kindBytes c ++ recordsFrom 0 c =
+      ap (λ (k : ℕ). drop k bs) first ∙ r .kinds ∙ ap (λ (l : List ℕ). kindBytes c ++ l) records in
+      sym (take-append-drop 3 bs) ∙ ap₂ _++_ start (columns ∙ ap (λ (l : List ℕ). columnsIn bs ++ l) kinds)
+
+  pub card-exact : (c : Card) → cardFrom bs ≡ some c → (bs ≡ cardBytes (columnsIn bs) c) × (entries c ≡ entryCount bs)
+  unfolding cardFrom
+  card-exact c e =
+      let (x, p, e′) = bind-some (entryFrom bs (entryCount bs) 0) _ c e in
+      let (t, q) = only-some (eqb (x .1) (entryCount bs)) (x .0) c e′ in
+      let whole = eqb→eq (x .1) (entryCount bs) t in
+      let r = entry-exact (entryCount bs) 0 x p (omega arith) in
+      subst (λ (c : Card). (bs ≡ cardBytes (columnsIn bs) c) × (entries c ≡ entryCount bs)) q (read-card x r whole, omega (arith, r .ends))
+
+-- ---- the test
+
+-- what the test says, part by part
+pub record Passed (bs : List ℕ) : Type 0 where
+  pub card : Card
+  pub few : T (between 1 mostEntries (entryCount bs))
+  pub sized : T (columnsFit (columnsIn bs))
+  pub long : length bs ≡ cardLength (tablesIn bs) (entryCount bs)
+  pub held : cardFrom bs ≡ some card
+  pub fits : T (cardFits (columnsIn bs) judgedLevels card)
+
+holds-one : (columns : List ℕ) (o : Option Card) → T (holdsFitting columns o) → (c : Card) × (o ≡ some c) × T (cardFits columns judgedLevels c)
+holds-one columns none t = absurd t
+holds-one columns (some c) t = (c, refl, t)
+
+pub sound-passed : (bs : List ℕ) → T (sound bs) → Passed bs
+unfolding sound
+sound-passed bs t =
+    let long = eqb (length bs) (cardLength (tablesIn bs) (entryCount bs)) in
+    let holds = holdsFitting (columnsIn bs) (cardFrom bs) in
+    let (few, t1) = both (between 1 mostEntries (entryCount bs)) (columnsFit (columnsIn bs) && (long && holds)) t in
+    let (sized, t2) = both (columnsFit (columnsIn bs)) (long && holds) t1 in
+    let (whole, t3) = both long holds t2 in
+    let (c, held, fits) = holds-one (columnsIn bs) (cardFrom bs) t3 in
+    record { card = c; few = few; sized = sized; long = eqb→eq _ _ whole; held = held; fits = fits }
+
+-- what passes the test is sound, and its columns and its card are those that it holds
+module _ (bs : List ℕ) (b : Bytes bs) (t : T (sound bs)) where
+  passed : Passed bs
+  passed = sound-passed bs t
+
+  exact : (bs ≡ cardBytes (columnsIn bs) (passed .card)) × (entries (passed .card) ≡ entryCount bs)
+  exact = card-exact bs b (passed .long) (passed .card) (passed .held)
+
+  pub sound-exact : Sound bs
+  sound-exact = record {
+    columns = columnsIn bs;
+    card = passed .card;
+    bytes = exact .0;
+    few = rw (exact .1) (passed .few);
+    sized = passed .sized;
+    fits = passed .fits;
+  }
+
+  pub sound-columns : columnsIn bs ≡ sound-exact .columns
+  unfolding sound-exact
+  sound-columns = refl
+
+  pub sound-card : cardFrom bs ≡ some (sound-exact .card)
+  unfolding sound-exact
+  sound-card = passed .held

@@ -1,0 +1,5 @@
+pub mod Places
+pub mod Walk
+pub mod Back
+pub mod Exact
+pub mod Opened

@@ -1,0 +1,90 @@
+-- Lists from a place on, and numbers from their bytes and back.
+use mathlib.Core.Path.{_≡_, refl, sym, ap, ap₂, _∙_}
+use mathlib.Core.Bool.{Bool, true, false, cond, _&&_}
+use mathlib.Core.List.{List, [], _∷_, _++_}
+use Prim.Native.Nat.{ℕ, zero, suc, _+_, _-_, _*_, _/_, _%_, _≤_, _<_}
+use native.Mathlib.Nat.{le-of-suc-le-suc, not-suc-le-zero, add-zero}
+use native.Mathlib.Omega.{arith}
+use borrow.Author.Tests.{lt-ltb, le-ltb, ltb-true, ltb-false}
+use lib.Dec.{T, leb, leb→le, ltb, lt→ltb, ltb→lt}
+use lib.Ieee.Fits.{and-l, and-r}
+use lib.IntN.{ℤ, pos, negsuc}
+use lib.ListN.{length, getD, take, drop}
+use lib.Seq.{getD-drop, drop-drop, drop-append-seam}
+use Rattle.tables.specs.Lists.{tabulate}
+use Rattle.tables.specs.Bytes.{between, bytes16, bytes32, signed, bits, inRange}
+
+-- ---- lists
+
+-- what stands from place i on, read at k and behind its first part
+pub at : (xs : List ℕ) (i k : ℕ) (p : List ℕ) → drop i xs ≡ p → getD xs (i + k) 0 ≡ getD p k 0
+at xs i k p h = sym (getD-drop i xs k 0) ∙ ap (λ (l : List ℕ). getD l k 0) h
+
+pub at0 : (xs : List ℕ) (i : ℕ) (p : List ℕ) → drop i xs ≡ p → getD xs i 0 ≡ getD p 0 0
+at0 xs i p h = ap (λ (k : ℕ). getD xs k 0) (sym (add-zero i)) ∙ at xs i 0 p h
+
+pub skip-to : (xs : List ℕ) (i j : ℕ) (p r : List ℕ) → drop i xs ≡ p ++ r → j ≡ i + length p → drop j xs ≡ r
+skip-to xs i j p r h e =
+    ap (λ (n : ℕ). drop n xs) e ∙ sym (drop-drop (length p) i xs) ∙ ap (drop (length p)) h ∙ drop-append-seam p r
+
+-- the first elements, one by one
+pub tabulated : (n : ℕ) (xs : List ℕ) (f : ℕ → ℕ) → n ≤ length xs → ((k : ℕ) → f k ≡ getD xs k 0) → tabulate n f ≡ take n xs
+tabulated zero xs f l h = refl
+tabulated (suc n) [] f l h = absurd (not-suc-le-zero l)
+tabulated (suc n) (x ∷ xs) f l h = ap₂ _∷_ (h 0) (tabulated n xs (λ k. f (suc k)) (le-of-suc-le-suc l) (λ k. h (suc k)))
+
+-- ---- tests
+
+pub is-true : (t : Bool) → T t → t ≡ true
+is-true true h = refl
+is-true false h = absurd h
+
+pub both : (a b : Bool) → T (a && b) → T a × T b
+both a b h = (and-l a b h, and-r a b h)
+
+pub bounds : (low high n : ℕ) → T (between low high n) → (low ≤ n) × (n ≤ high)
+bounds low high n h = let (p, q) = both (leb low n) (leb n high) h in (leb→le low n p, leb→le n high q)
+
+-- ---- numbers from their bytes
+
+pub from16 : (n : ℕ) → n < 65536 → n % 256 + 256 * (n / 256 % 256) ≡ n
+from16 n h = omega arith
+
+pub from32 : (n : ℕ) → n < 4294967296 → n % 256 + 256 * (n / 256 % 256) + 65536 * (n / 256 / 256 % 256) + 16777216 * (n / 256 / 256 / 256 % 256) ≡ n
+from32 n h = omega arith
+
+pub to16 : (a b : ℕ) → a < 256 → b < 256 → bytes16 (a + 256 * b) ≡ a ∷ b ∷ []
+to16 a b ha hb =
+    let p : (a + 256 * b) % 256 ≡ a = omega arith in
+    let n : (a + 256 * b) / 256 ≡ b = omega arith in
+    let q : b % 256 ≡ b = omega arith in
+    rw (p, n, q)
+
+pub to32 : (a b c d : ℕ) → a < 256 → b < 256 → c < 256 → d < 256 → bytes32 (a + 256 * b + 65536 * c + 16777216 * d) ≡ a ∷ b ∷ c ∷ d ∷ []
+to32 a b c d ha hb hc hd =
+    let p : (a + 256 * b + 65536 * c + 16777216 * d) % 256 ≡ a = omega arith in
+    let n : (a + 256 * b + 65536 * c + 16777216 * d) / 256 ≡ b + 256 * c + 65536 * d = omega arith in
+    let q : (b + 256 * c + 65536 * d) % 256 ≡ b = omega arith in
+    let m : (b + 256 * c + 65536 * d) / 256 ≡ c + 256 * d = omega arith in
+    rw (p, n, q, m) (ap (λ (l : List ℕ). a ∷ b ∷ l) (to16 c d hc hd))
+
+-- ---- numbers with a sign
+
+pub bits-small : (k : ℤ) → T (inRange k) → bits k < 4294967296
+bits-small (pos n) h = omega (arith, ltb→lt n 2147483648 h)
+bits-small (negsuc n) h = omega arith
+
+pub signed-bits : (k : ℤ) → T (inRange k) → signed (bits k) ≡ k
+signed-bits (pos n) h = rw (lt-ltb n 2147483648 (ltb→lt n 2147483648 h))
+signed-bits (negsuc n) h =
+    let l = ltb→lt n 2147483648 h in
+    let z : 4294967295 - (4294967295 - n) ≡ n = omega arith in
+    rw (le-ltb (4294967295 - n) 2147483648 (omega arith)) (ap negsuc z)
+
+-- every 32 bits are those of a number in range
+pub in-range : (n : ℕ) → n < 4294967296 → (bits (signed n) ≡ n) × T (inRange (signed n))
+in-range n small = go (ltb n 2147483648) refl
+  where
+    go : (t : Bool) → ltb n 2147483648 ≡ t → let k = cond t (pos n) (negsuc (4294967295 - n)) in (bits k ≡ n) × T (inRange k)
+    go true e = (refl, lt→ltb n 2147483648 (ltb-true n 2147483648 e))
+    go false e = let l = ltb-false n 2147483648 e in (omega arith, lt→ltb (4294967295 - n) 2147483648 (omega arith))

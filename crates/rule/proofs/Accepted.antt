@@ -1,0 +1,150 @@
+-- An accepted text is just what the grammar, names and limits allow.
+use mathlib.Core.Path.{_≡_, refl, sym, ap, _∙_}
+use mathlib.Core.Bool.{Bool, true, false, not, _&&_}
+use mathlib.Core.List.{List, [], _∷_, _++_}
+use mathlib.Core.Logic.{_↔_}
+use mathlib.Core.Option.{Option, none, some}
+use Prim.Native.Nat.{ℕ, suc, _+_, _≤_, max}
+use native.Mathlib.Omega.{arith}
+use borrow.Author.Tests.{ltb-false, le-ltb, leb-true, le-leb, not-false, not-true}
+use lib.Dec.{ltb, leb}
+use lib.IntN.{pos}
+use lib.ListN.{length}
+use Rattle.tables.specs.Lists.{_>>=_, isMissing}
+use Rattle.tables.specs.Tables.{sizesFit, marksFit, columnsOf}
+use Rattle.tables.specs.Refusals.{Refusal, _if_, lowest, tablesRefusals}
+use Rattle.rule.specs.Tokens.{tokensOf, opensFit}
+use Rattle.rule.specs.Condition.{Alone, Join, Not, Exists, Listed, Over, Text, Rule, parts, fromsDeep}
+use Rattle.rule.specs.Grammar.{Tokens}
+use Rattle.rule.specs.Reader.{readAll}
+use Rattle.rule.specs.Names.{mostParts, mostFroms, limitsFit, Scope, outermost, bound, existing, valueIn, testIn, ruleIn}
+use Rattle.rule.specs.Calls.{mostBytes, fails, isThere, textOf, ruleOf, readingRefusals, Accepted}
+use Rattle.rule.specs.Claims.{Allowed, AcceptedClaim, AcceptedRule, PartsClaim}
+use Rattle.rule.proofs.Reading.{read-sound, read-complete}
+use Rattle.rule.proofs.Levels.{names-scoped, names-sized}
+use Rattle.rule.proofs.Parts.{parts-back, parts-length}
+
+-- ---- no refusal of a list applies
+
+none-lowest : (n : ℕ) (b : Bool) (rs : List Refusal) → lowest ((n if b) ∷ rs) ≡ none → (b ≡ false) × (lowest rs ≡ none)
+unfolding lowest
+none-lowest n true rs e = let z : _≡_ {A = ℕ} 0 1 = cc in absurd (omega arith)
+none-lowest n false rs e = (refl, e)
+
+lowest-none : (n : ℕ) (b : Bool) (rs : List Refusal) → b ≡ false → lowest rs ≡ none → lowest ((n if b) ∷ rs) ≡ none
+unfolding lowest
+lowest-none n true rs e f = let z : _≡_ {A = ℕ} 0 1 = cc in absurd (omega arith)
+lowest-none n false rs e f = f
+
+lowest-nil : lowest [] ≡ none
+unfolding lowest
+lowest-nil = refl
+
+-- something is there
+there : {A : Type 0} (o : Option A) → isMissing o ≡ false → (x : A) × (o ≡ some x)
+there none e = let z : _≡_ {A = ℕ} 0 1 = cc in absurd (omega arith)
+there (some x) e = (x, refl)
+
+passed : {A : Type 0} (p : A → Bool) (x : A) → fails p (some x) ≡ false → p x ≡ true
+passed p x e = not-false (p x) e
+
+-- the refusals of reading one by one
+record Unrefused (text file : List ℕ) : Type 0 where
+  no-1 : not (sizesFit file) ≡ false
+  no-2 : not (marksFit file) ≡ false
+  no-3 : ltb mostBytes (length text) ≡ false
+  no-4 : isMissing (tokensOf text) ≡ false
+  no-5 : fails (opensFit (pos 0)) (tokensOf text) ≡ false
+  no-6 : fails (λ ts. isThere (readAll ts)) (tokensOf text) ≡ false
+  no-7 : fails limitsFit (textOf text) ≡ false
+  no-8 : fails (λ a. isThere (ruleIn (columnsOf file) outermost a)) (textOf text) ≡ false
+
+accepted-unrefused : (text file : List ℕ) → Accepted text file → Unrefused text file
+unfolding readingRefusals tablesRefusals
+accepted-unrefused text file e =
+    let e1 = none-lowest 1 (not (sizesFit file)) _ e in
+    let e2 = none-lowest 2 (not (marksFit file)) _ (e1 .1) in
+    let e3 = none-lowest 3 (ltb mostBytes (length text)) _ (e2 .1) in
+    let e4 = none-lowest 4 (isMissing (tokensOf text)) _ (e3 .1) in
+    let e5 = none-lowest 5 (fails (opensFit (pos 0)) (tokensOf text)) _ (e4 .1) in
+    let e6 = none-lowest 6 (fails (λ ts. isThere (readAll ts)) (tokensOf text)) _ (e5 .1) in
+    let e7 = none-lowest 7 (fails limitsFit (textOf text)) _ (e6 .1) in
+    let e8 = none-lowest 8 (fails (λ a. isThere (ruleIn (columnsOf file) outermost a)) (textOf text)) _ (e7 .1) in
+    record { no-1 = e1 .0; no-2 = e2 .0; no-3 = e3 .0; no-4 = e4 .0; no-5 = e5 .0; no-6 = e6 .0; no-7 = e7 .0; no-8 = e8 .0 }
+
+unrefused-accepted : (text file : List ℕ) → Unrefused text file → Accepted text file
+unfolding readingRefusals tablesRefusals
+unrefused-accepted text file u =
+    lowest-none 1 _ _ (u .no-1) (lowest-none 2 _ _ (u .no-2) (lowest-none 3 _ _ (u .no-3) (lowest-none 4 _ _ (u .no-4)
+    (lowest-none 5 _ _ (u .no-5) (lowest-none 6 _ _ (u .no-6) (lowest-none 7 _ _ (u .no-7) (lowest-none 8 _ _ (u .no-8) lowest-nil)))))))
+
+limits-are : (a : Text) → limitsFit a ≡ true → (parts a ≤ mostParts) × (fromsDeep a ≤ mostFroms)
+unfolding limitsFit
+limits-are a e = go (leb (parts a) mostParts) (leb (fromsDeep a) mostFroms) refl refl e
+  where
+    go : (p q : Bool) → leb (parts a) mostParts ≡ p → leb (fromsDeep a) mostFroms ≡ q → p && q ≡ true → (parts a ≤ mostParts) × (fromsDeep a ≤ mostFroms)
+    go true true f g h = (leb-true _ _ f, leb-true _ _ g)
+    go true false f g h = let z : _≡_ {A = ℕ} 0 1 = cc in absurd (omega arith)
+    go false q f g h = let z : _≡_ {A = ℕ} 0 1 = cc in absurd (omega arith)
+
+limits-of : (a : Text) → parts a ≤ mostParts → fromsDeep a ≤ mostFroms → limitsFit a ≡ true
+unfolding limitsFit
+limits-of a p q = rw (le-leb (parts a) mostParts p, le-leb (fromsDeep a) mostFroms q)
+
+accepted-allowed : (text file : List ℕ) → Accepted text file → Allowed text file
+unfolding textOf
+accepted-allowed text file e =
+    let u = accepted-unrefused text file e in
+    let t = there (tokensOf text) (u .no-4) in
+    let a = there (readAll (t .0)) (not-true _ (passed (λ ts. isThere (readAll ts)) (t .0) (rw (t .1) at (u .no-6)))) in
+    let is : textOf text ≡ some (a .0) = ap (_>>= readAll) (t .1) ∙ a .1 in
+    let r = there (ruleIn (columnsOf file) outermost (a .0)) (not-true _ (passed (λ x. isThere (ruleIn (columnsOf file) outermost x)) (a .0) (rw is at (u .no-8)))) in
+    let l = limits-are (a .0) (passed limitsFit (a .0) (rw is at (u .no-7))) in
+    record {
+      tables-sized = not-false _ (u .no-1);
+      tables-marked = not-false _ (u .no-2);
+      short = ltb-false mostBytes (length text) (u .no-3);
+      tokens = t .0;
+      are-tokens = t .1;
+      balanced = passed (opensFit (pos 0)) (t .0) (rw (t .1) at (u .no-5));
+      condition = a .0;
+      reads = read-sound (t .0) (a .0) (a .1);
+      few-parts = l .0;
+      few-froms = l .1;
+      rule = r .0;
+      names = r .1;
+    }
+
+allowed-accepted : (text file : List ℕ) → Allowed text file → Accepted text file
+unfolding textOf
+allowed-accepted text file w =
+    let read : readAll (w .tokens) ≡ some (w .condition) = read-complete (w .tokens) (w .condition) (w .reads) in
+    let is : textOf text ≡ some (w .condition) = ap (_>>= readAll) (w .are-tokens) ∙ read in
+    unrefused-accepted text file record {
+      no-1 = ap not (w .tables-sized);
+      no-2 = ap not (w .tables-marked);
+      no-3 = le-ltb mostBytes (length text) (w .short);
+      no-4 = ap isMissing (w .are-tokens);
+      no-5 = rw (w .are-tokens, w .balanced);
+      no-6 = rw (w .are-tokens, read);
+      no-7 = rw (is, limits-of (w .condition) (w .few-parts) (w .few-froms));
+      no-8 = rw (is, w .names);
+    }
+
+pub accepted-claim : AcceptedClaim
+accepted-claim text file = (accepted-allowed text file, allowed-accepted text file)
+
+-- ---- the rule of an accepted text
+
+pub parts-claim : PartsClaim
+unfolding ruleOf textOf
+parts-claim text file e r is =
+    let w = accepted-allowed text file e in
+    let read : textOf text ≡ some (w .condition) = ap (_>>= readAll) (w .are-tokens) ∙ read-complete (w .tokens) (w .condition) (w .reads) in
+    let names : ruleIn (columnsOf file) outermost (w .condition) ≡ some r = sym (ap (_>>= ruleIn (columnsOf file) outermost) read) ∙ is in
+    let size = names-sized (columnsOf file) (w .condition) names in
+    let scoped = names-scoped (columnsOf file) (w .condition) names in
+    let few = w .few-parts in
+    let shallow = w .few-froms in
+    let deep : fromsDeep r ≤ mostFroms = omega arith in
+    record { scoped = scoped; few-parts = omega arith; few-froms = deep; records = parts-length r 0; back = parts-back r deep scoped }
