@@ -3,3 +3,4 @@ pub mod Walk
 pub mod Back
 pub mod Exact
 pub mod Opened
+pub mod Claims

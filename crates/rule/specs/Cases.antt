@@ -2,11 +2,13 @@
 use mathlib.Core.List.{List, [], _∷_, _++_, map}
 use mathlib.Core.Option.{Option, none, some}
 use Prim.Native.Nat.{ℕ, zero, suc}
+use lib.IntN.{ℤ, pos, negsuc}
 use lib.ListN.{replicate}
 use Prim.Native.String.{String}
 use Rattle.tables.specs.Bytes.{bytes32}
 use Rattle.tables.specs.Refusals.{Answer, Given, lowest}
 use Rattle.rule.specs.Tokens.{bytes}
+use Rattle.rule.specs.Parts.{Field, unused, Part, partWith}
 use Rattle.rule.specs.Meaning.{Truth, False, Unknown, True}
 use Rattle.rule.specs.Calls.{readingRefusals, judgeCall}
 
@@ -59,6 +61,25 @@ judgedAt c = map (judgeCall (bytes (c .text)) caseTables) (0 ∷ 1 ∷ 2 ∷ [])
 abbrev pub expectedAt : Case → List (Answer Truth)
 expectedAt c = map Given (c .values)
 
+-- ---- the parts of one rule, in full: kind, end, comparison, table, left and right value
+
+unfoldable pub partsText : List ℕ
+partsText = bytes "NOT (m.1 = 1 OR m.2 IS NOT NULL) AND m.1 NOT IN (SELECT v.1 FROM 2 v WHERE v.1 > -5)"
+
+abbrev field : ℕ → ℤ → Field
+field t n = record { tag = t; number = n }
+
+abbrev pub partsExpected : List Part
+partsExpected =
+    partWith 1 7 0 0 unused unused
+    ∷ partWith 3 5 0 0 unused unused
+    ∷ partWith 2 5 0 0 unused unused
+    ∷ partWith 4 4 1 0 (field 0 (pos 1)) (field 255 (pos 1))
+    ∷ partWith 6 5 0 0 (field 0 (pos 2)) unused
+    ∷ partWith 9 7 2 2 (field 0 (pos 1)) (field 1 (pos 1))
+    ∷ partWith 4 7 5 0 (field 1 (pos 1)) (field 255 (negsuc 4))
+    ∷ []
+
 -- ---- texts at the edges, with the tables above: "The lowest applying number is given, and none where no row applies."
 
 pub record Edge : Type 0 where
@@ -87,7 +108,9 @@ edges =
     -- brackets: 32 open may pass, a ) before them counts, and grammar comes after them
     ∷ accepted (replicate 32 40 ++ bytes "1 = 1" ++ replicate 32 41) ∷ ((bytes ")" ++ replicate 33 40) refused 6) ∷ ((bytes ")" ++ replicate 34 40) refused 5)
     -- grammar comes before limits, and limits before names
-    ∷ ((chained 32 ++ bytes " OR") refused 6) ∷ ((chained 32 ++ bytes " OR k.1 = 1") refused 7) ∷ accepted (chained 31)
+    ∷ ((chained 32 ++ bytes " OR") refused 6) ∷ ((chained 32 ++ bytes " OR k.1 = 1") refused 7)
+    -- limits: 64 parts and three FROMs may pass
+    ∷ accepted (bytes "NOT " ++ chained 31) ∷ (chained 32 refused 7)
     ∷ accepted (bytes "EXISTS (FROM 1 a WHERE EXISTS (FROM 1 b WHERE EXISTS (FROM 1 c WHERE a.1 = b.2)))")
     ∷ (bytes "EXISTS (FROM 1 a WHERE EXISTS (FROM 1 b WHERE EXISTS (FROM 1 c WHERE EXISTS (FROM 1 d WHERE 1 = 1))))" refused 7)
     -- names: a negative column, an absent table or column, a letter outside its FROM, the selected value inside it

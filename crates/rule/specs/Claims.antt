@@ -6,16 +6,17 @@ use mathlib.Core.Logic.{_↔_}
 use mathlib.Core.Option.{Option, none, some}
 use Prim.Native.Nat.{ℕ, _≤_}
 use lib.IntN.{pos}
-use lib.ListN.{length}
+use lib.ListN.{length, replicate}
 use Rattle.tables.specs.Tables.{sizesFit, marksFit, columnsOf}
+use Rattle.tables.specs.Refusals.{filledWith}
 use Rattle.rule.specs.Tokens.{tokensOf, opensFit}
 use Rattle.rule.specs.Condition.{Text, Rule, parts, fromsDeep}
 use Rattle.rule.specs.Grammar.{Tokens, Reads}
 use Rattle.rule.specs.Reader.{readAll}
 use Rattle.rule.specs.Names.{mostParts, mostFroms, outermost, ruleIn, Scoped}
-use Rattle.rule.specs.Parts.{partsOf, ruleOfParts}
-use Rattle.rule.specs.Calls.{mostBytes, ruleOf, Accepted}
-use Rattle.rule.specs.Cases.{cases, judgedAt, expectedAt, edges, refusalAt}
+use Rattle.rule.specs.Parts.{unused, partWith, partsOf, ruleOfParts}
+use Rattle.rule.specs.Calls.{mostBytes, ruleOf, Accepted, readCall}
+use Rattle.rule.specs.Cases.{cases, judgedAt, expectedAt, caseTables, partsText, partsExpected, edges, refusalAt}
 
 -- the reader finds a reading exactly when the grammar has one, and no tokens have two: "in its single reading"
 pub record ReadingClaim : Type 0 where
@@ -56,6 +57,10 @@ PartsClaim = (text file : List ℕ) → Accepted text file → (r : Rule) → ru
 -- cases 1 to 12, together
 abbrev pub CasesClaim : Type 0
 CasesClaim = map judgedAt cases ≡ map expectedAt cases
+
+-- READ with room for 8 parts: the 7 parts of one rule, and the eighth element untouched
+abbrev pub PartsCaseClaim : Type 0
+PartsCaseClaim = let room = replicate 8 (partWith 99 99 99 99 unused unused) in readCall partsText caseTables room ≡ filledWith partsExpected room
 
 -- the texts at the edges of the refusals, together
 abbrev pub EdgesClaim : Type 0

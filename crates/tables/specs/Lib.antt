@@ -3,3 +3,5 @@ pub mod Bytes
 pub mod Tables
 pub mod Values
 pub mod Refusals
+pub mod Cases
+pub mod Claims

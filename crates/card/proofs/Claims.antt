@@ -1,0 +1,25 @@
+-- The claims of specs/Claims.antt.
+use mathlib.Core.Path.{_≡_, refl, ap, _∙_}
+use lib.Dec.{T}
+use Rattle.card.specs.Layout.{columnsIn}
+use Rattle.card.specs.Cases.{nested, edges}
+use Rattle.card.specs.Claims.{SoundClaim, LengthClaim, EdgesClaim}
+use Rattle.card.proofs.Opened.{opened}
+use Rattle.card.proofs.Walk.{card-length, columns-back}
+use Rattle.card.proofs.Back.{sound-true, sound-holds}
+use Rattle.card.proofs.Exact.{sound-exact}
+
+pub sound-claim : SoundClaim
+sound-claim = record {
+  passes = sound-true;
+  passes-only = λ bs b e. sound-exact bs b (rw e tt);
+  holds-card = sound-holds;
+  holds-columns = λ bs s. ap columnsIn (s .bytes) ∙ columns-back (s .columns) (s .card);
+}
+
+pub length-claim : LengthClaim
+length-claim = card-length
+
+pub edges-claim : EdgesClaim
+unfolding opened nested edges
+edges-claim = refl

@@ -1,0 +1,13 @@
+-- The sample file, and the files at the edges of the refusals, each as one computed fact.
+use mathlib.Core.Path.{refl}
+use Rattle.tables.specs.Cases.{edges}
+use Rattle.tables.specs.Claims.{SampleClaim, EdgesClaim}
+use Rattle.tables.proofs.Opened.{opened}
+
+pub sample-claim : SampleClaim
+unfolding opened
+sample-claim = refl
+
+pub edges-claim : EdgesClaim
+unfolding opened edges
+edges-claim = refl

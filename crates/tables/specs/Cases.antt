@@ -1,0 +1,50 @@
+-- A tables file and what it holds, and files at the edges of refusals 1 and 2.
+use mathlib.Core.List.{List, [], _∷_, _++_}
+use mathlib.Core.Option.{Option, none, some}
+use Prim.Native.Nat.{ℕ, zero, suc}
+use lib.IntN.{pos, negsuc}
+use lib.ListN.{replicate}
+use Rattle.tables.specs.Tables.{Blank, Present, Tables}
+use Rattle.tables.specs.Refusals.{lowest, tablesRefusals}
+
+-- table 1 of two columns and two rows, table 2 of one column and no rows, table 3 of one column and one row
+abbrev pub sampleFile : List ℕ
+sampleFile =
+    (3 ∷ 2 ∷ 2 ∷ 0 ∷ 1 ∷ 0 ∷ 0 ∷ 1 ∷ 1 ∷ 0 ∷ [])
+    ++ (1 ∷ 2 ∷ 3 ∷ 4 ∷ 255 ∷ 255 ∷ 255 ∷ 255 ∷ 0 ∷ 0 ∷ 0 ∷ 128 ∷ 255 ∷ 255 ∷ 255 ∷ 127 ∷ 9 ∷ 9 ∷ 9 ∷ 9 ∷ [])
+    ++ (0 ∷ 0 ∷ 0 ∷ 0 ∷ 1 ∷ [])
+
+-- 0x04030201, −1, and the lowest and the highest number; then a blank
+abbrev pub sampleTables : Tables
+sampleTables =
+    ((Present (pos 67305985) ∷ Present (negsuc 0) ∷ []) ∷ (Present (negsuc 2147483647) ∷ Present (pos 2147483647) ∷ []) ∷ [])
+    ∷ []
+    ∷ ((Blank ∷ []) ∷ [])
+    ∷ []
+
+pub record Edge : Type 0 where
+  pub file : List ℕ
+  pub refusal : Option ℕ
+
+infix 10 _refused_
+abbrev _refused_ : List ℕ → ℕ → Edge
+f refused n = record { file = f; refusal = some n }
+
+abbrev accepted : List ℕ → Edge
+accepted f = record { file = f; refusal = none }
+
+-- t tables of one column and no rows
+abbrev empties : ℕ → List ℕ
+empties zero = []
+empties (suc t) = 1 ∷ 0 ∷ 0 ∷ empties t
+
+-- the number of tables and of columns, the length, and the marks; with a wrong size and a wrong mark, 1 is the lower
+unfoldable pub edges : List Edge
+edges =
+    ([] refused 1) ∷ ((0 ∷ []) refused 1) ∷ accepted (8 ∷ empties 8) ∷ ((9 ∷ empties 9) refused 1)
+    ∷ ((1 ∷ 0 ∷ 0 ∷ 0 ∷ []) refused 1) ∷ accepted (1 ∷ 16 ∷ 0 ∷ 0 ∷ []) ∷ ((1 ∷ 17 ∷ 0 ∷ 0 ∷ []) refused 1)
+    ∷ ((1 ∷ 1 ∷ 1 ∷ 0 ∷ replicate 4 0) refused 1) ∷ accepted (1 ∷ 1 ∷ 1 ∷ 0 ∷ replicate 5 0) ∷ ((1 ∷ 1 ∷ 1 ∷ 0 ∷ replicate 6 0) refused 1)
+    ∷ accepted (1 ∷ 1 ∷ 1 ∷ 0 ∷ replicate 5 1) ∷ ((1 ∷ 1 ∷ 1 ∷ 0 ∷ replicate 5 2) refused 2) ∷ ((1 ∷ 1 ∷ 1 ∷ 0 ∷ replicate 6 2) refused 1) ∷ []
+
+abbrev pub refusalAt : Edge → Option ℕ
+refusalAt e = lowest (tablesRefusals (e .file))
