@@ -1,9 +1,9 @@
 -- An accepted text is just what the grammar, names and limits allow.
-use mathlib.Core.Path.{_≡_, refl, sym, ap, _∙_}
+use mathlib.Core.Path.{_≡_, refl, sym, ap, subst, _∙_}
 use mathlib.Core.Bool.{Bool, true, false, not, _&&_}
 use mathlib.Core.List.{List, [], _∷_, _++_}
 use mathlib.Core.Logic.{_↔_}
-use mathlib.Core.Option.{Option, none, some}
+use mathlib.Core.Option.{Option, none, some, Option·some-injective}
 use Prim.Native.Nat.{ℕ, suc, _+_, _≤_, max}
 use native.Mathlib.Omega.{arith}
 use borrow.Author.Tests.{ltb-false, le-ltb, leb-true, le-leb, not-false, not-true}
@@ -12,7 +12,8 @@ use lib.IntN.{pos}
 use lib.ListN.{length}
 use Rattle.tables.specs.Lists.{_>>=_, isMissing}
 use Rattle.tables.specs.Tables.{sizesFit, marksFit, columnsOf}
-use Rattle.tables.specs.Refusals.{Refusal, _if_, lowest, tablesRefusals}
+use Rattle.tables.specs.Refusals.{tablesRefusals}
+use Rattle.tables.proofs.Refusals.{lowest-nil, lowest-none, none-lowest}
 use Rattle.rule.specs.Tokens.{tokensOf, opensFit}
 use Rattle.rule.specs.Condition.{Alone, Join, Not, Exists, Listed, Over, Text, Rule, parts, fromsDeep}
 use Rattle.rule.specs.Grammar.{Tokens}
@@ -21,24 +22,10 @@ use Rattle.rule.specs.Names.{mostParts, mostFroms, limitsFit, Scope, out
 use Rattle.rule.specs.Calls.{mostBytes, fails, isThere, textOf, ruleOf, readingRefusals, Accepted}
 use Rattle.rule.specs.Claims.{Allowed, AcceptedClaim, AcceptedRule, PartsClaim}
 use Rattle.rule.proofs.Reading.{read-sound, read-complete}
-use Rattle.rule.proofs.Levels.{names-scoped, names-sized}
+use Rattle.rule.proofs.Sizes.{names-sized}
+use Rattle.rule.proofs.Constants.{tokens-fit, reading-constants}
+use Rattle.rule.proofs.Fits.{Fits, names-fit, fits-scoped}
 use Rattle.rule.proofs.Parts.{parts-back, parts-length}
-
--- ---- no refusal of a list applies
-
-none-lowest : (n : ℕ) (b : Bool) (rs : List Refusal) → lowest ((n if b) ∷ rs) ≡ none → (b ≡ false) × (lowest rs ≡ none)
-unfolding lowest
-none-lowest n true rs e = let z : _≡_ {A = ℕ} 0 1 = cc in absurd (omega arith)
-none-lowest n false rs e = (refl, e)
-
-lowest-none : (n : ℕ) (b : Bool) (rs : List Refusal) → b ≡ false → lowest rs ≡ none → lowest ((n if b) ∷ rs) ≡ none
-unfolding lowest
-lowest-none n true rs e f = let z : _≡_ {A = ℕ} 0 1 = cc in absurd (omega arith)
-lowest-none n false rs e f = f
-
-lowest-nil : lowest [] ≡ none
-unfolding lowest
-lowest-nil = refl
 
 -- something is there
 there : {A : Type 0} (o : Option A) → isMissing o ≡ false → (x : A) × (o ≡ some x)
@@ -91,7 +78,7 @@ limits-of : (a : Text) → parts a ≤ mostParts → fromsDeep a ≤ mostFroms �
 unfolding limitsFit
 limits-of a p q = rw (le-leb (parts a) mostParts p, le-leb (fromsDeep a) mostFroms q)
 
-accepted-allowed : (text file : List ℕ) → Accepted text file → Allowed text file
+pub accepted-allowed : (text file : List ℕ) → Accepted text file → Allowed text file
 unfolding textOf
 accepted-allowed text file e =
     let u = accepted-unrefused text file e in
@@ -136,15 +123,27 @@ accepted-claim text file = (accepted-allowed text file, allowed-accepted text fi
 
 -- ---- the rule of an accepted text
 
+module _ (text file : List ℕ) (e : Accepted text file) where
+  -- it is the rule that the text reads as
+  pub accepted-is : (r : Rule) × (ruleOf text (columnsOf file) ≡ some r) × Fits (columnsOf file) (1 ∷ []) r × (parts r ≤ mostParts) × (fromsDeep r ≤ mostFroms)
+  unfolding ruleOf textOf
+  accepted-is =
+      let w = accepted-allowed text file e in
+      let read : textOf text ≡ some (w .condition) = ap (_>>= readAll) (w .are-tokens) ∙ read-complete (w .tokens) (w .condition) (w .reads) in
+      let constants = reading-constants (w .reads) (tokens-fit text (w .are-tokens)) in
+      let size = names-sized (columnsOf file) (w .condition) (w .names) in
+      let few = w .few-parts in
+      let shallow = w .few-froms in
+      (w .rule, ap (_>>= ruleIn (columnsOf file) outermost) read ∙ w .names, names-fit (columnsOf file) (w .condition) constants (w .names), omega arith, omega arith)
+
+  accepted-rule : AcceptedRule (accepted-is .0)
+  accepted-rule =
+      let r = accepted-is .0 in
+      let scoped = fits-scoped (columnsOf file) 1 (1 ∷ []) refl r (accepted-is .2) in
+      let deep : fromsDeep r ≤ 3 = accepted-is .4 in
+      record { scoped = scoped; few-parts = accepted-is .3; few-froms = deep; records = parts-length r 0; back = parts-back r deep scoped }
+
 pub parts-claim : PartsClaim
-unfolding ruleOf textOf
 parts-claim text file e r is =
-    let w = accepted-allowed text file e in
-    let read : textOf text ≡ some (w .condition) = ap (_>>= readAll) (w .are-tokens) ∙ read-complete (w .tokens) (w .condition) (w .reads) in
-    let names : ruleIn (columnsOf file) outermost (w .condition) ≡ some r = sym (ap (_>>= ruleIn (columnsOf file) outermost) read) ∙ is in
-    let size = names-sized (columnsOf file) (w .condition) names in
-    let scoped = names-scoped (columnsOf file) (w .condition) names in
-    let few = w .few-parts in
-    let shallow = w .few-froms in
-    let deep : fromsDeep r ≤ mostFroms = omega arith in
-    record { scoped = scoped; few-parts = omega arith; few-froms = deep; records = parts-length r 0; back = parts-back r deep scoped }
+    let same : some (accepted-is text file e .0) ≡ some r = sym (accepted-is text file e .1) ∙ is in
+    subst AcceptedRule (Option·some-injective _ _ same) (accepted-rule text file e)

@@ -1,7 +1,10 @@
 pub mod Opened
 pub mod Computed
+pub mod Every
 pub mod Found
 pub mod Reading
-pub mod Levels
+pub mod Constants
+pub mod Sizes
+pub mod Fits
 pub mod Parts
 pub mod Accepted

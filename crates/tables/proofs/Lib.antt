@@ -1,3 +1,5 @@
 pub mod Values
 pub mod Opened
 pub mod Computed
+pub mod Refusals
+pub mod Sizes

@@ -15,7 +15,7 @@ entries-negated (Both j a b) = simp (entries-negated a, entries-negated b)
 entries-negated (Rows q t c) = simp (entries-negated c)
 
 -- without a difference: what the entries and the NOTs come to
-card-sum : (i : Interpretation) (r : Rule) → (nots r ≤ parts r) × (entries (cardOf i r) + nots r ≡ parts r + 2 * lists r)
+pub card-sum : (i : Interpretation) (r : Rule) → (nots r ≤ parts r) × (entries (cardOf i r) + nots r ≡ parts r + 2 * lists r)
 unfolding entries cardOf parts nots lists
 card-sum i (Alone x) = omega arith
 card-sum i (Join j a b) = omega (arith, card-sum i a, card-sum i b)

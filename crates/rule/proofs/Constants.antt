@@ -1,0 +1,139 @@
+-- The numbers of an accepted text have 32 bits: from its tokens to the constants of its condition.
+use mathlib.Core.Path.{_≡_, refl}
+use mathlib.Core.Bool.{Bool, true, false, _&&_}
+use mathlib.Core.List.{List, [], _∷_}
+use mathlib.Core.Option.{Option, none, some, Option·map}
+use Prim.Native.Nat.{ℕ, zero, suc, _+_, pred}
+use lib.Dec.{T, eqb}
+use lib.Ieee.Fits.{and-r}
+use lib.IntN.{ℤ, pos, negℤ}
+use lib.ListN.{length}
+use Rattle.tables.specs.Lists.{same, only}
+use Rattle.tables.specs.Bytes.{between, inRange}
+use Rattle.rule.specs.Tokens.{Token, Fixed, Compares, Letter, Number, Spelling, words, signs, isGap, isCapital, isSmall, isDigit, run, Lexed, wordIn, begins, signIn, mostDigits, spelled, numberFrom, firstToken, andThen, tokensAfter, tokensOf}
+use Rattle.rule.specs.Condition.{Test, Compare, IsNull, IsNotNull, Condition, Alone, Join, Not, Exists, Listed, Written, Plain, Named, From, Text}
+use Rattle.rule.specs.Grammar.{Tokens, IsValue, number, column, IsCondition, one-conjunction, joined-by-or, IsConjunction, one-factor, joined-by-and, IsFactor, not-factor, one-test, IsTest, bracketed, exists, is-null, is-not-null, compared, some-of, all-of, is-in, not-in, IsList, list}
+use Rattle.rule.proofs.Every.{Every, missing, there, found}
+
+-- ---- tokens
+
+abbrev TokenFits : Token → Type 0
+TokenFits (Fixed k) = Unit {0}
+TokenFits (Compares op) = Unit {0}
+TokenFits (Letter x) = Unit {0}
+TokenFits (Number n) = T (inRange n)
+
+abbrev pub TokensFit : Tokens → Type 0
+TokensFit [] = Unit {0}
+TokensFit (t ∷ ts) = TokenFits t × TokensFit ts
+
+abbrev LexedFits : Lexed → Type 0
+LexedFits x = TokenFits (x .0)
+
+abbrev SpellingsFit : List Spelling → Type 0
+SpellingsFit [] = Unit {0}
+SpellingsFit (s ∷ ss) = TokenFits (s .token) × SpellingsFit ss
+
+-- a test between something found and what else is looked for
+either : {A : Type 0} (P : A → Type 0) (b : Bool) {x y : Option A} → Every P x → Every P y → Every P (elim b [ true ↦ x | false ↦ y ])
+either P true p q = p
+either P false p q = q
+
+word-fits : (ss : List Spelling) (w : List ℕ) → SpellingsFit ss → Every LexedFits (wordIn ss w)
+unfolding wordIn
+word-fits [] w f = missing
+word-fits (s ∷ ss) w f = either LexedFits (same (s .text) w) (there (f .0)) (word-fits ss w (f .1))
+
+sign-fits : (ss : List Spelling) (text : List ℕ) → SpellingsFit ss → Every LexedFits (signIn ss text)
+unfolding signIn
+sign-fits [] text f = missing
+sign-fits (s ∷ ss) text f = either LexedFits (begins (s .text) text) (there (f .0)) (sign-fits ss text (f .1))
+
+number-fits : (sign : ℕ → ℤ) (before : ℕ) (digits : List ℕ) → Every LexedFits (numberFrom sign before digits)
+unfolding numberFrom
+number-fits sign before digits = go (between 1 mostDigits (length digits)) (inRange (sign (spelled 0 digits))) refl
+  where
+    go : (a b : Bool) → inRange (sign (spelled 0 digits)) ≡ b → Every LexedFits (only (a && b) (Number (sign (spelled 0 digits)), before + length digits))
+    go true true e = let f : T (inRange (sign (spelled 0 digits))) = rw e tt in there f
+    go true false e = missing
+    go false b e = missing
+
+first-fits : (b : ℕ) (bs : List ℕ) → Every LexedFits (firstToken b bs)
+unfolding firstToken words signs
+first-fits b bs =
+    either LexedFits (isCapital b) (word-fits words (run isCapital (b ∷ bs)) (tt, (tt, (tt, (tt, (tt, (tt, (tt, (tt, (tt, (tt, (tt, (tt, tt)))))))))))))
+    (either LexedFits (isSmall b) (there tt)
+    (either LexedFits (isDigit b) (number-fits pos 0 (run isDigit (b ∷ bs)))
+    (either LexedFits (eqb b 45) (number-fits (λ n. negℤ (pos n)) 1 (run isDigit bs)) (sign-fits signs (b ∷ bs) (tt, (tt, (tt, (tt, (tt, (tt, (tt, (tt, (tt, tt)))))))))))))
+
+then-fits : (o : Option Lexed) (behind : ℕ → Option Tokens) → Every LexedFits o → ((n : ℕ) → Every TokensFit (behind n)) → Every TokensFit (andThen o behind)
+then-fits none behind missing h = missing
+then-fits (some x) behind (there f) h = go (behind (pred (x .1))) (h (pred (x .1)))
+  where
+    go : (o : Option Tokens) → Every TokensFit o → Every TokensFit (Option·map (λ ts. x .0 ∷ ts) o)
+    go none missing = missing
+    go (some ts) (there g) = let h : TokensFit (x .0 ∷ ts) = (f, g) in there h
+
+after-fits : (text : List ℕ) (n : ℕ) → Every TokensFit (tokensAfter n text)
+unfolding tokensAfter
+after-fits [] n = there tt
+after-fits (b ∷ bs) (suc n) = after-fits bs n
+after-fits (b ∷ bs) zero = either TokensFit (isGap b) (after-fits bs 0) (then-fits (firstToken b bs) (λ n. tokensAfter n bs) (first-fits b bs) (λ n. after-fits bs n))
+
+pub tokens-fit : (text : List ℕ) {ts : Tokens} → tokensOf text ≡ some ts → TokensFit ts
+unfolding tokensOf
+tokens-fit text e = found (rw e at (after-fits text 0))
+
+-- ---- conditions
+
+abbrev pub WrittenFits : Written → Type 0
+WrittenFits (Plain k) = T (inRange k)
+WrittenFits (Named x n) = Unit {0}
+
+abbrev pub TestConstants : Test Written → Type 0
+TestConstants (Compare op l r) = WrittenFits l × WrittenFits r
+TestConstants (IsNull l) = WrittenFits l
+TestConstants (IsNotNull l) = WrittenFits l
+
+unfoldable pub Constants : Text → Type 0
+Constants (Alone x) = TestConstants x
+Constants (Join j a b) = Constants a × Constants b
+Constants (Not a) = Constants a
+Constants (Exists f w) = Constants w
+Constants (Listed q op l s f w) = WrittenFits l × WrittenFits s × Constants w
+
+value-constants : {ts rest : Tokens} {v : Written} → IsValue ts v rest → TokensFit ts → WrittenFits v × TokensFit rest
+value-constants number f = (f .0, f .1)
+value-constants column f = (tt, f .1 .1 .1)
+
+mutual
+  unfolding Constants
+
+  condition-constants : {ts rest : Tokens} {a : Text} → IsCondition ts a rest → TokensFit ts → Constants a × TokensFit rest
+  condition-constants (one-conjunction r) f = conjunction-constants r f
+  condition-constants (joined-by-or r q) f = let x = condition-constants r f in let y = conjunction-constants q (x .1 .1) in ((x .0, y .0), y .1)
+
+  conjunction-constants : {ts rest : Tokens} {a : Text} → IsConjunction ts a rest → TokensFit ts → Constants a × TokensFit rest
+  conjunction-constants (one-factor r) f = factor-constants r f
+  conjunction-constants (joined-by-and r q) f = let x = conjunction-constants r f in let y = factor-constants q (x .1 .1) in ((x .0, y .0), y .1)
+
+  factor-constants : {ts rest : Tokens} {a : Text} → IsFactor ts a rest → TokensFit ts → Constants a × TokensFit rest
+  factor-constants (not-factor r) f = factor-constants r (f .1)
+  factor-constants (one-test r) f = test-constants r f
+
+  test-constants : {ts rest : Tokens} {a : Text} → IsTest ts a rest → TokensFit ts → Constants a × TokensFit rest
+  test-constants (bracketed r) f = let x = condition-constants r (f .1) in (x .0, x .1 .1)
+  test-constants (exists r) f = let x = condition-constants r (f .1 .1 .1 .1 .1 .1) in (x .0, x .1 .1)
+  test-constants (is-null v) f = let x = value-constants v f in (x .0, x .1 .1 .1)
+  test-constants (is-not-null v) f = let x = value-constants v f in (x .0, x .1 .1 .1 .1)
+  test-constants (compared v w) f = let x = value-constants v f in let y = value-constants w (x .1 .1) in ((x .0, y .0), y .1)
+  test-constants (some-of v r) f = let x = value-constants v f in let y = list-constants r (x .1 .1 .1) in ((x .0, y .0, y .1), y .2)
+  test-constants (all-of v r) f = let x = value-constants v f in let y = list-constants r (x .1 .1 .1) in ((x .0, y .0, y .1), y .2)
+  test-constants (is-in v r) f = let x = value-constants v f in let y = list-constants r (x .1 .1) in ((x .0, y .0, y .1), y .2)
+  test-constants (not-in v r) f = let x = value-constants v f in let y = list-constants r (x .1 .1 .1) in ((x .0, y .0, y .1), y .2)
+
+  list-constants : {ts rest : Tokens} {s : Written} {g : From} {w : Text} → IsList ts s g w rest → TokensFit ts → WrittenFits s × Constants w × TokensFit rest
+  list-constants (list v r) f = let x = value-constants v (f .1 .1) in let y = condition-constants r (x .1 .1 .1 .1 .1) in (x .0, y .0, y .1 .1)
+
+pub reading-constants : {ts rest : Tokens} {a : Text} → IsCondition ts a rest → TokensFit ts → Constants a
+reading-constants r f = condition-constants r f .0

@@ -1,0 +1,137 @@
+-- The rule of an accepted text names existing tables, columns and levels alone, and its constants have 32 bits.
+use mathlib.Core.Path.{_≡_, refl, sym, ap, _∙_}
+use mathlib.Core.Bool.{Bool, true, false, _&&_}
+use mathlib.Core.List.{List, [], _∷_, _++_}
+use mathlib.Core.Option.{Option, none, some}
+use Prim.Native.Nat.{ℕ, zero, suc, _+_, _<_, _≤_}
+use native.Mathlib.Omega.{arith}
+use lib.Dec.{T, eqb}
+use lib.IntN.{ℤ, pos, negsuc}
+use lib.ListN.{length, getD, length-append, List·getD-append}
+use lib.Seq.{getD-append-seam}
+use Rattle.tables.specs.Lists.{numbered, only, _>>=_}
+use Rattle.tables.specs.Bytes.{between, inRange}
+use Rattle.tables.specs.Values.{Value, Constant, Column}
+use Rattle.rule.specs.Condition.{Test, Compare, IsNull, IsNotNull, Condition, Alone, Join, Not, Exists, Listed, Written, Plain, Named, From, Over, Text, Rule}
+use Rattle.rule.specs.Names.{Binding, Scope, outermost, bound, nearest, existing, valueIn, testIn, ruleIn, ValueScoped, Scoped}
+use Rattle.rule.proofs.Every.{Every, missing, there, found, every-bind}
+use Rattle.rule.proofs.Constants.{WrittenFits, TestConstants, Constants}
+
+-- columns has the columns of each table, levels the table of each level
+module _ (columns : List ℕ) where
+  abbrev pub ValueFits : List ℕ → Value → Type 0
+  ValueFits levels (Constant k) = T (inRange k)
+  ValueFits levels (Column l c) = (l < length levels) × T (between 1 (numbered columns (getD levels l 0) 0) c)
+
+  abbrev pub TestFits : List ℕ → Test Value → Type 0
+  TestFits levels (Compare op l r) = ValueFits levels l × ValueFits levels r
+  TestFits levels (IsNull l) = ValueFits levels l
+  TestFits levels (IsNotNull l) = ValueFits levels l
+
+  abbrev pub TableFits : ℕ → Type 0
+  TableFits t = T (between 1 (length columns) t)
+
+  unfoldable pub Fits : List ℕ → Rule → Type 0
+  Fits levels (Alone x) = TestFits levels x
+  Fits levels (Join j a b) = Fits levels a × Fits levels b
+  Fits levels (Not a) = Fits levels a
+  Fits levels (Exists t w) = TableFits t × Fits (levels ++ (t ∷ [])) w
+  Fits levels (Listed q op l s t w) = TableFits t × ValueFits levels l × ValueFits (levels ++ (t ∷ [])) s × Fits (levels ++ (t ∷ [])) w
+
+-- a binding's level has the binding's table
+abbrev InPlace : List ℕ → Binding → Type 0
+InPlace levels b = (b .level < length levels) × (getD levels (b .level) 0 ≡ b .table)
+
+-- and so for every binding of a scope
+data Placed (levels : List ℕ) : Scope → Type 0 where
+  none-placed : Placed levels []
+  one-placed : {b : Binding} {scope : Scope} → InPlace levels b → Placed levels scope → Placed levels (b ∷ scope)
+
+deeper : {levels : List ℕ} {scope : Scope} (t : ℕ) → Placed levels scope → Placed (levels ++ (t ∷ [])) scope
+deeper t none-placed = none-placed
+deeper {levels} t (one-placed {b = b} p r) =
+    let far : b .level < length (levels ++ (t ∷ [])) = simp length-append (omega (arith, p .0)) in
+    let q : InPlace (levels ++ (t ∷ [])) b = (far, List·getD-append levels (t ∷ []) 0 (b .level) (p .0) ∙ p .1) in
+    one-placed q (deeper t r)
+
+-- one more FROM
+bound-placed : {levels : List ℕ} {scope : Scope} (x t : ℕ) → length scope ≡ length levels → Placed levels scope → Placed (levels ++ (t ∷ [])) (bound scope x t)
+bound-placed {levels} {scope} x t e p =
+    let far : length scope < length (levels ++ (t ∷ [])) = simp length-append (omega arith) in
+    let q : InPlace (levels ++ (t ∷ [])) (record { letter = x; level = length scope; table = t }) = (far, ap (λ (n : ℕ). getD (levels ++ (t ∷ [])) n 0) e ∙ getD-append-seam levels t [] 0) in
+    one-placed q (deeper t p)
+
+one-longer : (levels : List ℕ) (n t : ℕ) → n ≡ length levels → suc n ≡ length (levels ++ (t ∷ []))
+one-longer levels n t e = simp length-append (omega arith)
+
+nearest-placed : {levels : List ℕ} {scope : Scope} → Placed levels scope → (x : ℕ) → Every (InPlace levels) (nearest scope x)
+unfolding nearest
+nearest-placed none-placed x = missing
+nearest-placed {levels} (one-placed {b = b} {scope = scope} h r) x = go (eqb (b .letter) x) (nearest-placed r x)
+  where
+    go : (t : Bool) → Every (InPlace levels) (nearest scope x) → Every (InPlace levels) (elim t [ true ↦ some b | false ↦ nearest scope x ])
+    go true e = there h
+    go false e = e
+
+existing-fits : (most : ℕ) (z : ℤ) → Every (λ n. T (between 1 most n)) (existing most z)
+existing-fits most (pos n) = go (between 1 most n) refl
+  where
+    go : (b : Bool) → between 1 most n ≡ b → Every (λ n. T (between 1 most n)) (only b n)
+    go true e = let f : T (between 1 most n) = rw e tt in there f
+    go false e = missing
+existing-fits most (negsuc n) = missing
+
+module _ (columns : List ℕ) where
+  value-fits : {levels : List ℕ} {scope : Scope} → Placed levels scope → (v : Written) → WrittenFits v → Every (ValueFits columns levels) (valueIn columns scope v)
+  unfolding valueIn
+  value-fits p (Plain k) f = there f
+  value-fits {levels} p (Named x m) f =
+      every-bind (InPlace levels) (ValueFits columns levels) _ (nearest-placed p x) (λ b h.
+      every-bind (λ n. T (between 1 (numbered columns (b .table) 0) n)) (ValueFits columns levels) _ (existing-fits (numbered columns (b .table) 0) m) (λ c g.
+      let q : ValueFits columns levels (Column (b .level) c) = (h .0, rw (h .1) g) in there q))
+
+  test-fits : {levels : List ℕ} {scope : Scope} → Placed levels scope → (x : Test Written) → TestConstants x → Every (TestFits columns levels) (testIn columns scope x)
+  unfolding testIn
+  test-fits p (Compare op l r) f =
+      every-bind (ValueFits columns _) (TestFits columns _) _ (value-fits p l (f .0)) (λ x h. every-bind (ValueFits columns _) (TestFits columns _) _ (value-fits p r (f .1)) (λ y g. there (h, g)))
+  test-fits p (IsNull l) f = every-bind (ValueFits columns _) (TestFits columns _) _ (value-fits p l f) (λ x h. there h)
+  test-fits p (IsNotNull l) f = every-bind (ValueFits columns _) (TestFits columns _) _ (value-fits p l f) (λ x h. there h)
+
+  rule-fits : {levels : List ℕ} {scope : Scope} → length scope ≡ length levels → Placed levels scope → (a : Text) → Constants a → Every (Fits columns levels) (ruleIn columns scope a)
+  unfolding ruleIn Fits Constants
+  rule-fits e p (Alone x) f = every-bind (TestFits columns _) (Fits columns _) _ (test-fits p x f) (λ y h. there h)
+  rule-fits e p (Join j a b) f = every-bind (Fits columns _) (Fits columns _) _ (rule-fits e p a (f .0)) (λ x h. every-bind (Fits columns _) (Fits columns _) _ (rule-fits e p b (f .1)) (λ y g. there (h, g)))
+  rule-fits e p (Not a) f = every-bind (Fits columns _) (Fits columns _) _ (rule-fits e p a f) (λ x h. there h)
+  rule-fits {levels} {scope} e p (Exists (Over n x) w) f =
+      every-bind (TableFits columns) (Fits columns levels) _ (existing-fits (length columns) n) (λ t g.
+      every-bind (Fits columns (levels ++ (t ∷ []))) (Fits columns levels) _ (rule-fits (one-longer levels (length scope) t e) (bound-placed x t e p) w f) (λ w′ h. there (g, h)))
+  rule-fits {levels} {scope} e p (Listed q op l s (Over n x) w) f =
+      every-bind (TableFits columns) (Fits columns levels) _ (existing-fits (length columns) n) (λ t g.
+      every-bind (ValueFits columns levels) (Fits columns levels) _ (value-fits p l (f .0)) (λ l′ hl.
+      every-bind (ValueFits columns (levels ++ (t ∷ []))) (Fits columns levels) _ (value-fits (bound-placed x t e p) s (f .1)) (λ s′ hs.
+      every-bind (Fits columns (levels ++ (t ∷ []))) (Fits columns levels) _ (rule-fits (one-longer levels (length scope) t e) (bound-placed x t e p) w (f .2)) (λ w′ h. there (g, hl, hs, h)))))
+
+  -- a whole rule: level 0 is table 1
+  pub names-fit : (a : Text) {r : Rule} → Constants a → ruleIn columns outermost a ≡ some r → Fits columns (1 ∷ []) r
+  names-fit a f e =
+      let b : InPlace (1 ∷ []) (record { letter = 109; level = 0; table = 1 }) = (omega arith, refl) in
+      found (rw e at (rule-fits {levels = 1 ∷ []} {scope = outermost} refl (one-placed b none-placed) a f))
+
+  -- the levels that it names exist
+  value-scoped : (n : ℕ) (levels : List ℕ) → n ≡ length levels → (v : Value) → ValueFits columns levels v → ValueScoped n v
+  value-scoped n levels e (Constant k) f = tt
+  value-scoped n levels e (Column l c) f = omega (arith, f .0)
+
+  pub fits-scoped : (n : ℕ) (levels : List ℕ) → n ≡ length levels → (r : Rule) → Fits columns levels r → Scoped n r
+  unfolding Fits Scoped
+  fits-scoped n levels e (Alone (Compare op l r)) f = (value-scoped n levels e l (f .0), value-scoped n levels e r (f .1))
+  fits-scoped n levels e (Alone (IsNull l)) f = value-scoped n levels e l f
+  fits-scoped n levels e (Alone (IsNotNull l)) f = value-scoped n levels e l f
+  fits-scoped n levels e (Join j a b) f = (fits-scoped n levels e a (f .0), fits-scoped n levels e b (f .1))
+  fits-scoped n levels e (Not a) f = fits-scoped n levels e a f
+  fits-scoped n levels e (Exists t w) f = fits-scoped (suc n) (levels ++ (t ∷ [])) (one-longer levels n t e) w (f .1)
+  fits-scoped n levels e (Listed q op l s t w) f = (
+    value-scoped n levels e l (f .1),
+    value-scoped (suc n) (levels ++ (t ∷ [])) (one-longer levels n t e) s (f .2),
+    fits-scoped (suc n) (levels ++ (t ∷ [])) (one-longer levels n t e) w (f .3),
+  )
