@@ -30,8 +30,8 @@ use Rattle.rule.proofs.Accepted.{accepted-allowed, accepted-is}
 use Rattle.rule.proofs.Fits.{Fits, fits-scoped}
 use Rattle.translation.specs.Translation.{ruleCard, entrySum}
 use Rattle.translation.specs.Calls.{ruleBytes, cardCall}
-use Rattle.translation.specs.Claims.{SumClaim}
-use Rattle.translation.specs.Demand3.{Later, trueAt, publishedLength, CardClaim, RunClaim, trueRows, ListClaim, Demand3For, Demand3}
+use Rattle.translation.specs.Claims.{Demand3Claim}
+use Rattle.translation.specs.Demand3.{Later, trueAt, publishedLength, CardClaim, RunClaim, trueRows, ListClaim, Demand3For}
 use Rattle.translation.proofs.Sums.{sum-claim, card-sum}
 use Rattle.translation.proofs.Says.{translation-claim}
 use Rattle.translation.proofs.Fits.{card-fits}
@@ -138,8 +138,8 @@ module _ (text file : List ℕ) (accepted : Accepted text file) where
           long = λ l. is ∙ lend-long (gateRefusals card later) (trueRows later rule) buffer no-refusal l;
         }
 
-pub demand-3 : Demand3
-demand-3 text file e = record {
+pub demand-3-claim : Demand3Claim
+demand-3-claim text file e = record {
   rule = rule text file e;
   is-rule = accepted-is text file e .1;
   cards = card-claim text file e;

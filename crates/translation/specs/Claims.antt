@@ -10,9 +10,11 @@ use Rattle.tables.specs.Refusals.{filledWith}
 use Rattle.card.specs.Card.{AsNo, AsYes, Card, answer, entries}
 use Rattle.rule.specs.Condition.{Rule}
 use Rattle.rule.specs.Names.{Scoped}
+use Rattle.rule.specs.Calls.{Accepted}
 use Rattle.rule.specs.Meaning.{isTrue, isFalse, meaning}
 use Rattle.translation.specs.Translation.{negated, cardOf, ruleCard, entrySum}
 use Rattle.translation.specs.Calls.{cardCall}
+use Rattle.translation.specs.Demand3.{Demand3For}
 use Rattle.translation.specs.Cases.{workedText, workedTables, workedCard, refusalExamples, refusalNumbers}
 
 -- for every rule whose levels exist, all tables and rows: false-interpreted, the card says yes exactly where the rule is true;
@@ -33,3 +35,7 @@ WorkedCardClaim = cardCall workedText workedTables (replicate 19 7) ≡ filledWi
 -- the examples of the refusal table, together
 abbrev pub RefusalsClaim : Type 0
 RefusalsClaim = refusalExamples ≡ refusalNumbers
+
+-- What demand 3 compares: "This is one claim over all rules, files, rows and lent buffers."
+abbrev pub Demand3Claim : Type 0
+Demand3Claim = (text file : List ℕ) → Accepted text file → Demand3For text file

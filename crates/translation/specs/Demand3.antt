@@ -11,7 +11,7 @@ use Rattle.card.specs.Layout.{cardLength}
 use Rattle.card.specs.Calls.{rowsWhere, runCall, listCall}
 use Rattle.rule.specs.Condition.{Rule}
 use Rattle.rule.specs.Meaning.{judged, isTrue}
-use Rattle.rule.specs.Calls.{ruleOf, Accepted}
+use Rattle.rule.specs.Calls.{ruleOf}
 use Rattle.translation.specs.Translation.{entrySum}
 use Rattle.translation.specs.Calls.{ruleBytes, cardCall}
 
@@ -56,7 +56,3 @@ pub record Demand3For (text file : List ℕ) : Type 0 where
   pub cards : (buffer : List ℕ) → CardClaim text file rule buffer
   pub runs : (later : List ℕ) → Later file later → (row : ℕ) → RunClaim (ruleBytes file rule) later rule row
   pub listings : (later : List ℕ) → Later file later → (buffer : List ℕ) → ListClaim (ruleBytes file rule) later rule buffer
-
--- "This is one claim over all rules, files, rows and lent buffers."
-abbrev pub Demand3 : Type 0
-Demand3 = (text file : List ℕ) → Accepted text file → Demand3For text file
