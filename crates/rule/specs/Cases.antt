@@ -100,9 +100,9 @@ chained (suc n) = bytes "1 = 1 OR " ++ chained n
 
 unfoldable pub edges : List Edge
 edges =
-    -- tokens: two letters, no word, two numbers, 10 and 11 digits, the ends of the range, a lone minus, another byte
+    -- tokens: two letters, no word, two numbers, 10 and 11 digits, the ends of the range, a lone minus, another byte, signs of two bytes
     (bytes "ab" refused 6) ∷ (bytes "1 = 1 ANDOR 1 = 1" refused 4) ∷ (bytes "1-2" refused 6) ∷ accepted (bytes "0000000001=-1") ∷ (bytes "00000000001 = 1" refused 4)
-    ∷ accepted (bytes "2147483647 > -2147483648") ∷ (bytes "1 = -2147483649" refused 4) ∷ (bytes "1 = -" refused 4) ∷ (bytes "1 =\t1" refused 4)
+    ∷ accepted (bytes "2147483647 > -2147483648") ∷ (bytes "1 = -2147483649" refused 4) ∷ (bytes "1 = -" refused 4) ∷ (bytes "1 =\t1" refused 4) ∷ accepted (bytes "m.1<=m.2 AND m.1>=1 AND m.1<>m.2")
     -- a bad token at the end comes before brackets at the start
     ∷ ((replicate 33 40 ++ bytes "!") refused 4)
     -- brackets: 32 open may pass, a ) before them counts, and grammar comes after them
