@@ -13,10 +13,10 @@ use lib.ListN.{length, getD, drop, length-append}
 use Rattle.tables.specs.Lists.{tabulate, numbered, all, only}
 use Rattle.tables.specs.Bytes.{between, byteAt, word32, bytes32, signed, bits, inRange}
 use Rattle.tables.specs.Tables.{mostTables, mostColumns}
-use Rattle.tables.specs.Values.{Value, Constant, Column, Comparison, Eq, Ne, Lt, Le, Gt, Ge, comparisonNumber, comparisonOf, And, Or, Some, All}
-use Rattle.card.specs.Card.{mostRowEntries, AsNo, AsYes, Leaf, Compare, IsNull, NotNull, Card, At, Both, Rows, entries, valueFits, leafFits, rowsFit, cardFits}
-use Rattle.card.specs.Layout.{constantTag, Head, AtHead, BothHead, RowsHead, kindOf, valueBytes, noValue, recordBytes, cardBytes, valueOf, valueFrom, zeros, headFrom, inside, entryFrom, cardFrom}
-use Rattle.card.specs.Sound.{mostEntries, columnsFit, judgedLevels, sound, Sound}
+use Rattle.tables.specs.Values.{constantTag, judgedLevels, Value, Constant, Column, Comparison, Eq, Ne, Lt, Le, Gt, Ge, comparisonNumber, comparisonOf, And, Or, Some, All}
+use Rattle.card.specs.Card.{mostRowEntries, AsNo, AsYes, Leaf, CompareLeaf, BlankLeaf, NotBlankLeaf, Card, LeafEntry, PairEntry, RowEntry, entries, valueFits, leafFits, rowsFit, cardFits}
+use Rattle.card.specs.Layout.{Head, LeafHead, PairHead, RowHead, kindOf, valueBytes, noValue, recordBytes, cardBytes, valueOf, valueFrom, zeros, headFrom, inside, entryFrom, cardFrom}
+use Rattle.card.specs.Sound.{mostEntries, columnsFit, sound, Sound}
 use Rattle.tables.proofs.Values.{comparison-back}
 use Rattle.card.proofs.Places.{at, at0, skip-to, both, bounds, is-true, from16, from32, bits-small, signed-bits}
 use Rattle.card.proofs.Walk.{value-length, card-length, headOf, Stands, kind-there, record-there, stands-row, stands-left, stands-right, tables-back, columns-back, count-back, card-stands}
@@ -48,11 +48,11 @@ value-back (Column l c) bs i r s d =
     ap₂ valueOf (at0 bs i _ d) n ∙ simp (ne-eqb l constantTag (omega arith))
 
 abbrev HeadShort : Head → Type 0
-HeadShort (BothHead j) = Unit {0}
-HeadShort (RowsHead q t) = Unit {0}
-HeadShort (AtHead (Compare u op l r)) = ValueShort l × ValueShort r
-HeadShort (AtHead (IsNull l)) = ValueShort l
-HeadShort (AtHead (NotNull l)) = ValueShort l
+HeadShort (PairHead j) = Unit {0}
+HeadShort (RowHead q t) = Unit {0}
+HeadShort (LeafHead (CompareLeaf u op l r)) = ValueShort l × ValueShort r
+HeadShort (LeafHead (BlankLeaf l)) = ValueShort l
+HeadShort (LeafHead (NotBlankLeaf l)) = ValueShort l
 
 only-true : {A : Type 0} {t : Bool} {x y : A} → t ≡ true → x ≡ y → only t x ≡ some y
 only-true e p = ap₂ only e p
@@ -69,7 +69,7 @@ module _ (bs : List ℕ) (l : Value) (short : ValueShort l) where
   right-back r s d = value-back r bs 9 [] s (behind (valueBytes r) d ∙ sym (append-nil (valueBytes r)))
 
   -- so that the right value's place has zeros
-  no-right : drop 4 bs ≡ valueBytes l ++ noValue → zeros bs 9 5 ≡ true
+  no-right : drop 4 bs ≡ valueBytes l ++ noValue → zeros bs 9 14 ≡ true
   unfolding zeros
   no-right d =
       let f : (k : ℕ) → eqb (byteAt bs (9 + k)) 0 ≡ eqb (byteAt noValue k) 0 = λ k. ap (λ (x : ℕ). eqb x 0) (at bs 9 k noValue (behind noValue d)) in
@@ -77,26 +77,26 @@ module _ (bs : List ℕ) (l : Value) (short : ValueShort l) where
 
 head-back : (h : Head) (e : ℕ) → HeadShort h → headFrom (kindOf h) (recordBytes e h) ≡ some h
 unfolding headFrom zeros
-head-back (BothHead And) e s = refl
-head-back (BothHead Or) e s = refl
-head-back (RowsHead Some t) e s = refl
-head-back (RowsHead All t) e s = refl
-head-back (AtHead (Compare AsNo op l r)) e s =
-    let bs = recordBytes e (AtHead (Compare AsNo op l r)) in
+head-back (PairHead And) e s = refl
+head-back (PairHead Or) e s = refl
+head-back (RowHead Some t) e s = refl
+head-back (RowHead All t) e s = refl
+head-back (LeafHead (CompareLeaf AsNo op l r)) e s =
+    let bs = recordBytes e (LeafHead (CompareLeaf AsNo op l r)) in
     let p = left-back bs l (s .0) (valueBytes r) refl in
     let q = right-back bs l (s .0) r (s .1) refl in
-    only-true (comparison-known op) (λ i. AtHead (Compare AsNo (comparison-back op i) (p i) (q i)))
-head-back (AtHead (Compare AsYes op l r)) e s =
-    let bs = recordBytes e (AtHead (Compare AsYes op l r)) in
+    only-true (comparison-known op) (λ i. LeafHead (CompareLeaf AsNo (comparison-back op i) (p i) (q i)))
+head-back (LeafHead (CompareLeaf AsYes op l r)) e s =
+    let bs = recordBytes e (LeafHead (CompareLeaf AsYes op l r)) in
     let p = left-back bs l (s .0) (valueBytes r) refl in
     let q = right-back bs l (s .0) r (s .1) refl in
-    only-true (comparison-known op) (λ i. AtHead (Compare AsYes (comparison-back op i) (p i) (q i)))
-head-back (AtHead (IsNull l)) e s =
-    let bs = recordBytes e (AtHead (IsNull l)) in
-    only-true (no-right bs l s refl) (λ i. AtHead (IsNull (left-back bs l s noValue refl i)))
-head-back (AtHead (NotNull l)) e s =
-    let bs = recordBytes e (AtHead (NotNull l)) in
-    only-true (no-right bs l s refl) (λ i. AtHead (NotNull (left-back bs l s noValue refl i)))
+    only-true (comparison-known op) (λ i. LeafHead (CompareLeaf AsYes (comparison-back op i) (p i) (q i)))
+head-back (LeafHead (BlankLeaf l)) e s =
+    let bs = recordBytes e (LeafHead (BlankLeaf l)) in
+    only-true (no-right bs l s refl) (λ i. LeafHead (BlankLeaf (left-back bs l s noValue refl i)))
+head-back (LeafHead (NotBlankLeaf l)) e s =
+    let bs = recordBytes e (LeafHead (NotBlankLeaf l)) in
+    only-true (no-right bs l s refl) (λ i. LeafHead (NotBlankLeaf (left-back bs l s noValue refl i)))
 
 -- ---- an entry with its inner ones
 
@@ -130,35 +130,35 @@ module _ (columns : List ℕ) (sized : T (columnsFit columns)) (levels : List �
       let m = few-numbered columns (getD levels l 0) (both (between 1 mostTables (length columns)) (all (between 1 mostColumns) columns) sized .1) in
       (omega arith, omega arith)
 
-  leaf-short : (x : Leaf) → T (leafFits columns levels x) → HeadShort (AtHead x)
-  leaf-short (Compare u op l r) f =
+  leaf-short : (x : Leaf) → T (leafFits columns levels x) → HeadShort (LeafHead x)
+  leaf-short (CompareLeaf u op l r) f =
       let (p, q) = both (valueFits columns levels l) (valueFits columns levels r) f in
       (value-short l p, value-short r q)
-  leaf-short (IsNull l) f = value-short l f
-  leaf-short (NotNull l) f = value-short l f
+  leaf-short (BlankLeaf l) f = value-short l f
+  leaf-short (NotBlankLeaf l) f = value-short l f
 
 -- entries that stand at i are read from there on
 module _ (bs columns : List ℕ) (sized : T (columnsFit columns)) where
   pub entry-back : (c : Card) (levels : List ℕ) (depth i : ℕ) → length levels ≤ 1 + mostRowEntries → T (cardFits columns levels c)
       → entries c ≤ depth → i + entries c < 65536 → Stands bs i c → entryFrom bs depth i ≡ some (c, i + entries c)
   unfolding entries cardFits
-  entry-back (At x) levels zero i few f l m s = absurd (omega arith)
-  entry-back (At x) levels (suc depth) i few f l m s = step-back bs i depth (At x) s m (leaf-short columns sized levels few x f) refl
-  entry-back (Both j a b) levels zero i few f l m s = absurd (omega arith)
-  entry-back (Both j a b) levels (suc depth) i few f l m s =
+  entry-back (LeafEntry x) levels zero i few f l m s = absurd (omega arith)
+  entry-back (LeafEntry x) levels (suc depth) i few f l m s = step-back bs i depth (LeafEntry x) s m (leaf-short columns sized levels few x f) refl
+  entry-back (PairEntry j a b) levels zero i few f l m s = absurd (omega arith)
+  entry-back (PairEntry j a b) levels (suc depth) i few f l m s =
       let (fa, fb) = both (cardFits columns levels a) (cardFits columns levels b) f in
       let pa = entry-back a levels depth (i + 1) few fa (omega arith) (omega arith) (stands-left s) in
       let pb = entry-back b levels depth (i + 1 + entries a) few fb (omega arith) (omega arith) (stands-right s) in
       let e : i + 1 + entries a + entries b ≡ i + (1 + entries a + entries b) = omega arith in
-      step-back bs i depth (Both j a b) s m tt (rw (pa, pb, e))
-  entry-back (Rows q t c) levels zero i few f l m s = absurd (omega arith)
-  entry-back (Rows q t c) levels (suc depth) i few f l m s =
+      step-back bs i depth (PairEntry j a b) s m tt (rw (pa, pb, e))
+  entry-back (RowEntry q t c) levels zero i few f l m s = absurd (omega arith)
+  entry-back (RowEntry q t c) levels (suc depth) i few f l m s =
       let (fr, fc) = both (rowsFit columns levels t) (cardFits columns (levels ++ (t ∷ [])) c) f in
       let three = leb→le (length levels) mostRowEntries (both (between 1 (length columns) t) (leb (length levels) mostRowEntries) fr .1) in
       let few′ : length (levels ++ (t ∷ [])) ≤ 1 + mostRowEntries = simp length-append (omega arith) in
       let p = entry-back c (levels ++ (t ∷ [])) depth (i + 1) few′ fc (omega arith) (omega arith) (stands-row s) in
       let e : i + 1 + entries c ≡ i + (1 + entries c) = omega arith in
-      step-back bs i depth (Rows q t c) s m tt (rw (p, e))
+      step-back bs i depth (RowEntry q t c) s m tt (rw (p, e))
 
 -- ---- a card
 

@@ -2,8 +2,8 @@
 use mathlib.Core.Path.{_≡_, refl, ap, _∙_}
 use lib.Dec.{T}
 use Rattle.card.specs.Layout.{columnsIn}
-use Rattle.card.specs.Cases.{nested, edges}
-use Rattle.card.specs.Claims.{SoundClaim, LengthClaim, EdgesClaim}
+use Rattle.card.specs.Cases.{nested, chained, edges}
+use Rattle.card.specs.Claims.{SoundClaim, LengthClaim, OrderClaim, EdgesClaim}
 use Rattle.card.proofs.Opened.{opened}
 use Rattle.card.proofs.Walk.{card-length, columns-back}
 use Rattle.card.proofs.Back.{sound-true, sound-holds}
@@ -21,5 +21,9 @@ pub length-claim : LengthClaim
 length-claim = card-length
 
 pub edges-claim : EdgesClaim
-unfolding opened nested edges
+unfolding opened nested chained edges
 edges-claim = refl
+
+pub order-claim : OrderClaim
+unfolding opened
+order-claim = record { running = λ card file row. refl; listing = λ card file. refl }

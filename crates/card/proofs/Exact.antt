@@ -3,7 +3,7 @@ use mathlib.Core.Path.{_≡_, refl, sym, ap, ap₂, subst, _∙_}
 use mathlib.Core.Bool.{Bool, true, false, _&&_, cond}
 use mathlib.Core.List.{List, [], _∷_, _++_, append-assoc, append-nil}
 use mathlib.Core.Option.{Option, none, some}
-use Prim.Native.Nat.{ℕ, zero, suc, _+_, _≤_, _<_}
+use Prim.Native.Nat.{ℕ, zero, suc, _+_, _-_, _≤_, _<_}
 use native.Mathlib.Omega.{arith}
 use borrow.Author.Tests.{eqb-true}
 use lib.Dec.{T, eqb, eqb→eq}
@@ -11,10 +11,10 @@ use lib.ListN.{length, getD, take, drop, length-drop, take-append-drop, drop-of-
 use lib.Seq.{take-take, drop-cons, drop-drop, getD-drop, length-take-le}
 use Rattle.tables.specs.Lists.{tabulate, all, only, _>>=_}
 use Rattle.tables.specs.Bytes.{between, byteAt, word16, word32, bytes16, bytes32, signed}
-use Rattle.tables.specs.Values.{Value, Constant, Column, comparisonNumber, comparisonOf, Joint, And, Or, Quantifier, Some, All}
-use Rattle.card.specs.Card.{Interpretation, AsNo, AsYes, Leaf, Compare, IsNull, NotNull, Card, At, Both, Rows, entries, cardFits}
-use Rattle.card.specs.Layout.{recordSize, constantTag, Head, AtHead, BothHead, RowsHead, kindOf, valueBytes, noValue, fieldBytes, recordBytes, kindBytes, recordsFrom, cardBytes, cardLength, entryCount, tablesIn, columnsIn, kindAt, recordAt, endAt, valueFrom, zeros, headFrom, Taken, inside, entryFrom, cardFrom}
-use Rattle.card.specs.Sound.{mostEntries, columnsFit, judgedLevels, holdsFitting, sound, Sound}
+use Rattle.tables.specs.Values.{constantTag, judgedLevels, Value, Constant, Column, comparisonNumber, comparisonOf, Connective, And, Or, Quantifier, Some, All}
+use Rattle.card.specs.Card.{Interpretation, AsNo, AsYes, Leaf, CompareLeaf, BlankLeaf, NotBlankLeaf, Card, LeafEntry, PairEntry, RowEntry, entries, cardFits}
+use Rattle.card.specs.Layout.{recordSize, Head, LeafHead, PairHead, RowHead, kindOf, valueBytes, noValue, fieldBytes, recordBytes, kindBytes, recordsFrom, cardBytes, cardLength, entryCount, tablesIn, columnsIn, kindAt, recordAt, endAt, valueFrom, zeros, headFrom, Taken, inside, entryFrom, cardFrom}
+use Rattle.card.specs.Sound.{mostEntries, columnsFit, holdsFitting, sound, Sound}
 use Rattle.card.proofs.Places.{both, bounds, tabulated, to16, to32, in-range}
 use Rattle.card.proofs.Walk.{kindPlace, recordPlace}
 
@@ -84,44 +84,44 @@ module _ (r : List ℕ) (b : Bytes r) where
       value-of (byteAt r i) (word32 r (i + 1)) (omega arith) (eqb (byteAt r i) constantTag) refl
       ∙ ap (λ (l : List ℕ). byteAt r i ∷ l) (to32 _ _ _ _ b1 b2 b3 b4)
 
-  zeros-exact : (i n : ℕ) → T (zeros r i n) → tabulate n (λ k. byteAt r (i + k)) ≡ tabulate n (λ k. 0)
+  zeros-exact : (i j : ℕ) → T (zeros r i j) → tabulate (j - i) (λ k. byteAt r (i + k)) ≡ tabulate (j - i) (λ k. 0)
   unfolding zeros
-  zeros-exact i n t = all-zero n (λ k. byteAt r (i + k)) (λ k. k) t
+  zeros-exact i j t = all-zero (j - i) (λ k. byteAt r (i + k)) (λ k. k) t
 
   says : (h : Head) → fieldBytes h ≡ tabulate 12 (λ k. byteAt r (2 + k)) → Says r (kindOf h) h
   says h p = record { kind-is = refl; bytes-are = ap₂ _++_ (to16 (byteAt r 0) (byteAt r 1) (b 0) (b 1)) p }
 
-  both-says : (j : Joint) → T (zeros r 2 12) → Says r (kindOf (BothHead j)) (BothHead j)
-  both-says j t = says (BothHead j) (sym (zeros-exact 2 12 t))
+  both-says : (j : Connective) → T (zeros r 2 14) → Says r (kindOf (PairHead j)) (PairHead j)
+  both-says j t = says (PairHead j) (sym (zeros-exact 2 14 t))
 
-  rows-says : (q : Quantifier) → T (zeros r 3 11) → let h = RowsHead q (byteAt r 2) in Says r (kindOf h) h
-  rows-says q t = says (RowsHead q (byteAt r 2)) (ap (λ (l : List ℕ). byteAt r 2 ∷ l) (sym (zeros-exact 3 11 t)))
+  rows-says : (q : Quantifier) → T (zeros r 3 14) → let h = RowHead q (byteAt r 2) in Says r (kindOf h) h
+  rows-says q t = says (RowHead q (byteAt r 2)) (ap (λ (l : List ℕ). byteAt r 2 ∷ l) (sym (zeros-exact 3 14 t)))
 
-  compare-says : (u : Interpretation) → T (zeros r 2 1 && between 1 6 (byteAt r 3))
-      → let h = AtHead (Compare u (comparisonOf (byteAt r 3)) (valueFrom r 4) (valueFrom r 9)) in Says r (kindOf h) h
+  compare-says : (u : Interpretation) → T (zeros r 2 3 && between 1 6 (byteAt r 3))
+      → let h = LeafHead (CompareLeaf u (comparisonOf (byteAt r 3)) (valueFrom r 4) (valueFrom r 9)) in Says r (kindOf h) h
   compare-says u t =
-      let (z, c) = both (zeros r 2 1) (between 1 6 (byteAt r 3)) t in
+      let (z, c) = both (zeros r 2 3) (between 1 6 (byteAt r 3)) t in
       let first : 0 ∷ comparisonNumber (comparisonOf (byteAt r 3)) ∷ [] ≡ byteAt r 2 ∷ byteAt r 3 ∷ [] =
-      ap₂ _++_ (sym (zeros-exact 2 1 z)) (ap (λ (n : ℕ). n ∷ []) (comparison-exact (byteAt r 3) c)) in
-      says (AtHead (Compare u (comparisonOf (byteAt r 3)) (valueFrom r 4) (valueFrom r 9))) (ap₂ _++_ first (ap₂ _++_ (value-exact 4) (value-exact 9)))
+      ap₂ _++_ (sym (zeros-exact 2 3 z)) (ap (λ (n : ℕ). n ∷ []) (comparison-exact (byteAt r 3) c)) in
+      says (LeafHead (CompareLeaf u (comparisonOf (byteAt r 3)) (valueFrom r 4) (valueFrom r 9))) (ap₂ _++_ first (ap₂ _++_ (value-exact 4) (value-exact 9)))
 
   -- the fields of a record that has a left value alone
-  left-alone : T (zeros r 2 2 && zeros r 9 5) → 0 ∷ 0 ∷ valueBytes (valueFrom r 4) ++ noValue ≡ tabulate 12 (λ k. byteAt r (2 + k))
+  left-alone : T (zeros r 2 4 && zeros r 9 14) → 0 ∷ 0 ∷ valueBytes (valueFrom r 4) ++ noValue ≡ tabulate 12 (λ k. byteAt r (2 + k))
   left-alone t =
-      let (z, w) = both (zeros r 2 2) (zeros r 9 5) t in
-      ap₂ _++_ (sym (zeros-exact 2 2 z)) (ap₂ _++_ (value-exact 4) (sym (zeros-exact 9 5 w)))
+      let (z, w) = both (zeros r 2 4) (zeros r 9 14) t in
+      ap₂ _++_ (sym (zeros-exact 2 4 z)) (ap₂ _++_ (value-exact 4) (sym (zeros-exact 9 14 w)))
 
   head-exact : (kind : ℕ) (h : Head) → headFrom kind r ≡ some h → Says r kind h
   unfolding headFrom
   head-exact zero h e = absurd (none-some e)
-  head-exact (suc zero) h e = let (t, p) = only-some (zeros r 2 12) _ h e in subst (Says r 1) p (both-says And t)
-  head-exact (suc (suc zero)) h e = let (t, p) = only-some (zeros r 2 12) _ h e in subst (Says r 2) p (both-says Or t)
-  head-exact (suc (suc (suc zero))) h e = let (t, p) = only-some (zeros r 3 11) _ h e in subst (Says r 3) p (rows-says Some t)
-  head-exact (suc (suc (suc (suc zero)))) h e = let (t, p) = only-some (zeros r 3 11) _ h e in subst (Says r 4) p (rows-says All t)
-  head-exact (suc (suc (suc (suc (suc zero))))) h e = let (t, p) = only-some (zeros r 2 1 && between 1 6 (byteAt r 3)) _ h e in subst (Says r 5) p (compare-says AsNo t)
-  head-exact (suc (suc (suc (suc (suc (suc zero)))))) h e = let (t, p) = only-some (zeros r 2 1 && between 1 6 (byteAt r 3)) _ h e in subst (Says r 6) p (compare-says AsYes t)
-  head-exact (suc (suc (suc (suc (suc (suc (suc zero))))))) h e = let (t, p) = only-some (zeros r 2 2 && zeros r 9 5) _ h e in subst (Says r 7) p (says (AtHead (IsNull (valueFrom r 4))) (left-alone t))
-  head-exact (suc (suc (suc (suc (suc (suc (suc (suc zero)))))))) h e = let (t, p) = only-some (zeros r 2 2 && zeros r 9 5) _ h e in subst (Says r 8) p (says (AtHead (NotNull (valueFrom r 4))) (left-alone t))
+  head-exact (suc zero) h e = let (t, p) = only-some (zeros r 2 14) _ h e in subst (Says r 1) p (both-says And t)
+  head-exact (suc (suc zero)) h e = let (t, p) = only-some (zeros r 2 14) _ h e in subst (Says r 2) p (both-says Or t)
+  head-exact (suc (suc (suc zero))) h e = let (t, p) = only-some (zeros r 3 14) _ h e in subst (Says r 3) p (rows-says Some t)
+  head-exact (suc (suc (suc (suc zero)))) h e = let (t, p) = only-some (zeros r 3 14) _ h e in subst (Says r 4) p (rows-says All t)
+  head-exact (suc (suc (suc (suc (suc zero))))) h e = let (t, p) = only-some (zeros r 2 3 && between 1 6 (byteAt r 3)) _ h e in subst (Says r 5) p (compare-says AsNo t)
+  head-exact (suc (suc (suc (suc (suc (suc zero)))))) h e = let (t, p) = only-some (zeros r 2 3 && between 1 6 (byteAt r 3)) _ h e in subst (Says r 6) p (compare-says AsYes t)
+  head-exact (suc (suc (suc (suc (suc (suc (suc zero))))))) h e = let (t, p) = only-some (zeros r 2 4 && zeros r 9 14) _ h e in subst (Says r 7) p (says (LeafHead (BlankLeaf (valueFrom r 4))) (left-alone t))
+  head-exact (suc (suc (suc (suc (suc (suc (suc (suc zero)))))))) h e = let (t, p) = only-some (zeros r 2 4 && zeros r 9 14) _ h e in subst (Says r 8) p (says (LeafHead (NotBlankLeaf (valueFrom r 4))) (left-alone t))
   head-exact (suc (suc (suc (suc (suc (suc (suc (suc (suc n))))))))) h e = absurd (none-some e)
 
 -- ---- an entry with its inner ones
@@ -160,17 +160,17 @@ module _ (bs : List ℕ) (b : Bytes bs) (long : length bs ≡ cardLength (tables
     abbrev Own : Head → Type 0
     Own h = headFrom (kindAt bs i) (recordAt bs i) ≡ some h
 
-    read-leaf : (y : Leaf) → Own (AtHead y) → endAt bs i ≡ i + 1 → i + 1 ≤ entryCount bs → Read bs i (At y, i + 1)
+    read-leaf : (y : Leaf) → Own (LeafHead y) → endAt bs i ≡ i + 1 → i + 1 ≤ entryCount bs → Read bs i (LeafEntry y, i + 1)
     unfolding entries kindBytes recordsFrom
     read-leaf y e end l =
         let there : i < entryCount bs = omega arith in
         record {
           ends = refl;
-          kinds = own-kind i (AtHead y) there e;
-          records = own-record i (AtHead y) there e ∙ ap (λ (n : ℕ). recordBytes n (AtHead y) ++ drop (recordPlace bs (i + 1)) bs) end;
+          kinds = own-kind i (LeafHead y) there e;
+          records = own-record i (LeafHead y) there e ∙ ap (λ (n : ℕ). recordBytes n (LeafHead y) ++ drop (recordPlace bs (i + 1)) bs) end;
         }
 
-    read-both : (j : Joint) (x y : Taken) → Own (BothHead j) → Read bs (i + 1) x → Read bs (x .1) y → endAt bs i ≡ y .1 → y .1 ≤ entryCount bs → Read bs i (Both j (x .0) (y .0), y .1)
+    read-both : (j : Connective) (x y : Taken) → Own (PairHead j) → Read bs (i + 1) x → Read bs (x .1) y → endAt bs i ≡ y .1 → y .1 ≤ entryCount bs → Read bs i (PairEntry j (x .0) (y .0), y .1)
     unfolding entries kindBytes recordsFrom
     read-both j x y e rx ry end l =
         let ex = rx .ends in
@@ -180,20 +180,20 @@ module _ (bs : List ℕ) (b : Bytes bs) (long : length bs ≡ cardLength (tables
         record {
           ends = omega arith;
           kinds =
-              own-kind i (BothHead j) there e
-              ∙ ap (λ (l : List ℕ). kindOf (BothHead j) ∷ l)
+              own-kind i (PairHead j) there e
+              ∙ ap (λ (l : List ℕ). kindOf (PairHead j) ∷ l)
               (rx .kinds
               ∙ ap (λ (l : List ℕ). kindBytes (x .0) ++ l) (ry .kinds)
               ∙ sym (append-assoc (kindBytes (x .0)) (kindBytes (y .0)) (drop (kindPlace bs (y .1)) bs)));
           records =
-              own-record i (BothHead j) there e
-              ∙ ap₂ (λ (n : ℕ) (l : List ℕ). recordBytes n (BothHead j) ++ l) whole
+              own-record i (PairHead j) there e
+              ∙ ap₂ (λ (n : ℕ) (l : List ℕ). recordBytes n (PairHead j) ++ l) whole
               (rx .records
               ∙ ap (λ (l : List ℕ). recordsFrom (i + 1) (x .0) ++ l) (ry .records ∙ ap (λ (n : ℕ). recordsFrom n (y .0) ++ drop (recordPlace bs (y .1)) bs) ex)
               ∙ sym (append-assoc (recordsFrom (i + 1) (x .0)) (recordsFrom (i + 1 + entries (x .0)) (y .0)) (drop (recordPlace bs (y .1)) bs)));
         }
 
-    read-row : (q : Quantifier) (t : ℕ) (x : Taken) → Own (RowsHead q t) → Read bs (i + 1) x → endAt bs i ≡ x .1 → x .1 ≤ entryCount bs → Read bs i (Rows q t (x .0), x .1)
+    read-row : (q : Quantifier) (t : ℕ) (x : Taken) → Own (RowHead q t) → Read bs (i + 1) x → endAt bs i ≡ x .1 → x .1 ≤ entryCount bs → Read bs i (RowEntry q t (x .0), x .1)
     unfolding entries kindBytes recordsFrom
     read-row q t x e rx end l =
         let ex = rx .ends in
@@ -201,8 +201,8 @@ module _ (bs : List ℕ) (b : Bytes bs) (long : length bs ≡ cardLength (tables
         let whole : endAt bs i ≡ i + (1 + entries (x .0)) = omega arith in
         record {
           ends = omega arith;
-          kinds = own-kind i (RowsHead q t) there e ∙ ap (λ (l : List ℕ). kindOf (RowsHead q t) ∷ l) (rx .kinds);
-          records = own-record i (RowsHead q t) there e ∙ ap₂ (λ (n : ℕ) (l : List ℕ). recordBytes n (RowsHead q t) ++ l) whole (rx .records);
+          kinds = own-kind i (RowHead q t) there e ∙ ap (λ (l : List ℕ). kindOf (RowHead q t) ∷ l) (rx .kinds);
+          records = own-record i (RowHead q t) there e ∙ ap₂ (λ (n : ℕ) (l : List ℕ). recordBytes n (RowHead q t) ++ l) whole (rx .records);
         }
 
   -- and so where the inner ones are read by `from`
@@ -211,18 +211,18 @@ module _ (bs : List ℕ) (b : Bytes bs) (long : length bs ≡ cardLength (tables
     Done x = endAt bs i ≡ x .1 → x .1 ≤ entryCount bs → Read bs i x
 
     read-inside : (h : Head) (x : Taken) → headFrom (kindAt bs i) (recordAt bs i) ≡ some h → inside from i h ≡ some x → Done x
-    read-inside (AtHead y) x e p = let q : (At y, i + 1) ≡ x = cc in subst Done q (read-leaf i y e)
-    read-inside (BothHead j) x e p =
+    read-inside (LeafHead y) x e p = let q : (LeafEntry y, i + 1) ≡ x = cc in subst Done q (read-leaf i y e)
+    read-inside (PairHead j) x e p =
         let (y, py, p′) = bind-some (from (i + 1)) _ x p in
         let (z, pz, p″) = bind-some (from (y .1)) _ x p′ in
-        let q : (Both j (y .0) (z .0), z .1) ≡ x = cc in
+        let q : (PairEntry j (y .0) (z .0), z .1) ≡ x = cc in
         subst Done q (λ end l.
         let rz = inner (y .1) z pz l in
         let ry = inner (i + 1) y py (omega (arith, rz .ends)) in
         read-both i j y z e ry rz end l)
-    read-inside (RowsHead k t) x e p =
+    read-inside (RowHead k t) x e p =
         let (y, py, p′) = bind-some (from (i + 1)) _ x p in
-        let q : (Rows k t (y .0), y .1) ≡ x = cc in
+        let q : (RowEntry k t (y .0), y .1) ≡ x = cc in
         subst Done q (λ end l. read-row i k t y e (inner (i + 1) y py l) end l)
 
   pub entry-exact : (depth i : ℕ) (x : Taken) → entryFrom bs depth i ≡ some x → x .1 ≤ entryCount bs → Read bs i x

@@ -4,4 +4,3 @@ pub mod Back
 pub mod Exact
 pub mod Opened
 pub mod Claims
-pub mod Rows

@@ -5,9 +5,9 @@ use Prim.Native.Nat.{ℕ, _+_, _*_, _<_}
 use native.Mathlib.Omega.{arith}
 use lib.ListN.{length, take, drop, length-append}
 use lib.Seq.{take-at}
-use Rattle.tables.specs.Values.{Value, Constant, Column, Joint, Quantifier}
-use Rattle.card.specs.Card.{Compare, IsNull, NotNull, Card, At, Both, Rows, entries}
-use Rattle.card.specs.Layout.{recordSize, Head, AtHead, BothHead, RowsHead, kindOf, valueBytes, recordBytes, kindBytes, recordsFrom, cardBytes, cardLength, entryCount, tablesIn, columnsIn, kindAt, recordAt}
+use Rattle.tables.specs.Values.{Value, Constant, Column, Connective, Quantifier}
+use Rattle.card.specs.Card.{CompareLeaf, BlankLeaf, NotBlankLeaf, Card, LeafEntry, PairEntry, RowEntry, entries}
+use Rattle.card.specs.Layout.{recordSize, Head, LeafHead, PairHead, RowHead, kindOf, valueBytes, recordBytes, kindBytes, recordsFrom, cardBytes, cardLength, entryCount, tablesIn, columnsIn, kindAt, recordAt}
 use Rattle.card.proofs.Places.{at, at0, skip-to, tabulated, from16}
 
 -- ---- lengths
@@ -17,23 +17,23 @@ value-length (Constant k) = refl
 value-length (Column l c) = refl
 
 pub record-length : (e : ℕ) (h : Head) → length (recordBytes e h) ≡ recordSize
-record-length e (BothHead j) = refl
-record-length e (RowsHead q t) = refl
-record-length e (AtHead (Compare u op l r)) = simp (length-append, value-length)
-record-length e (AtHead (IsNull l)) = simp (length-append, value-length)
-record-length e (AtHead (NotNull l)) = simp (length-append, value-length)
+record-length e (PairHead j) = refl
+record-length e (RowHead q t) = refl
+record-length e (LeafHead (CompareLeaf u op l r)) = simp (length-append, value-length)
+record-length e (LeafHead (BlankLeaf l)) = simp (length-append, value-length)
+record-length e (LeafHead (NotBlankLeaf l)) = simp (length-append, value-length)
 
 pub kinds-length : (c : Card) → length (kindBytes c) ≡ entries c
 unfolding kindBytes entries
-kinds-length (At x) = refl
-kinds-length (Both j a b) = simp (length-append, kinds-length a, kinds-length b) (omega arith)
-kinds-length (Rows q t c) = omega (arith, kinds-length c)
+kinds-length (LeafEntry x) = refl
+kinds-length (PairEntry j a b) = simp (length-append, kinds-length a, kinds-length b) (omega arith)
+kinds-length (RowEntry q t c) = omega (arith, kinds-length c)
 
 pub records-length : (c : Card) (k : ℕ) → length (recordsFrom k c) ≡ recordSize * entries c
 unfolding recordsFrom entries
-records-length (At x) k = record-length (k + 1) (AtHead x)
-records-length (Both j a b) k = simp (length-append, records-length a, records-length b) (omega arith)
-records-length (Rows q t c) k = omega (arith, records-length c (k + 1))
+records-length (LeafEntry x) k = record-length (k + 1) (LeafHead x)
+records-length (PairEntry j a b) k = simp (length-append, records-length a, records-length b) (omega arith)
+records-length (RowEntry q t c) k = omega (arith, records-length c (k + 1))
 
 -- "the card takes 3 + T + 15n bytes"
 pub card-length : (columns : List ℕ) (c : Card) → length (cardBytes columns c) ≡ cardLength (length columns) (entries c)
@@ -44,9 +44,9 @@ card-length columns c = simp (length-append, kinds-length, records-length) (omeg
 
 -- an entry without its inner ones
 abbrev pub headOf : Card → Head
-headOf (At x) = AtHead x
-headOf (Both j a b) = BothHead j
-headOf (Rows q t c) = RowsHead q t
+headOf (LeafEntry x) = LeafHead x
+headOf (PairEntry j a b) = PairHead j
+headOf (RowEntry q t c) = RowHead q t
 
 abbrev pub kindPlace : List ℕ → ℕ → ℕ
 kindPlace bs i = 3 + tablesIn bs + i
@@ -71,16 +71,16 @@ module _ (bs : List ℕ) (i : ℕ) where
 module _ {bs : List ℕ} {i : ℕ} where
   pub kind-there : {c : Card} → Stands bs i c → kindAt bs i ≡ kindOf (headOf c)
   unfolding kindBytes
-  kind-there {c = At x} s = at0 bs (kindPlace bs i) _ (s .kinds)
-  kind-there {c = Both j a b} s = at0 bs (kindPlace bs i) _ (s .kinds)
-  kind-there {c = Rows q t c} s = at0 bs (kindPlace bs i) _ (s .kinds)
+  kind-there {c = LeafEntry x} s = at0 bs (kindPlace bs i) _ (s .kinds)
+  kind-there {c = PairEntry j a b} s = at0 bs (kindPlace bs i) _ (s .kinds)
+  kind-there {c = RowEntry q t c} s = at0 bs (kindPlace bs i) _ (s .kinds)
 
   -- its first record, and what stands behind that
   first-record : {c : Card} → Stands bs i c → (r : List ℕ) × (drop (recordPlace bs i) bs ≡ recordBytes (i + entries c) (headOf c) ++ r)
   unfolding recordsFrom entries
-  first-record {c = At x} s = (s .recordsAfter, s .records)
-  first-record {c = Both j a b} s = (_, s .records)
-  first-record {c = Rows q t c} s = (_, s .records)
+  first-record {c = LeafEntry x} s = (s .recordsAfter, s .records)
+  first-record {c = PairEntry j a b} s = (_, s .records)
+  first-record {c = RowEntry q t c} s = (_, s .records)
 
   pub record-there : {c : Card} → Stands bs i c → recordAt bs i ≡ recordBytes (i + entries c) (headOf c)
   record-there {c} s =
@@ -88,27 +88,27 @@ module _ {bs : List ℕ} {i : ℕ} where
       ap (take recordSize) d ∙ take-at (recordBytes (i + entries c) (headOf c)) r recordSize (record-length (i + entries c) (headOf c))
 
   -- the inner entries
-  pub stands-row : {q : Quantifier} {t : ℕ} {c : Card} → Stands bs i (Rows q t c) → Stands bs (i + 1) c
+  pub stands-row : {q : Quantifier} {t : ℕ} {c : Card} → Stands bs i (RowEntry q t c) → Stands bs (i + 1) c
   unfolding kindBytes recordsFrom
   stands-row {q} {t} {c} s = record {
     kindsAfter = s .kindsAfter;
     recordsAfter = s .recordsAfter;
     kinds = next-kind bs i _ _ (s .kinds);
-    records = next-record bs i (i + (1 + entries c)) (RowsHead q t) _ (s .records);
+    records = next-record bs i (i + (1 + entries c)) (RowHead q t) _ (s .records);
   }
 
-  pub stands-left : {j : Joint} {a b : Card} → Stands bs i (Both j a b) → Stands bs (i + 1) a
+  pub stands-left : {j : Connective} {a b : Card} → Stands bs i (PairEntry j a b) → Stands bs (i + 1) a
   unfolding kindBytes recordsFrom
   stands-left {j} {a} {b} s = record {
     kindsAfter = kindBytes b ++ s .kindsAfter;
     recordsAfter = recordsFrom (i + 1 + entries a) b ++ s .recordsAfter;
     kinds = next-kind bs i _ _ (s .kinds) ∙ append-assoc (kindBytes a) (kindBytes b) (s .kindsAfter);
     records =
-        next-record bs i (i + (1 + entries a + entries b)) (BothHead j) _ (s .records)
+        next-record bs i (i + (1 + entries a + entries b)) (PairHead j) _ (s .records)
         ∙ append-assoc (recordsFrom (i + 1) a) (recordsFrom (i + 1 + entries a) b) (s .recordsAfter);
   }
 
-  pub stands-right : {j : Joint} {a b : Card} → Stands bs i (Both j a b) → Stands bs (i + 1 + entries a) b
+  pub stands-right : {j : Connective} {a b : Card} → Stands bs i (PairEntry j a b) → Stands bs (i + 1 + entries a) b
   unfolding stands-left
   stands-right {j} {a} {b} s = record {
     kindsAfter = s .kindsAfter;

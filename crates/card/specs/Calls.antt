@@ -5,9 +5,9 @@ use mathlib.Core.Option.{Option, none, some}
 use Prim.Native.Nat.{ℕ}
 use lib.Dec.{eqb}
 use Rattle.tables.specs.Lists.{tabulate, keep, same}
-use Rattle.tables.specs.Tables.{tableCount, columnsOf, rowCount, tablesOf}
+use Rattle.tables.specs.Tables.{columnsOf, tablesOf, rowsWhere}
 use Rattle.tables.specs.Values.{judgedRow}
-use Rattle.tables.specs.Refusals.{Refusal, _if_, lowest, Answer, unless, Lent, lend, tablesRefusals, rowRefusal}
+use Rattle.tables.specs.Refusals.{Refusal, _if_, firstApplying, Answer, unless, Lent, lend, tablesRefusals, rowRefusal}
 use Rattle.card.specs.Card.{Card, answer}
 use Rattle.card.specs.Layout.{tablesIn, columnsIn, cardFrom}
 use Rattle.card.specs.Sound.{sound}
@@ -20,33 +20,32 @@ cardSays file row (some c) = answer (tablesOf file) (judgedRow (tablesOf file) r
 unfoldable pub saysYes : List ℕ → List ℕ → ℕ → Bool
 saysYes card file row = cardSays file row (cardFrom card)
 
--- the numbers of the rows of table 1 of which a test holds, rising
-unfoldable pub rowsWhere : List ℕ → (ℕ → Bool) → List ℕ
-rowsWhere file p = keep p (tabulate (rowCount file 1) (λ r. r))
-
 -- ---- the refusals
 
 -- 9: card not sound
 unfoldable pub checkRefusals : List ℕ → List Refusal
 checkRefusals card = (9 if not (sound card)) ∷ []
 
--- 10: "card's T or columns differ from the tables'"
+-- 10 does not apply: "card's T or columns differ from the tables'" (T is the length of the list of columns)
 unfoldable pub fitsTables : List ℕ → List ℕ → Bool
-fitsTables card file = eqb (tablesIn card) (tableCount file) && same (columnsIn card) (columnsOf file)
+fitsTables card file = same (columnsIn card) (columnsOf file)
 
 -- what RUN and LIST look at first
 unfoldable pub gateRefusals : List ℕ → List ℕ → List Refusal
 gateRefusals card file = tablesRefusals file ++ (checkRefusals card ++ ((10 if not (fitsTables card file)) ∷ []))
 
+unfoldable pub runRefusals : List ℕ → List ℕ → ℕ → List Refusal
+runRefusals card file row = gateRefusals card file ++ (rowRefusal file row ∷ [])
+
 -- ---- the calls
 
 -- CHECK: "a card alone, sound or refused"
 unfoldable pub checkCall : List ℕ → Answer (Unit {0})
-checkCall card = unless (lowest (checkRefusals card)) (λ _. tt)
+checkCall card = unless (firstApplying (checkRefusals card)) (λ _. tt)
 
 -- RUN: "card, tables, row number to yes or no"
 unfoldable pub runCall : List ℕ → List ℕ → ℕ → Answer Bool
-runCall card file row = unless (lowest (gateRefusals card file ++ (rowRefusal file row ∷ []))) (λ _. saysYes card file row)
+runCall card file row = unless (firstApplying (runRefusals card file row)) (λ _. saysYes card file row)
 
 -- LIST: "card and tables to the admitted row numbers, rising, one element of the lent list each, with their count"
 unfoldable pub listCall : List ℕ → List ℕ → List ℕ → Lent ℕ

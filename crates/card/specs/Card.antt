@@ -7,7 +7,7 @@ use lib.ListN.{length, getD}
 use Rattle.tables.specs.Lists.{numbered, any, all}
 use Rattle.tables.specs.Bytes.{between, inRange}
 use Rattle.tables.specs.Tables.{Cell, Blank, Present, Row, Tables, rowsOf}
-use Rattle.tables.specs.Values.{Value, Constant, Column, Comparison, holds, Joint, And, Or, Quantifier, Some, All, Env, _▸_, cellOf, isBlank}
+use Rattle.tables.specs.Values.{Value, Constant, Column, Comparison, holds, Connective, And, Or, Quantifier, Some, All, Env, _▸_, cellOf, byNumbers, isBlank}
 
 -- "at most three row entries around one another"
 abbrev pub mostRowEntries : ℕ
@@ -24,29 +24,27 @@ unknownSays AsYes = true
 -- an entry without inner ones. Compare AsNo and AsYes: kinds 5 and 6, "comparison where unknown counts as no", "as yes".
 -- IsNull: kind 7, "blank". NotNull: kind 8, "not blank".
 pub data Leaf : Type 0 where
-  Compare : Interpretation → Comparison → Value → Value → Leaf
-  IsNull NotNull : Value → Leaf
+  CompareLeaf : Interpretation → Comparison → Value → Value → Leaf
+  BlankLeaf NotBlankLeaf : Value → Leaf
 
 -- an entry with its inner ones. Both And, Both Or: kinds 1 and 2. Rows Some, Rows All: kinds 3 and 4, "some row", "every row".
 pub data Card : Type 0 where
-  At : Leaf → Card
-  Both : Joint → Card → Card → Card
-  Rows : Quantifier → ℕ → Card → Card
+  LeafEntry : Leaf → Card
+  PairEntry : Connective → Card → Card → Card
+  RowEntry : Quantifier → ℕ → Card → Card
 
 -- ---- the answer
 
--- a comparison of two cells, where one that is blank makes it unknown
+-- a comparison of two cells; one that is blank makes it unknown
 abbrev pub compares : Interpretation → Comparison → Cell → Cell → Bool
-compares u op Blank y = unknownSays u
-compares u op (Present x) Blank = unknownSays u
-compares u op (Present x) (Present y) = holds op x y
+compares u op x y = byNumbers (unknownSays u) (holds op) x y
 
 abbrev pub leafSays : Env → Leaf → Bool
-leafSays env (Compare u op l r) = compares u op (cellOf env l) (cellOf env r)
-leafSays env (IsNull l) = isBlank (cellOf env l)
-leafSays env (NotNull l) = not (isBlank (cellOf env l))
+leafSays env (CompareLeaf u op l r) = compares u op (cellOf env l) (cellOf env r)
+leafSays env (BlankLeaf l) = isBlank (cellOf env l)
+leafSays env (NotBlankLeaf l) = not (isBlank (cellOf env l))
 
-abbrev pub joined : Joint → Bool → Bool → Bool
+abbrev pub joined : Connective → Bool → Bool → Bool
 joined And a b = a && b
 joined Or a b = a || b
 
@@ -56,16 +54,16 @@ overRows All p rows = all p rows
 
 -- "A compound entry's answer comes from its smaller inner entries."
 unfoldable pub answer : Tables → Env → Card → Bool
-answer ts env (At x) = leafSays env x
-answer ts env (Both j a b) = joined j (answer ts env a) (answer ts env b)
-answer ts env (Rows q t c) = overRows q (λ row. answer ts (env ▸ row) c) (rowsOf ts t)
+answer ts env (LeafEntry x) = leafSays env x
+answer ts env (PairEntry j a b) = joined j (answer ts env a) (answer ts env b)
+answer ts env (RowEntry q t c) = overRows q (λ row. answer ts (env ▸ row) c) (rowsOf ts t)
 
 -- ---- its size, and whether it fits the tables' columns
 
 unfoldable pub entries : Card → ℕ
-entries (At x) = 1
-entries (Both j a b) = 1 + entries a + entries b
-entries (Rows q t c) = 1 + entries c
+entries (LeafEntry x) = 1
+entries (PairEntry j a b) = 1 + entries a + entries b
+entries (RowEntry q t c) = 1 + entries c
 
 -- columns has the columns of each table; levels has the table of each level, level 0 first
 module _ (columns : List ℕ) where
@@ -75,15 +73,15 @@ module _ (columns : List ℕ) where
   valueFits levels (Column l c) = ltb l (length levels) && between 1 (numbered columns (getD levels l 0) 0) c
 
   abbrev pub leafFits : List ℕ → Leaf → Bool
-  leafFits levels (Compare u op l r) = valueFits levels l && valueFits levels r
-  leafFits levels (IsNull l) = valueFits levels l
-  leafFits levels (NotNull l) = valueFits levels l
+  leafFits levels (CompareLeaf u op l r) = valueFits levels l && valueFits levels r
+  leafFits levels (BlankLeaf l) = valueFits levels l
+  leafFits levels (NotBlankLeaf l) = valueFits levels l
 
   -- "existing tables", and at most three row entries around one another: levels holds the judged row's and one for each row entry around
   abbrev pub rowsFit : List ℕ → ℕ → Bool
   rowsFit levels t = between 1 (length columns) t && leb (length levels) mostRowEntries
 
   unfoldable pub cardFits : List ℕ → Card → Bool
-  cardFits levels (At x) = leafFits levels x
-  cardFits levels (Both j a b) = cardFits levels a && cardFits levels b
-  cardFits levels (Rows q t c) = rowsFit levels t && cardFits (levels ++ (t ∷ [])) c
+  cardFits levels (LeafEntry x) = leafFits levels x
+  cardFits levels (PairEntry j a b) = cardFits levels a && cardFits levels b
+  cardFits levels (RowEntry q t c) = rowsFit levels t && cardFits (levels ++ (t ∷ [])) c

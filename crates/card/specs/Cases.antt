@@ -5,7 +5,7 @@ use Prim.Native.Nat.{ℕ, zero, suc}
 use lib.IntN.{pos}
 use lib.ListN.{set}
 use Rattle.tables.specs.Values.{Value, Constant, Column, Lt, Or, Some, All}
-use Rattle.card.specs.Card.{AsNo, AsYes, Compare, IsNull, Card, At, Both, Rows}
+use Rattle.card.specs.Card.{AsNo, AsYes, CompareLeaf, BlankLeaf, NotBlankLeaf, Card, LeafEntry, PairEntry, RowEntry}
 use Rattle.card.specs.Layout.{cardBytes}
 use Rattle.card.specs.Sound.{sound}
 
@@ -19,21 +19,38 @@ good bs = record { card = bs; isSound = true }
 abbrev bad : List ℕ → Edge
 bad bs = record { card = bs; isSound = false }
 
--- one entry over one table of 3 columns: column 2 of the judged row is not less than 5 (the worked card of document 01)
+-- the worked card of document 01, in hexadecimal: one entry over one table of 3 columns
+abbrev pub workedCard : List ℕ
+workedCard =
+    0x01 ∷ 0x00 ∷ 0x01 ∷ 0x03 ∷ 0x05 ∷ 0x01 ∷ 0x00 ∷ 0x00 ∷ 0x06 ∷ 0x00 ∷ 0x02 ∷ 0x00 ∷ 0x00 ∷ 0x00 ∷ 0xFF ∷ 0x05 ∷ 0x00 ∷ 0x00 ∷ 0x00 ∷ []
+
 abbrev one : List ℕ
-one = 1 ∷ 0 ∷ 1 ∷ 3 ∷ 5 ∷ 1 ∷ 0 ∷ 0 ∷ 6 ∷ 0 ∷ 2 ∷ 0 ∷ 0 ∷ 0 ∷ 255 ∷ 5 ∷ 0 ∷ 0 ∷ 0 ∷ []
+one = workedCard
 
 -- tables of 3 and 2 columns
 abbrev over : Card → List ℕ
 over c = cardBytes (3 ∷ 2 ∷ []) c
 
 abbrev null : ℕ → ℕ → Card
-null l c = At (IsNull (Column l c))
+null l c = LeafEntry (BlankLeaf (Column l c))
+
+-- two tests joined by or: kinds at bytes 5 to 7, records of 14 bytes at 8, 22 and 36
+abbrev three : List ℕ
+three = over (PairEntry Or (null 0 1) (LeafEntry (NotBlankLeaf (Column 0 3))))
+
+-- a row entry around a test: kinds at bytes 5 and 6, records at 7 and 21
+abbrev rows : List ℕ
+rows = over (RowEntry All 2 (null 1 2))
+
+-- n + 1 blank tests joined by or, from the right: 2n + 1 entries
+unfoldable pub chained : ℕ → Card
+chained zero = null 0 1
+chained (suc n) = PairEntry Or (null 0 1) (chained n)
 
 -- n row entries of table 2 around one another
 unfoldable pub nested : ℕ → Card → Card
 nested zero c = c
-nested (suc n) c = Rows Some 2 (nested n c)
+nested (suc n) c = RowEntry Some 2 (nested n c)
 
 -- the bytes of `one` changed one at a time, then the length, then entries that fit and do not
 unfoldable pub edges : List Edge
@@ -44,5 +61,13 @@ edges =
     ∷ bad (set one 9 1) ∷ good (set one 9 255) ∷ bad (set one 10 0) ∷ good (set one 10 3) ∷ bad (set one 10 4) ∷ bad (set one 11 1) ∷ bad (set one 14 0) ∷ good (set one 18 255)
     ∷ bad [] ∷ bad (0 ∷ 0 ∷ []) ∷ bad (one ++ (0 ∷ []))
     ∷ good (over (nested 3 (null 3 2))) ∷ bad (over (nested 4 (null 3 2))) ∷ bad (over (nested 3 (null 4 1))) ∷ bad (over (nested 3 (null 3 3))) ∷ good (over (nested 3 (null 0 3)))
-    ∷ bad (over (Rows All 0 (null 0 1))) ∷ bad (over (Rows All 3 (null 0 1))) ∷ good (over (Both Or (null 0 1) (Rows All 1 (null 1 3)))) ∷ bad (over (Both Or (Rows All 1 (null 1 3)) (null 1 1)))
+    -- ends: of the first inner entry, of the second, of entry 0; an entry left over; unused bytes of kinds 2, 7, 4; an absent column under not blank
+    ∷ good three ∷ bad (set three 22 1) ∷ bad (set three 22 3) ∷ bad (set three 36 2) ∷ bad (set three 8 2) ∷ bad (set three 5 7) ∷ bad (set (set three 5 7) 8 1)
+    ∷ bad (set three 10 1) ∷ bad (set three 11 1) ∷ bad (set three 12 1) ∷ bad (set three 21 1) ∷ bad (set three 24 1) ∷ bad (set three 25 1) ∷ bad (set three 31 1) ∷ bad (set three 35 1)
+    ∷ good rows ∷ bad (set rows 10 1) ∷ bad (set rows 11 1) ∷ bad (set rows 20 1) ∷ good (set rows 9 1) ∷ bad (set rows 9 0) ∷ bad (set rows 9 3) ∷ bad (set rows 5 1)
+    ∷ bad (over (LeafEntry (NotBlankLeaf (Column 0 4)))) ∷ good (over (RowEntry All 2 (RowEntry Some 1 (RowEntry All 2 (null 3 2))))) ∷ bad (over (RowEntry All 2 (RowEntry All 1 (RowEntry All 2 (RowEntry All 1 (null 3 2))))))
+    -- 8 and 9 tables; 191 and 193 entries
+    ∷ good (cardBytes (1 ∷ 1 ∷ 1 ∷ 1 ∷ 1 ∷ 1 ∷ 1 ∷ 1 ∷ []) (null 0 1)) ∷ bad (cardBytes (1 ∷ 1 ∷ 1 ∷ 1 ∷ 1 ∷ 1 ∷ 1 ∷ 1 ∷ 1 ∷ []) (null 0 1))
+    ∷ good (over (chained 95)) ∷ good (over (RowEntry Some 1 (chained 95))) ∷ bad (over (chained 96))
+    ∷ bad (over (RowEntry All 0 (null 0 1))) ∷ bad (over (RowEntry All 3 (null 0 1))) ∷ good (over (PairEntry Or (null 0 1) (RowEntry All 1 (null 1 3)))) ∷ bad (over (PairEntry Or (RowEntry All 1 (null 1 3)) (null 1 1)))
     ∷ []

@@ -2,39 +2,48 @@
 use mathlib.Core.Bool.{Bool, cond, _&&_}
 use mathlib.Core.List.{List, [], _∷_, _++_}
 use mathlib.Core.Option.{Option, none, some}
-use Prim.Native.Nat.{ℕ, zero, suc, _+_, _*_}
+use Prim.Native.Nat.{ℕ, zero, suc, _+_, _-_, _*_}
 use lib.Dec.{eqb}
 use lib.ListN.{length, take, drop}
 use Rattle.tables.specs.Lists.{tabulate, numbered, all, only, _>>=_}
 use Rattle.tables.specs.Bytes.{between, byteAt, word16, word32, bytes16, bytes32, signed, bits}
-use Rattle.tables.specs.Values.{Value, Constant, Column, Comparison, comparisonNumber, comparisonOf, Joint, And, Or, Quantifier, Some, All}
-use Rattle.card.specs.Card.{Interpretation, AsNo, AsYes, Leaf, Compare, IsNull, NotNull, Card, At, Both, Rows, entries}
+use Rattle.tables.specs.Values.{constantTag, Value, Constant, Column, Comparison, comparisonNumber, comparisonOf, Connective, And, Or, Quantifier, Some, All}
+use Rattle.card.specs.Card.{Interpretation, AsNo, AsYes, Leaf, CompareLeaf, BlankLeaf, NotBlankLeaf, Card, LeafEntry, PairEntry, RowEntry, entries}
 
 -- "n records of 14 bytes"
 abbrev pub recordSize : ℕ
 recordSize = 14
 
--- "tag byte, then a 4-byte number": 255 for a constant, else the level
-abbrev pub constantTag : ℕ
-constantTag = 255
+-- "Record: end (2 bytes, as for parts), table, comparison, left value, right value (tag byte, then a 4-byte number each)": the places
+abbrev pub tablePlace : ℕ
+tablePlace = 2
+
+abbrev pub comparisonPlace : ℕ
+comparisonPlace = 3
+
+abbrev pub leftPlace : ℕ
+leftPlace = 4
+
+abbrev pub rightPlace : ℕ
+rightPlace = 9
 
 -- ---- what an entry says by itself
 
 pub data Head : Type 0 where
-  AtHead : Leaf → Head
-  BothHead : Joint → Head
-  RowsHead : Quantifier → ℕ → Head
+  LeafHead : Leaf → Head
+  PairHead : Connective → Head
+  RowHead : Quantifier → ℕ → Head
 
 -- "Kinds: 1 and, 2 or, 3 some row, 4 every row, 5 comparison where unknown counts as no, 6 .. as yes, 7 blank, 8 not blank."
 abbrev pub kindOf : Head → ℕ
-kindOf (BothHead And) = 1
-kindOf (BothHead Or) = 2
-kindOf (RowsHead Some t) = 3
-kindOf (RowsHead All t) = 4
-kindOf (AtHead (Compare AsNo op l r)) = 5
-kindOf (AtHead (Compare AsYes op l r)) = 6
-kindOf (AtHead (IsNull l)) = 7
-kindOf (AtHead (NotNull l)) = 8
+kindOf (PairHead And) = 1
+kindOf (PairHead Or) = 2
+kindOf (RowHead Some t) = 3
+kindOf (RowHead All t) = 4
+kindOf (LeafHead (CompareLeaf AsNo op l r)) = 5
+kindOf (LeafHead (CompareLeaf AsYes op l r)) = 6
+kindOf (LeafHead (BlankLeaf l)) = 7
+kindOf (LeafHead (NotBlankLeaf l)) = 8
 
 abbrev pub valueBytes : Value → List ℕ
 valueBytes (Constant k) = constantTag ∷ bytes32 (bits k)
@@ -46,13 +55,12 @@ noValue = 0 ∷ 0 ∷ 0 ∷ 0 ∷ 0 ∷ []
 
 -- "Kinds 3 and 4 use the table, 5 and 6 the comparison and both values, 7 and 8 the left value."
 abbrev pub fieldBytes : Head → List ℕ
-fieldBytes (BothHead j) = 0 ∷ 0 ∷ noValue ++ noValue
-fieldBytes (RowsHead q t) = t ∷ 0 ∷ noValue ++ noValue
-fieldBytes (AtHead (Compare u op l r)) = 0 ∷ comparisonNumber op ∷ valueBytes l ++ valueBytes r
-fieldBytes (AtHead (IsNull l)) = 0 ∷ 0 ∷ valueBytes l ++ noValue
-fieldBytes (AtHead (NotNull l)) = 0 ∷ 0 ∷ valueBytes l ++ noValue
+fieldBytes (PairHead j) = 0 ∷ 0 ∷ noValue ++ noValue
+fieldBytes (RowHead q t) = t ∷ 0 ∷ noValue ++ noValue
+fieldBytes (LeafHead (CompareLeaf u op l r)) = 0 ∷ comparisonNumber op ∷ valueBytes l ++ valueBytes r
+fieldBytes (LeafHead (BlankLeaf l)) = 0 ∷ 0 ∷ valueBytes l ++ noValue
+fieldBytes (LeafHead (NotBlankLeaf l)) = 0 ∷ 0 ∷ valueBytes l ++ noValue
 
--- "Record: end (2 bytes), table, comparison, left value, right value."
 abbrev pub recordBytes : ℕ → Head → List ℕ
 recordBytes end h = bytes16 end ++ fieldBytes h
 
@@ -60,16 +68,16 @@ recordBytes end h = bytes16 end ++ fieldBytes h
 
 -- "each entry precedes its inner ones, left first": the kinds of a card's entries
 unfoldable pub kindBytes : Card → List ℕ
-kindBytes (At x) = kindOf (AtHead x) ∷ []
-kindBytes (Both j a b) = kindOf (BothHead j) ∷ (kindBytes a ++ kindBytes b)
-kindBytes (Rows q t c) = kindOf (RowsHead q t) ∷ kindBytes c
+kindBytes (LeafEntry x) = kindOf (LeafHead x) ∷ []
+kindBytes (PairEntry j a b) = kindOf (PairHead j) ∷ (kindBytes a ++ kindBytes b)
+kindBytes (RowEntry q t c) = kindOf (RowHead q t) ∷ kindBytes c
 
 -- and their records, where the first entry has the number k; an end is the number of the first entry after it and its inner ones
 unfoldable pub recordsFrom : ℕ → Card → List ℕ
-recordsFrom k (At x) = recordBytes (k + 1) (AtHead x)
-recordsFrom k (Both j a b) =
-    recordBytes (k + (1 + entries a + entries b)) (BothHead j) ++ (recordsFrom (k + 1) a ++ recordsFrom (k + 1 + entries a) b)
-recordsFrom k (Rows q t c) = recordBytes (k + (1 + entries c)) (RowsHead q t) ++ recordsFrom (k + 1) c
+recordsFrom k (LeafEntry x) = recordBytes (k + 1) (LeafHead x)
+recordsFrom k (PairEntry j a b) =
+    recordBytes (k + (1 + entries a + entries b)) (PairHead j) ++ (recordsFrom (k + 1) a ++ recordsFrom (k + 1 + entries a) b)
+recordsFrom k (RowEntry q t c) = recordBytes (k + (1 + entries c)) (RowHead q t) ++ recordsFrom (k + 1) c
 
 -- "Bytes 0 and 1: entries n. Byte 2: T. T bytes: columns. Then n kind bytes; then n records."
 unfoldable pub cardBytes : List ℕ → Card → List ℕ
@@ -107,27 +115,31 @@ valueOf tag n = cond (eqb tag constantTag) (Constant (signed n)) (Column tag n)
 abbrev pub valueFrom : List ℕ → ℕ → Value
 valueFrom r i = valueOf (byteAt r i) (word32 r (i + 1))
 
--- n bytes from i on are 0
+-- the bytes from place i up to place j are 0
 unfoldable pub zeros : List ℕ → ℕ → ℕ → Bool
-zeros r i n = all (λ k. eqb (byteAt r (i + k)) 0) (tabulate n (λ k. k))
+zeros r i j = all (λ k. eqb (byteAt r (i + k)) 0) (tabulate (j - i) (λ k. k))
 
 -- what an entry of this kind with this record says: none, if there is no such kind or comparison, or if an unused byte is not 0
 unfoldable pub headFrom : ℕ → List ℕ → Option Head
 headFrom kind r =
-    let op = comparisonOf (byteAt r 3) in
-    let twoInner = zeros r 2 12 in
-    let oneInner = zeros r 3 11 in
-    let compared = zeros r 2 1 && between 1 6 (byteAt r 3) in
-    let tested = zeros r 2 2 && zeros r 9 5 in
+    let table = byteAt r tablePlace in
+    let comparison = byteAt r comparisonPlace in
+    let left = valueFrom r leftPlace in
+    let right = valueFrom r rightPlace in
+    let twoInner = zeros r tablePlace recordSize in
+    let oneInner = zeros r comparisonPlace recordSize in
+    let compared = zeros r tablePlace comparisonPlace && between 1 6 comparison in
+    let tested = zeros r tablePlace leftPlace && zeros r rightPlace recordSize in
+    let op = comparisonOf comparison in
     numbered
-    (only twoInner (BothHead And)
-    ∷ only twoInner (BothHead Or)
-    ∷ only oneInner (RowsHead Some (byteAt r 2))
-    ∷ only oneInner (RowsHead All (byteAt r 2))
-    ∷ only compared (AtHead (Compare AsNo op (valueFrom r 4) (valueFrom r 9)))
-    ∷ only compared (AtHead (Compare AsYes op (valueFrom r 4) (valueFrom r 9)))
-    ∷ only tested (AtHead (IsNull (valueFrom r 4)))
-    ∷ only tested (AtHead (NotNull (valueFrom r 4)))
+    (only twoInner (PairHead And)
+    ∷ only twoInner (PairHead Or)
+    ∷ only oneInner (RowHead Some table)
+    ∷ only oneInner (RowHead All table)
+    ∷ only compared (LeafHead (CompareLeaf AsNo op left right))
+    ∷ only compared (LeafHead (CompareLeaf AsYes op left right))
+    ∷ only tested (LeafHead (BlankLeaf left))
+    ∷ only tested (LeafHead (NotBlankLeaf left))
     ∷ [])
     kind
     none
@@ -138,9 +150,9 @@ Taken = Card × ℕ
 
 -- "Kinds 1 and 2 have two inner entries, 3 and 4 one, the rest none": `from` takes the entry that starts at a number
 abbrev pub inside : (ℕ → Option Taken) → ℕ → Head → Option Taken
-inside from i (AtHead x) = some (At x, i + 1)
-inside from i (BothHead j) = from (i + 1) >>= (λ a. from (a .1) >>= (λ b. some (Both j (a .0) (b .0), b .1)))
-inside from i (RowsHead q t) = from (i + 1) >>= (λ c. some (Rows q t (c .0), c .1))
+inside from i (LeafHead x) = some (LeafEntry x, i + 1)
+inside from i (PairHead j) = from (i + 1) >>= (λ a. from (a .1) >>= (λ b. some (PairEntry j (a .0) (b .0), b .1)))
+inside from i (RowHead q t) = from (i + 1) >>= (λ c. some (RowEntry q t (c .0), c .1))
 
 -- the entry i, if its end is the number of the entry after it and its inner ones; depth bounds how many entries stand around one another
 unfoldable pub entryFrom : List ℕ → ℕ → ℕ → Option Taken

@@ -10,6 +10,7 @@ use lib.ListN.{length}
 use Rattle.tables.specs.Lists.{all}
 use Rattle.tables.specs.Bytes.{between}
 use Rattle.tables.specs.Tables.{mostTables, mostColumns}
+use Rattle.tables.specs.Values.{judgedLevels}
 use Rattle.card.specs.Card.{Card, entries, cardFits}
 use Rattle.card.specs.Layout.{cardBytes, cardLength, entryCount, tablesIn, columnsIn, cardFrom}
 
@@ -20,10 +21,6 @@ mostEntries = 192
 -- a card's tables: "T, 1 to 8. T bytes: columns, 1 to 16 each."
 abbrev pub columnsFit : List ℕ → Bool
 columnsFit columns = between 1 mostTables (length columns) && all (between 1 mostColumns) columns
-
--- level 0 is the judged row of table 1
-abbrev pub judgedLevels : List ℕ
-judgedLevels = 1 ∷ []
 
 -- the entries hold a card for these columns
 abbrev pub holdsFitting : List ℕ → Option Card → Bool

@@ -1,9 +1,9 @@
 -- An accepted text is just what the grammar, names and limits allow.
-use mathlib.Core.Path.{_≡_, refl, sym, ap, subst, _∙_}
+use mathlib.Core.Path.{_≡_, refl, sym, ap, _∙_}
 use mathlib.Core.Bool.{Bool, true, false, not, _&&_}
 use mathlib.Core.List.{List, [], _∷_, _++_}
 use mathlib.Core.Logic.{_↔_}
-use mathlib.Core.Option.{Option, none, some, Option·some-injective}
+use mathlib.Core.Option.{Option, none, some}
 use Prim.Native.Nat.{ℕ, suc, _+_, _≤_, max}
 use native.Mathlib.Omega.{arith}
 use borrow.Author.Tests.{ltb-false, le-ltb, leb-true, le-leb, not-false, not-true}
@@ -12,19 +12,20 @@ use lib.IntN.{pos}
 use lib.ListN.{length}
 use Rattle.tables.specs.Lists.{_>>=_, isMissing}
 use Rattle.tables.specs.Tables.{sizesFit, marksFit, columnsOf}
+use Rattle.tables.specs.Values.{judgedLevels}
 use Rattle.tables.specs.Refusals.{tablesRefusals}
-use Rattle.tables.proofs.Refusals.{lowest-nil, lowest-none, none-lowest}
+use Rattle.tables.proofs.Refusals.{first-nil, first-none, none-first}
 use Rattle.rule.specs.Tokens.{tokensOf, opensFit}
-use Rattle.rule.specs.Condition.{Alone, Join, Not, Exists, Listed, Over, Text, Rule, parts, fromsDeep}
+use Rattle.rule.specs.Condition.{Atom, Join, Not, Exists, Listed, Over, WrittenCondition, Rule, parts, fromsDeep}
 use Rattle.rule.specs.Grammar.{Tokens}
 use Rattle.rule.specs.Reader.{readAll}
 use Rattle.rule.specs.Names.{mostParts, mostFroms, limitsFit, Scope, outermost, bound, existing, valueIn, testIn, ruleIn}
 use Rattle.rule.specs.Calls.{mostBytes, fails, isThere, textOf, ruleOf, readingRefusals, Accepted}
-use Rattle.rule.specs.Claims.{Allowed, AcceptedClaim, AcceptedRule, PartsClaim}
+use Rattle.rule.specs.Claims.{Allowed, AcceptedClaim, PartsClaim}
 use Rattle.rule.proofs.Reading.{read-sound, read-complete}
 use Rattle.rule.proofs.Sizes.{names-sized}
 use Rattle.rule.proofs.Constants.{tokens-fit, reading-constants}
-use Rattle.rule.proofs.Fits.{Fits, names-fit, fits-scoped}
+use Rattle.rule.proofs.Fits.{names-fit, fits-scoped}
 use Rattle.rule.proofs.Parts.{parts-back, parts-length}
 
 -- something is there
@@ -49,23 +50,23 @@ record Unrefused (text file : List ℕ) : Type 0 where
 accepted-unrefused : (text file : List ℕ) → Accepted text file → Unrefused text file
 unfolding readingRefusals tablesRefusals
 accepted-unrefused text file e =
-    let e1 = none-lowest 1 (not (sizesFit file)) _ e in
-    let e2 = none-lowest 2 (not (marksFit file)) _ (e1 .1) in
-    let e3 = none-lowest 3 (ltb mostBytes (length text)) _ (e2 .1) in
-    let e4 = none-lowest 4 (isMissing (tokensOf text)) _ (e3 .1) in
-    let e5 = none-lowest 5 (fails (opensFit (pos 0)) (tokensOf text)) _ (e4 .1) in
-    let e6 = none-lowest 6 (fails (λ ts. isThere (readAll ts)) (tokensOf text)) _ (e5 .1) in
-    let e7 = none-lowest 7 (fails limitsFit (textOf text)) _ (e6 .1) in
-    let e8 = none-lowest 8 (fails (λ a. isThere (ruleIn (columnsOf file) outermost a)) (textOf text)) _ (e7 .1) in
+    let e1 = none-first 1 (not (sizesFit file)) _ e in
+    let e2 = none-first 2 (not (marksFit file)) _ (e1 .1) in
+    let e3 = none-first 3 (ltb mostBytes (length text)) _ (e2 .1) in
+    let e4 = none-first 4 (isMissing (tokensOf text)) _ (e3 .1) in
+    let e5 = none-first 5 (fails (opensFit (pos 0)) (tokensOf text)) _ (e4 .1) in
+    let e6 = none-first 6 (fails (λ ts. isThere (readAll ts)) (tokensOf text)) _ (e5 .1) in
+    let e7 = none-first 7 (fails limitsFit (textOf text)) _ (e6 .1) in
+    let e8 = none-first 8 (fails (λ a. isThere (ruleIn (columnsOf file) outermost a)) (textOf text)) _ (e7 .1) in
     record { no-1 = e1 .0; no-2 = e2 .0; no-3 = e3 .0; no-4 = e4 .0; no-5 = e5 .0; no-6 = e6 .0; no-7 = e7 .0; no-8 = e8 .0 }
 
 unrefused-accepted : (text file : List ℕ) → Unrefused text file → Accepted text file
 unfolding readingRefusals tablesRefusals
 unrefused-accepted text file u =
-    lowest-none 1 _ _ (u .no-1) (lowest-none 2 _ _ (u .no-2) (lowest-none 3 _ _ (u .no-3) (lowest-none 4 _ _ (u .no-4)
-    (lowest-none 5 _ _ (u .no-5) (lowest-none 6 _ _ (u .no-6) (lowest-none 7 _ _ (u .no-7) (lowest-none 8 _ _ (u .no-8) lowest-nil)))))))
+    first-none 1 _ _ (u .no-1) (first-none 2 _ _ (u .no-2) (first-none 3 _ _ (u .no-3) (first-none 4 _ _ (u .no-4)
+    (first-none 5 _ _ (u .no-5) (first-none 6 _ _ (u .no-6) (first-none 7 _ _ (u .no-7) (first-none 8 _ _ (u .no-8) first-nil)))))))
 
-limits-are : (a : Text) → limitsFit a ≡ true → (parts a ≤ mostParts) × (fromsDeep a ≤ mostFroms)
+limits-are : (a : WrittenCondition) → limitsFit a ≡ true → (parts a ≤ mostParts) × (fromsDeep a ≤ mostFroms)
 unfolding limitsFit
 limits-are a e = go (leb (parts a) mostParts) (leb (fromsDeep a) mostFroms) refl refl e
   where
@@ -74,7 +75,7 @@ limits-are a e = go (leb (parts a) mostParts) (leb (fromsDeep a) mostFroms) refl
     go true false f g h = let z : _≡_ {A = ℕ} 0 1 = cc in absurd (omega arith)
     go false q f g h = let z : _≡_ {A = ℕ} 0 1 = cc in absurd (omega arith)
 
-limits-of : (a : Text) → parts a ≤ mostParts → fromsDeep a ≤ mostFroms → limitsFit a ≡ true
+limits-of : (a : WrittenCondition) → parts a ≤ mostParts → fromsDeep a ≤ mostFroms → limitsFit a ≡ true
 unfolding limitsFit
 limits-of a p q = rw (le-leb (parts a) mostParts p, le-leb (fromsDeep a) mostFroms q)
 
@@ -93,7 +94,7 @@ accepted-allowed text file e =
       short = ltb-false mostBytes (length text) (u .no-3);
       tokens = t .0;
       are-tokens = t .1;
-      balanced = passed (opensFit (pos 0)) (t .0) (rw (t .1) at (u .no-5));
+      brackets = passed (opensFit (pos 0)) (t .0) (rw (t .1) at (u .no-5));
       condition = a .0;
       reads = read-sound (t .0) (a .0) (a .1);
       few-parts = l .0;
@@ -112,7 +113,7 @@ allowed-accepted text file w =
       no-2 = ap not (w .tables-marked);
       no-3 = le-ltb mostBytes (length text) (w .short);
       no-4 = ap isMissing (w .are-tokens);
-      no-5 = rw (w .are-tokens, w .balanced);
+      no-5 = rw (w .are-tokens, w .brackets);
       no-6 = rw (w .are-tokens, read);
       no-7 = rw (is, limits-of (w .condition) (w .few-parts) (w .few-froms));
       no-8 = rw (is, w .names);
@@ -123,27 +124,25 @@ accepted-claim text file = (accepted-allowed text file, allowed-accepted text fi
 
 -- ---- the rule of an accepted text
 
-module _ (text file : List ℕ) (e : Accepted text file) where
-  -- it is the rule that the text reads as
-  pub accepted-is : (r : Rule) × (ruleOf text (columnsOf file) ≡ some r) × Fits (columnsOf file) (1 ∷ []) r × (parts r ≤ mostParts) × (fromsDeep r ≤ mostFroms)
-  unfolding ruleOf textOf
-  accepted-is =
-      let w = accepted-allowed text file e in
-      let read : textOf text ≡ some (w .condition) = ap (_>>= readAll) (w .are-tokens) ∙ read-complete (w .tokens) (w .condition) (w .reads) in
-      let constants = reading-constants (w .reads) (tokens-fit text (w .are-tokens)) in
-      let size = names-sized (columnsOf file) (w .condition) (w .names) in
-      let few = w .few-parts in
-      let shallow = w .few-froms in
-      (w .rule, ap (_>>= ruleIn (columnsOf file) outermost) read ∙ w .names, names-fit (columnsOf file) (w .condition) constants (w .names), omega arith, omega arith)
-
-  accepted-rule : AcceptedRule (accepted-is .0)
-  accepted-rule =
-      let r = accepted-is .0 in
-      let scoped = fits-scoped (columnsOf file) 1 (1 ∷ []) refl r (accepted-is .2) in
-      let deep : fromsDeep r ≤ 3 = accepted-is .4 in
-      record { scoped = scoped; few-parts = accepted-is .3; few-froms = deep; records = parts-length r 0; back = parts-back r deep scoped }
-
 pub parts-claim : PartsClaim
-parts-claim text file e r is =
-    let same : some (accepted-is text file e .0) ≡ some r = sym (accepted-is text file e .1) ∙ is in
-    subst AcceptedRule (Option·some-injective _ _ same) (accepted-rule text file e)
+unfolding ruleOf textOf
+parts-claim text file e =
+    let w = accepted-allowed text file e in
+    let read : textOf text ≡ some (w .condition) = ap (_>>= readAll) (w .are-tokens) ∙ read-complete (w .tokens) (w .condition) (w .reads) in
+    let constants = reading-constants (w .reads) (tokens-fit text (w .are-tokens)) in
+    let fits = names-fit (columnsOf file) (w .condition) constants (w .names) in
+    let scoped = fits-scoped (columnsOf file) 1 judgedLevels refl (w .rule) fits in
+    let size = names-sized (columnsOf file) (w .condition) (w .names) in
+    let few = w .few-parts in
+    let shallow = w .few-froms in
+    let deep : fromsDeep (w .rule) ≤ mostFroms = omega arith in
+    record {
+      rule = w .rule;
+      is-rule = ap (_>>= ruleIn (columnsOf file) outermost) read ∙ w .names;
+      fits = fits;
+      scoped = scoped;
+      few-parts = omega arith;
+      few-froms = deep;
+      records = parts-length (w .rule) 0;
+      back = parts-back (w .rule) deep scoped;
+    }

@@ -1,7 +1,7 @@
 -- The proved cases of document 01 and the texts at the edges of the refusals, each as one computed fact.
 use mathlib.Core.Path.{refl}
-use Rattle.rule.specs.Cases.{judgedAt, partsText, chained, edges}
-use Rattle.rule.specs.Claims.{CasesClaim, PartsCaseClaim, EdgesClaim}
+use Rattle.rule.specs.Cases.{judgedAt, partsRead, chained, edges}
+use Rattle.rule.specs.Claims.{CasesClaim, PartsCasesClaim, TestsClaim, OrderClaim, EdgesClaim}
 use Rattle.rule.proofs.Opened.{opened}
 
 -- "Cases 1 to 12 are proved together, as one tabulated fact over the definitions": from texts and bytes, through what JUDGE answers
@@ -9,9 +9,17 @@ pub cases-claim : CasesClaim
 unfolding opened judgedAt
 cases-claim = refl
 
-pub parts-case-claim : PartsCaseClaim
-unfolding opened partsText
-parts-case-claim = refl
+pub parts-cases-claim : PartsCasesClaim
+unfolding opened partsRead
+parts-cases-claim = refl
+
+pub tests-claim : TestsClaim
+unfolding opened judgedAt
+tests-claim = refl
+
+pub order-claim : OrderClaim
+unfolding opened
+order-claim = record { reading = λ text file. refl; judging = λ text file row. refl }
 
 pub edges-claim : EdgesClaim
 unfolding opened chained edges

@@ -10,8 +10,8 @@ use lib.IntN.{ℤ, pos, negℤ}
 use lib.ListN.{length}
 use Rattle.tables.specs.Lists.{same, only}
 use Rattle.tables.specs.Bytes.{between, inRange}
-use Rattle.rule.specs.Tokens.{Token, Fixed, Compares, Letter, Number, Spelling, words, signs, isGap, isCapital, isSmall, isDigit, run, Lexed, wordIn, begins, signIn, mostDigits, spelled, numberFrom, firstToken, andThen, tokensAfter, tokensOf}
-use Rattle.rule.specs.Condition.{Test, Compare, IsNull, IsNotNull, Condition, Alone, Join, Not, Exists, Listed, Written, Plain, Named, From, Text}
+use Rattle.rule.specs.Tokens.{Token, Fixed, Compares, Letter, Number, Spelling, words, signs, isGap, isCapital, isSmall, isDigit, takeWhile, Lexed, wordIn, begins, signIn, mostDigits, spelled, numberFrom, firstToken, andThen, tokensAfter, tokensOf}
+use Rattle.rule.specs.Condition.{Test, Compare, IsNull, IsNotNull, Condition, Atom, Join, Not, Exists, Listed, WrittenValue, Plain, Named, From, WrittenCondition}
 use Rattle.rule.specs.Grammar.{Tokens, IsValue, number, column, IsCondition, one-conjunction, joined-by-or, IsConjunction, one-factor, joined-by-and, IsFactor, not-factor, one-test, IsTest, bracketed, exists, is-null, is-not-null, compared, some-of, all-of, is-in, not-in, IsList, list}
 use Rattle.rule.proofs.Every.{Every, missing, there, found}
 
@@ -61,10 +61,10 @@ number-fits sign before digits = go (between 1 mostDigits (length digits)) (inRa
 first-fits : (b : ℕ) (bs : List ℕ) → Every LexedFits (firstToken b bs)
 unfolding firstToken words signs
 first-fits b bs =
-    either LexedFits (isCapital b) (word-fits words (run isCapital (b ∷ bs)) (tt, (tt, (tt, (tt, (tt, (tt, (tt, (tt, (tt, (tt, (tt, (tt, tt)))))))))))))
+    either LexedFits (isCapital b) (word-fits words (takeWhile isCapital (b ∷ bs)) (tt, (tt, (tt, (tt, (tt, (tt, (tt, (tt, (tt, (tt, (tt, (tt, tt)))))))))))))
     (either LexedFits (isSmall b) (there tt)
-    (either LexedFits (isDigit b) (number-fits pos 0 (run isDigit (b ∷ bs)))
-    (either LexedFits (eqb b 45) (number-fits (λ n. negℤ (pos n)) 1 (run isDigit bs)) (sign-fits signs (b ∷ bs) (tt, (tt, (tt, (tt, (tt, (tt, (tt, (tt, (tt, tt)))))))))))))
+    (either LexedFits (isDigit b) (number-fits pos 0 (takeWhile isDigit (b ∷ bs)))
+    (either LexedFits (eqb b 45) (number-fits (λ n. negℤ (pos n)) 1 (takeWhile isDigit bs)) (sign-fits signs (b ∷ bs) (tt, (tt, (tt, (tt, (tt, (tt, (tt, (tt, (tt, tt)))))))))))))
 
 then-fits : (o : Option Lexed) (behind : ℕ → Option Tokens) → Every LexedFits o → ((n : ℕ) → Every TokensFit (behind n)) → Every TokensFit (andThen o behind)
 then-fits none behind missing h = missing
@@ -86,42 +86,42 @@ tokens-fit text e = found (rw e at (after-fits text 0))
 
 -- ---- conditions
 
-abbrev pub WrittenFits : Written → Type 0
+abbrev pub WrittenFits : WrittenValue → Type 0
 WrittenFits (Plain k) = T (inRange k)
 WrittenFits (Named x n) = Unit {0}
 
-abbrev pub TestConstants : Test Written → Type 0
+abbrev pub TestConstants : Test WrittenValue → Type 0
 TestConstants (Compare op l r) = WrittenFits l × WrittenFits r
 TestConstants (IsNull l) = WrittenFits l
 TestConstants (IsNotNull l) = WrittenFits l
 
-unfoldable pub Constants : Text → Type 0
-Constants (Alone x) = TestConstants x
+unfoldable pub Constants : WrittenCondition → Type 0
+Constants (Atom x) = TestConstants x
 Constants (Join j a b) = Constants a × Constants b
 Constants (Not a) = Constants a
 Constants (Exists f w) = Constants w
 Constants (Listed q op l s f w) = WrittenFits l × WrittenFits s × Constants w
 
-value-constants : {ts rest : Tokens} {v : Written} → IsValue ts v rest → TokensFit ts → WrittenFits v × TokensFit rest
+value-constants : {ts rest : Tokens} {v : WrittenValue} → IsValue ts v rest → TokensFit ts → WrittenFits v × TokensFit rest
 value-constants number f = (f .0, f .1)
 value-constants column f = (tt, f .1 .1 .1)
 
 mutual
   unfolding Constants
 
-  condition-constants : {ts rest : Tokens} {a : Text} → IsCondition ts a rest → TokensFit ts → Constants a × TokensFit rest
+  condition-constants : {ts rest : Tokens} {a : WrittenCondition} → IsCondition ts a rest → TokensFit ts → Constants a × TokensFit rest
   condition-constants (one-conjunction r) f = conjunction-constants r f
   condition-constants (joined-by-or r q) f = let x = condition-constants r f in let y = conjunction-constants q (x .1 .1) in ((x .0, y .0), y .1)
 
-  conjunction-constants : {ts rest : Tokens} {a : Text} → IsConjunction ts a rest → TokensFit ts → Constants a × TokensFit rest
+  conjunction-constants : {ts rest : Tokens} {a : WrittenCondition} → IsConjunction ts a rest → TokensFit ts → Constants a × TokensFit rest
   conjunction-constants (one-factor r) f = factor-constants r f
   conjunction-constants (joined-by-and r q) f = let x = conjunction-constants r f in let y = factor-constants q (x .1 .1) in ((x .0, y .0), y .1)
 
-  factor-constants : {ts rest : Tokens} {a : Text} → IsFactor ts a rest → TokensFit ts → Constants a × TokensFit rest
+  factor-constants : {ts rest : Tokens} {a : WrittenCondition} → IsFactor ts a rest → TokensFit ts → Constants a × TokensFit rest
   factor-constants (not-factor r) f = factor-constants r (f .1)
   factor-constants (one-test r) f = test-constants r f
 
-  test-constants : {ts rest : Tokens} {a : Text} → IsTest ts a rest → TokensFit ts → Constants a × TokensFit rest
+  test-constants : {ts rest : Tokens} {a : WrittenCondition} → IsTest ts a rest → TokensFit ts → Constants a × TokensFit rest
   test-constants (bracketed r) f = let x = condition-constants r (f .1) in (x .0, x .1 .1)
   test-constants (exists r) f = let x = condition-constants r (f .1 .1 .1 .1 .1 .1) in (x .0, x .1 .1)
   test-constants (is-null v) f = let x = value-constants v f in (x .0, x .1 .1 .1)
@@ -132,8 +132,8 @@ mutual
   test-constants (is-in v r) f = let x = value-constants v f in let y = list-constants r (x .1 .1) in ((x .0, y .0, y .1), y .2)
   test-constants (not-in v r) f = let x = value-constants v f in let y = list-constants r (x .1 .1 .1) in ((x .0, y .0, y .1), y .2)
 
-  list-constants : {ts rest : Tokens} {s : Written} {g : From} {w : Text} → IsList ts s g w rest → TokensFit ts → WrittenFits s × Constants w × TokensFit rest
+  list-constants : {ts rest : Tokens} {s : WrittenValue} {g : From} {w : WrittenCondition} → IsList ts s g w rest → TokensFit ts → WrittenFits s × Constants w × TokensFit rest
   list-constants (list v r) f = let x = value-constants v (f .1 .1) in let y = condition-constants r (x .1 .1 .1 .1 .1) in (x .0, y .0, y .1 .1)
 
-pub reading-constants : {ts rest : Tokens} {a : Text} → IsCondition ts a rest → TokensFit ts → Constants a
+pub reading-constants : {ts rest : Tokens} {a : WrittenCondition} → IsCondition ts a rest → TokensFit ts → Constants a
 reading-constants r f = condition-constants r f .0

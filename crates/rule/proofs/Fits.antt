@@ -12,31 +12,10 @@ use lib.Seq.{getD-append-seam}
 use Rattle.tables.specs.Lists.{numbered, only, _>>=_}
 use Rattle.tables.specs.Bytes.{between, inRange}
 use Rattle.tables.specs.Values.{Value, Constant, Column}
-use Rattle.rule.specs.Condition.{Test, Compare, IsNull, IsNotNull, Condition, Alone, Join, Not, Exists, Listed, Written, Plain, Named, From, Over, Text, Rule}
-use Rattle.rule.specs.Names.{Binding, Scope, outermost, bound, nearest, existing, valueIn, testIn, ruleIn, ValueScoped, Scoped}
+use Rattle.rule.specs.Condition.{Test, Compare, IsNull, IsNotNull, Condition, Atom, Join, Not, Exists, Listed, WrittenValue, Plain, Named, From, Over, WrittenCondition, Rule}
+use Rattle.rule.specs.Names.{Binding, Scope, outermost, bound, nearest, existing, valueIn, testIn, ruleIn, ValueFits, TestFits, TableFits, Fits, ValueScoped, Scoped}
 use Rattle.rule.proofs.Every.{Every, missing, there, found, every-bind}
 use Rattle.rule.proofs.Constants.{WrittenFits, TestConstants, Constants}
-
--- columns has the columns of each table, levels the table of each level
-module _ (columns : List ℕ) where
-  abbrev pub ValueFits : List ℕ → Value → Type 0
-  ValueFits levels (Constant k) = T (inRange k)
-  ValueFits levels (Column l c) = (l < length levels) × T (between 1 (numbered columns (getD levels l 0) 0) c)
-
-  abbrev pub TestFits : List ℕ → Test Value → Type 0
-  TestFits levels (Compare op l r) = ValueFits levels l × ValueFits levels r
-  TestFits levels (IsNull l) = ValueFits levels l
-  TestFits levels (IsNotNull l) = ValueFits levels l
-
-  abbrev pub TableFits : ℕ → Type 0
-  TableFits t = T (between 1 (length columns) t)
-
-  unfoldable pub Fits : List ℕ → Rule → Type 0
-  Fits levels (Alone x) = TestFits levels x
-  Fits levels (Join j a b) = Fits levels a × Fits levels b
-  Fits levels (Not a) = Fits levels a
-  Fits levels (Exists t w) = TableFits t × Fits (levels ++ (t ∷ [])) w
-  Fits levels (Listed q op l s t w) = TableFits t × ValueFits levels l × ValueFits (levels ++ (t ∷ [])) s × Fits (levels ++ (t ∷ [])) w
 
 -- a binding's level has the binding's table
 abbrev InPlace : List ℕ → Binding → Type 0
@@ -82,7 +61,7 @@ existing-fits most (pos n) = go (between 1 most n) refl
 existing-fits most (negsuc n) = missing
 
 module _ (columns : List ℕ) where
-  value-fits : {levels : List ℕ} {scope : Scope} → Placed levels scope → (v : Written) → WrittenFits v → Every (ValueFits columns levels) (valueIn columns scope v)
+  value-fits : {levels : List ℕ} {scope : Scope} → Placed levels scope → (v : WrittenValue) → WrittenFits v → Every (ValueFits columns levels) (valueIn columns scope v)
   unfolding valueIn
   value-fits p (Plain k) f = there f
   value-fits {levels} p (Named x m) f =
@@ -90,16 +69,16 @@ module _ (columns : List ℕ) where
       every-bind (λ n. T (between 1 (numbered columns (b .table) 0) n)) (ValueFits columns levels) _ (existing-fits (numbered columns (b .table) 0) m) (λ c g.
       let q : ValueFits columns levels (Column (b .level) c) = (h .0, rw (h .1) g) in there q))
 
-  test-fits : {levels : List ℕ} {scope : Scope} → Placed levels scope → (x : Test Written) → TestConstants x → Every (TestFits columns levels) (testIn columns scope x)
+  test-fits : {levels : List ℕ} {scope : Scope} → Placed levels scope → (x : Test WrittenValue) → TestConstants x → Every (TestFits columns levels) (testIn columns scope x)
   unfolding testIn
   test-fits p (Compare op l r) f =
       every-bind (ValueFits columns _) (TestFits columns _) _ (value-fits p l (f .0)) (λ x h. every-bind (ValueFits columns _) (TestFits columns _) _ (value-fits p r (f .1)) (λ y g. there (h, g)))
   test-fits p (IsNull l) f = every-bind (ValueFits columns _) (TestFits columns _) _ (value-fits p l f) (λ x h. there h)
   test-fits p (IsNotNull l) f = every-bind (ValueFits columns _) (TestFits columns _) _ (value-fits p l f) (λ x h. there h)
 
-  rule-fits : {levels : List ℕ} {scope : Scope} → length scope ≡ length levels → Placed levels scope → (a : Text) → Constants a → Every (Fits columns levels) (ruleIn columns scope a)
+  rule-fits : {levels : List ℕ} {scope : Scope} → length scope ≡ length levels → Placed levels scope → (a : WrittenCondition) → Constants a → Every (Fits columns levels) (ruleIn columns scope a)
   unfolding ruleIn Fits Constants
-  rule-fits e p (Alone x) f = every-bind (TestFits columns _) (Fits columns _) _ (test-fits p x f) (λ y h. there h)
+  rule-fits e p (Atom x) f = every-bind (TestFits columns _) (Fits columns _) _ (test-fits p x f) (λ y h. there h)
   rule-fits e p (Join j a b) f = every-bind (Fits columns _) (Fits columns _) _ (rule-fits e p a (f .0)) (λ x h. every-bind (Fits columns _) (Fits columns _) _ (rule-fits e p b (f .1)) (λ y g. there (h, g)))
   rule-fits e p (Not a) f = every-bind (Fits columns _) (Fits columns _) _ (rule-fits e p a f) (λ x h. there h)
   rule-fits {levels} {scope} e p (Exists (Over n x) w) f =
@@ -112,7 +91,7 @@ module _ (columns : List ℕ) where
       every-bind (Fits columns (levels ++ (t ∷ []))) (Fits columns levels) _ (rule-fits (one-longer levels (length scope) t e) (bound-placed x t e p) w (f .2)) (λ w′ h. there (g, hl, hs, h)))))
 
   -- a whole rule: level 0 is table 1
-  pub names-fit : (a : Text) {r : Rule} → Constants a → ruleIn columns outermost a ≡ some r → Fits columns (1 ∷ []) r
+  pub names-fit : (a : WrittenCondition) {r : Rule} → Constants a → ruleIn columns outermost a ≡ some r → Fits columns (1 ∷ []) r
   names-fit a f e =
       let b : InPlace (1 ∷ []) (record { letter = 109; level = 0; table = 1 }) = (omega arith, refl) in
       found (rw e at (rule-fits {levels = 1 ∷ []} {scope = outermost} refl (one-placed b none-placed) a f))
@@ -124,9 +103,9 @@ module _ (columns : List ℕ) where
 
   pub fits-scoped : (n : ℕ) (levels : List ℕ) → n ≡ length levels → (r : Rule) → Fits columns levels r → Scoped n r
   unfolding Fits Scoped
-  fits-scoped n levels e (Alone (Compare op l r)) f = (value-scoped n levels e l (f .0), value-scoped n levels e r (f .1))
-  fits-scoped n levels e (Alone (IsNull l)) f = value-scoped n levels e l f
-  fits-scoped n levels e (Alone (IsNotNull l)) f = value-scoped n levels e l f
+  fits-scoped n levels e (Atom (Compare op l r)) f = (value-scoped n levels e l (f .0), value-scoped n levels e r (f .1))
+  fits-scoped n levels e (Atom (IsNull l)) f = value-scoped n levels e l f
+  fits-scoped n levels e (Atom (IsNotNull l)) f = value-scoped n levels e l f
   fits-scoped n levels e (Join j a b) f = (fits-scoped n levels e a (f .0), fits-scoped n levels e b (f .1))
   fits-scoped n levels e (Not a) f = fits-scoped n levels e a f
   fits-scoped n levels e (Exists t w) f = fits-scoped (suc n) (levels ++ (t ∷ [])) (one-longer levels n t e) w (f .1)

@@ -11,7 +11,7 @@ use borrow.Author.Tests.{eqb-true}
 use Rattle.tables.specs.Lists.{only, _>>=_, _<|>_}
 use Rattle.tables.specs.Values.{Comparison, Eq, Ne, Quantifier, Some, All}
 use Rattle.rule.specs.Tokens.{Token, Fixed, Compares, Letter, Number, NOT, EXISTS, IN, SOME, ALL, IS, NULL, SELECT, FROM, WHERE, Open, Close, Point}
-use Rattle.rule.specs.Condition.{Compare, IsNull, IsNotNull, Alone, Exists, Listed, Written, Plain, Named, From, Over, Text}
+use Rattle.rule.specs.Condition.{Compare, IsNull, IsNotNull, Atom, Exists, Listed, WrittenValue, Plain, Named, From, Over, WrittenCondition}
 use Rattle.rule.specs.Grammar.{Tokens, IsValue, number, column, IsCondition, IsTest, bracketed, exists, is-null, is-not-null, compared, some-of, all-of, is-in, not-in, IsList, list}
 use Rattle.rule.specs.Reader.{expect, readNumber, readLetter, readComparison, readValue, readFrom, Opening, Bracket, OfExists, OfList, closed, Start, Whole, Around, startList, startValue, start, Found, branch}
 
@@ -69,7 +69,7 @@ bind-bind none g f = refl
 bind-bind (some x) g f = refl
 
 module _ {B : Type 0} (Q : Tokens → Option B → Type 0) (missing : (ts : Tokens) → Q ts none) where
-  value-at : (f : Written × Tokens → Option B) → ((v : Written) (ts us : Tokens) → IsValue ts v us → Q ts (f (v, us))) → (ts : Tokens) → Q ts (readValue ts >>= f)
+  value-at : (f : WrittenValue × Tokens → Option B) → ((v : WrittenValue) (ts us : Tokens) → IsValue ts v us → Q ts (f (v, us))) → (ts : Tokens) → Q ts (readValue ts >>= f)
   unfolding readValue
   value-at f h [] = missing []
   value-at f h (Fixed k ∷ us) = missing (Fixed k ∷ us)
@@ -93,22 +93,22 @@ module _ {B : Type 0} (Q : Tokens → Option B → Type 0) (missing : (ts : Toke
 -- what a start promises: the whole test is read, or it is once its condition and the bracket behind it are
 pub data Promised (ts : Tokens) : Option Start → Type 0 where
   nothing : Promised ts none
-  whole : {a : Text} {rest : Tokens} → IsTest ts a rest → Promised ts (some (Whole a rest))
-  around : {o : Opening} {us : Tokens} → ((w : Text) (rest : Tokens) → IsCondition us w (Close ∷ rest) → IsTest ts (closed o w) rest) → Promised ts (some (Around o us))
+  whole : {a : WrittenCondition} {rest : Tokens} → IsTest ts a rest → Promised ts (some (Whole a rest))
+  around : {o : Opening} {us : Tokens} → ((w : WrittenCondition) (rest : Tokens) → IsCondition us w (Close ∷ rest) → IsTest ts (closed o w) rest) → Promised ts (some (Around o us))
 
 -- a list that is read to its WHERE; `h` makes the test of it
-list-promised : (q : Quantifier) (op : Comparison) (l : Written) (ts us : Tokens)
-    → ((s : Written) (f : From) (w : Text) (rest : Tokens) → IsList us s f w rest → IsTest ts (Listed q op l s f w) rest) → Promised ts (startList q op l us)
+list-promised : (q : Quantifier) (op : Comparison) (l : WrittenValue) (ts us : Tokens)
+    → ((s : WrittenValue) (f : From) (w : WrittenCondition) (rest : Tokens) → IsList us s f w rest → IsTest ts (Listed q op l s f w) rest) → Promised ts (startList q op l us)
 unfolding startList
 list-promised q op l ts =
-    let Q : Tokens → Option Start → Type 0 = λ us o. ((s : Written) (f : From) (w : Text) (rest : Tokens) → IsList us s f w rest → IsTest ts (Listed q op l s f w) rest) → Promised ts o in
+    let Q : Tokens → Option Start → Type 0 = λ us o. ((s : WrittenValue) (f : From) (w : WrittenCondition) (rest : Tokens) → IsList us s f w rest → IsTest ts (Listed q op l s f w) rest) → Promised ts o in
     expect-at Q (λ _ _. nothing) 13 _ (λ us.
     expect-at (λ vs o. Q (Open ∷ vs) o) (λ _ _. nothing) 10 _ (λ vs.
     value-at (λ ws o. Q (Open ∷ SELECT ∷ ws) o) (λ _ _. nothing) _ (λ v ws xs is.
     from-at (λ ys o. IsValue ws v ys → Q (Open ∷ SELECT ∷ ws) o) (λ _ _ _. nothing) _ (λ n x ys is′ h. around (λ w rest c. h v (Over n x) w rest (list is′ c))) xs is) vs) us)
 
 -- what stands behind a value: the productions in the order of startValue
-module _ (l : Written) where
+module _ (l : WrittenValue) where
   abbrev Behind : Tokens → Option Start → Type 0
   Behind us o = (ts : Tokens) → IsValue ts l us → Promised ts o
 
@@ -134,25 +134,25 @@ start-promised ts =
 
 -- ---- every form is found
 
-start-value : {ts us : Tokens} {l : Written} → IsValue ts l us → start ts ≡ startValue l us
+start-value : {ts us : Tokens} {l : WrittenValue} → IsValue ts l us → start ts ≡ startValue l us
 unfolding start expect readValue readNumber
 start-value number = refl
 start-value column = refl
 
-pub null-found : {ts rest : Tokens} {l : Written} → IsValue ts l (IS ∷ NULL ∷ rest) → start ts ≡ some (Whole (Alone (IsNull l)) rest)
+pub null-found : {ts rest : Tokens} {l : WrittenValue} → IsValue ts l (IS ∷ NULL ∷ rest) → start ts ≡ some (Whole (Atom (IsNull l)) rest)
 unfolding startValue expect
 null-found v = start-value v
 
-pub not-null-found : {ts rest : Tokens} {l : Written} → IsValue ts l (IS ∷ NOT ∷ NULL ∷ rest) → start ts ≡ some (Whole (Alone (IsNotNull l)) rest)
+pub not-null-found : {ts rest : Tokens} {l : WrittenValue} → IsValue ts l (IS ∷ NOT ∷ NULL ∷ rest) → start ts ≡ some (Whole (Atom (IsNotNull l)) rest)
 unfolding startValue expect
 not-null-found v = start-value v
 
-pub compared-found : {ts us rest : Tokens} {op : Comparison} {l r : Written} → IsValue ts l (Compares op ∷ us) → IsValue us r rest → start ts ≡ some (Whole (Alone (Compare op l r)) rest)
+pub compared-found : {ts us rest : Tokens} {op : Comparison} {l r : WrittenValue} → IsValue ts l (Compares op ∷ us) → IsValue us r rest → start ts ≡ some (Whole (Atom (Compare op l r)) rest)
 unfolding startValue expect readComparison readValue readNumber
 compared-found v number = start-value v
 compared-found v column = start-value v
 
-pub list-found : (q : Quantifier) (op : Comparison) (l : Written) {us vs : Tokens} {s : Written} {n : ℤ} {x : ℕ}
+pub list-found : (q : Quantifier) (op : Comparison) (l : WrittenValue) {us vs : Tokens} {s : WrittenValue} {n : ℤ} {x : ℕ}
     → IsValue us s (FROM ∷ Number n ∷ Letter x ∷ WHERE ∷ vs) → startList q op l (Open ∷ SELECT ∷ us) ≡ some (Around (OfList q op l s (Over n x)) vs)
 unfolding startList expect readValue readNumber readFrom readLetter
 list-found q op l number = refl
@@ -162,7 +162,7 @@ or-left : {A : Type 0} (o o′ : Option A) {x : A} → o ≡ some x → (o <|> o
 or-left o o′ e = ap (_<|> o′) e
 
 -- a list after SOME, ALL, IN and NOT IN
-module _ {ts us : Tokens} {l : Written} {x : Start} where
+module _ {ts us : Tokens} {l : WrittenValue} {x : Start} where
   pub some-found : (op : Comparison) → startList Some op l us ≡ some x → IsValue ts l (Compares op ∷ SOME ∷ us) → start ts ≡ some x
   unfolding startValue expect readComparison readValue
   some-found op e v = start-value v ∙ or-left _ _ (or-left _ _ (or-left _ _ e))

@@ -13,7 +13,7 @@ use lib.ListN.{length}
 use Rattle.tables.specs.Lists.{only, _>>=_}
 use Rattle.tables.specs.Values.{Comparison, Eq, Ne, And, Or, Quantifier, Some, All}
 use Rattle.rule.specs.Tokens.{Token, Fixed, Compares, Letter, Number, AND, OR, NOT, EXISTS, IN, SOME, ALL, IS, NULL, SELECT, FROM, WHERE, Open, Close}
-use Rattle.rule.specs.Condition.{Alone, Join, Not, Exists, Listed, Written, From, Over, Text}
+use Rattle.rule.specs.Condition.{Atom, Join, Not, Exists, Listed, WrittenValue, From, Over, WrittenCondition}
 use Rattle.rule.specs.Grammar.{Tokens, IsValue, number, column, IsCondition, one-conjunction, joined-by-or, IsConjunction, one-factor, joined-by-and, IsFactor, not-factor, one-test, IsTest, bracketed, exists, is-null, is-not-null, compared, some-of, all-of, is-in, not-in, IsList, list, Reads}
 use Rattle.rule.specs.Reader.{expect, readNumber, readLetter, readFrom, Opening, Bracket, OfExists, OfList, closed, Start, Whole, Around, startList, start, Goal, condition, conjunction, factor, test, more-or, more-and, Found, branch, started, closing, read, enough, atEnd, readAll}
 use Rattle.rule.specs.Claims.{ReadingClaim}
@@ -21,7 +21,7 @@ use Rattle.rule.proofs.Found.{bind-ind, expect-at, Promised, nothing, w
 
 -- ---- a reading of the function is one of the grammar
 
-abbrev Means : Goal → Tokens → Text → Tokens → Type 0
+abbrev Means : Goal → Tokens → WrittenCondition → Tokens → Type 0
 Means condition ts a rest = IsCondition ts a rest
 Means conjunction ts a rest = IsConjunction ts a rest
 Means factor ts a rest = IsFactor ts a rest
@@ -31,14 +31,14 @@ Means (more-and b) ts a rest = (before : Tokens) → IsConjunction before b ts �
 
 data Right (goal : Goal) (ts : Tokens) : Found → Type 0 where
   none-found : Right goal ts none
-  found : {a : Text} {rest : Tokens} → Means goal ts a rest → Right goal ts (some (a, rest))
+  found : {a : WrittenCondition} {rest : Tokens} → Means goal ts a rest → Right goal ts (some (a, rest))
 
 -- a reading at one place that always completes to one at another
-carry : (g g′ : Goal) (ts ts′ : Tokens) {o : Found} → ((a : Text) (rest : Tokens) → Means g′ ts′ a rest → Means g ts a rest) → Right g′ ts′ o → Right g ts o
+carry : (g g′ : Goal) (ts ts′ : Tokens) {o : Found} → ((a : WrittenCondition) (rest : Tokens) → Means g′ ts′ a rest → Means g ts a rest) → Right g′ ts′ o → Right g ts o
 carry g g′ ts ts′ k none-found = none-found
 carry g g′ ts ts′ k (found {a = a} {rest = rest} m) = found (k a rest m)
 
-met : (g : Goal) (ts : Tokens) {o : Found} (x : Text × Tokens) → o ≡ some x → Right g ts o → Means g ts (x .0) (x .1)
+met : (g : Goal) (ts : Tokens) {o : Found} (x : WrittenCondition × Tokens) → o ≡ some x → Right g ts o → Means g ts (x .0) (x .1)
 met g ts x e r = go (rw e at r)
   where
     go : Right g ts (some x) → Means g ts (x .0) (x .1)
@@ -95,24 +95,24 @@ sound (suc d) test ts = test-right ts (start ts) (λ us. read d condition us) (�
 -- ---- a reading of the grammar is the function's, where the token after it does not go on with it
 
 -- no more tokens are left after a reading than before it
-value-inside : {ts rest : Tokens} {v : Written} → IsValue ts v rest → length rest ≤ length ts
+value-inside : {ts rest : Tokens} {v : WrittenValue} → IsValue ts v rest → length rest ≤ length ts
 value-inside number = omega arith
 value-inside column = omega arith
 
 mutual
-  condition-inside : {ts rest : Tokens} {a : Text} → IsCondition ts a rest → length rest ≤ length ts
+  condition-inside : {ts rest : Tokens} {a : WrittenCondition} → IsCondition ts a rest → length rest ≤ length ts
   condition-inside (one-conjunction r) = conjunction-inside r
   condition-inside (joined-by-or r q) = omega (arith, condition-inside r, conjunction-inside q)
 
-  conjunction-inside : {ts rest : Tokens} {a : Text} → IsConjunction ts a rest → length rest ≤ length ts
+  conjunction-inside : {ts rest : Tokens} {a : WrittenCondition} → IsConjunction ts a rest → length rest ≤ length ts
   conjunction-inside (one-factor r) = factor-inside r
   conjunction-inside (joined-by-and r q) = omega (arith, conjunction-inside r, factor-inside q)
 
-  factor-inside : {ts rest : Tokens} {a : Text} → IsFactor ts a rest → length rest ≤ length ts
+  factor-inside : {ts rest : Tokens} {a : WrittenCondition} → IsFactor ts a rest → length rest ≤ length ts
   factor-inside (not-factor r) = omega (arith, factor-inside r)
   factor-inside (one-test r) = test-inside r
 
-  test-inside : {ts rest : Tokens} {a : Text} → IsTest ts a rest → length rest ≤ length ts
+  test-inside : {ts rest : Tokens} {a : WrittenCondition} → IsTest ts a rest → length rest ≤ length ts
   test-inside (bracketed r) = omega (arith, condition-inside r)
   test-inside (exists r) = omega (arith, condition-inside r)
   test-inside (is-null v) = omega (arith, value-inside v)
@@ -123,7 +123,7 @@ mutual
   test-inside (is-in v r) = omega (arith, value-inside v, list-inside r)
   test-inside (not-in v r) = omega (arith, value-inside v, list-inside r)
 
-  list-inside : {ts rest : Tokens} {s : Written} {f : From} {w : Text} → IsList ts s f w rest → length rest ≤ length ts
+  list-inside : {ts rest : Tokens} {s : WrittenValue} {f : From} {w : WrittenCondition} → IsList ts s f w rest → length rest ≤ length ts
   list-inside (list v r) = omega (arith, value-inside v, condition-inside r)
 
 -- a chain that is read so far goes on from here, at a depth that is enough
@@ -133,7 +133,7 @@ record Goes (d : ℕ) (g : Goal) (ts : Tokens) (more : Goal) (rest : Tokens) : T
   same : read d g ts ≡ read depth more rest
 
 -- no OR, or no AND, follows: the chain ends
-or-ends : {d : ℕ} {ts rest : Tokens} {a : Text} → expect OR rest ≡ none → Goes d condition ts (more-or a) rest → read d condition ts ≡ some (a, rest)
+or-ends : {d : ℕ} {ts rest : Tokens} {a : WrittenCondition} → expect OR rest ≡ none → Goes d condition ts (more-or a) rest → read d condition ts ≡ some (a, rest)
 unfolding read
 or-ends {d} {ts} {rest} {a} n r = r .same ∙ go (r .depth) (r .deep)
   where
@@ -141,7 +141,7 @@ or-ends {d} {ts} {rest} {a} n r = r .same ∙ go (r .depth) (r .deep)
     go zero h = absurd (omega arith)
     go (suc e) h = ap (λ (o : Option Tokens). branch o (λ us. read e conjunction us >>= (λ b. read e (more-or (Join Or a (b .0))) (b .1))) (λ _. some (a, rest))) n
 
-and-ends : {d : ℕ} {ts rest : Tokens} {a : Text} → expect AND rest ≡ none → Goes d conjunction ts (more-and a) rest → read d conjunction ts ≡ some (a, rest)
+and-ends : {d : ℕ} {ts rest : Tokens} {a : WrittenCondition} → expect AND rest ≡ none → Goes d conjunction ts (more-and a) rest → read d conjunction ts ≡ some (a, rest)
 unfolding read
 and-ends {d} {ts} {rest} {a} n r = r .same ∙ go (r .depth) (r .deep)
   where
@@ -150,7 +150,7 @@ and-ends {d} {ts} {rest} {a} n r = r .same ∙ go (r .depth) (r .deep)
     go (suc e) h = ap (λ (o : Option Tokens). branch o (λ us. read e factor us >>= (λ b. read e (more-and (Join And a (b .0))) (b .1))) (λ _. some (a, rest))) n
 
 -- one more OR, and the conjunction behind it
-or-goes : {d : ℕ} {ts us rest : Tokens} {a b : Text} → length rest ≤ length us → Goes d condition ts (more-or a) (OR ∷ us)
+or-goes : {d : ℕ} {ts us rest : Tokens} {a b : WrittenCondition} → length rest ≤ length us → Goes d condition ts (more-or a) (OR ∷ us)
     → ((e : ℕ) → 8 * length us + 4 ≤ e → read e conjunction us ≡ some (b, rest)) → Goes d condition ts (more-or (Join Or a b)) rest
 unfolding read expect
 or-goes {d} {ts} {us} {rest} {a} {b} l r q = go (r .depth) (r .deep) (r .same)
@@ -159,7 +159,7 @@ or-goes {d} {ts} {us} {rest} {a} {b} l r q = go (r .depth) (r .deep) (r .same)
     go zero h s = absurd (omega arith)
     go (suc e) h s = record { depth = e; deep = omega arith; same = s ∙ ap (_>>= (λ x. read e (more-or (Join Or a (x .0))) (x .1))) (q e (omega arith)) }
 
-and-goes : {d : ℕ} {ts us rest : Tokens} {a b : Text} → length rest ≤ length us → Goes d conjunction ts (more-and a) (AND ∷ us)
+and-goes : {d : ℕ} {ts us rest : Tokens} {a b : WrittenCondition} → length rest ≤ length us → Goes d conjunction ts (more-and a) (AND ∷ us)
     → ((e : ℕ) → 8 * length us + 3 ≤ e → read e factor us ≡ some (b, rest)) → Goes d conjunction ts (more-and (Join And a b)) rest
 unfolding read expect
 and-goes {d} {ts} {us} {rest} {a} {b} l r q = go (r .depth) (r .deep) (r .same)
@@ -169,7 +169,7 @@ and-goes {d} {ts} {us} {rest} {a} {b} l r q = go (r .depth) (r .deep) (r .same)
     go (suc e) h s = record { depth = e; deep = omega arith; same = s ∙ ap (_>>= (λ x. read e (more-and (Join And a (x .0))) (x .1))) (q e (omega arith)) }
 
 -- a test begins with no NOT
-no-not : {ts rest : Tokens} {a : Text} → IsTest ts a rest → expect NOT ts ≡ none
+no-not : {ts rest : Tokens} {a : WrittenCondition} → IsTest ts a rest → expect NOT ts ≡ none
 unfolding expect
 no-not (bracketed r) = refl
 no-not (exists r) = refl
@@ -189,7 +189,7 @@ no-not (not-in number r) = refl
 no-not (not-in column r) = refl
 
 -- one step of the function, at a depth that is enough; `r` reads what it calls for
-module _ {a : Text} {rest : Tokens} where
+module _ {a : WrittenCondition} {rest : Tokens} where
   condition-step : (d : ℕ) (ts : Tokens) → 8 * length ts + 5 ≤ d → length rest ≤ length ts
       → ((e : ℕ) → 8 * length ts + 4 ≤ e → read e conjunction ts ≡ some (a, rest)) → Goes d condition ts (more-or a) rest
   unfolding read
@@ -230,13 +230,13 @@ module _ {a : Text} {rest : Tokens} where
       ap (λ (o : Option Start). started o (λ op′ vs. read d condition vs >>= closing op′)) e ∙ ap (_>>= closing op) (r d (omega arith))
 
 -- a list, read: its start, and its WHERE
-record ListRead (ts : Tokens) (s : Written) (f : From) (w : Text) (rest : Tokens) : Type 0 where
+record ListRead (ts : Tokens) (s : WrittenValue) (f : From) (w : WrittenCondition) (rest : Tokens) : Type 0 where
   inner : Tokens
   shorter : length inner ≤ length ts
-  begins : (q : Quantifier) (op : Comparison) (l : Written) → startList q op l ts ≡ some (Around (OfList q op l s f) inner)
+  begins : (q : Quantifier) (op : Comparison) (l : WrittenValue) → startList q op l ts ≡ some (Around (OfList q op l s f) inner)
   reads : (e : ℕ) → 8 * length inner + 5 ≤ e → read e condition inner ≡ some (w, Close ∷ rest)
 
-closes : {d : ℕ} {ts rest : Tokens} {a : Text} → (expect AND (Close ∷ rest) ≡ none → Goes d condition ts (more-or a) (Close ∷ rest)) → read d condition ts ≡ some (a, Close ∷ rest)
+closes : {d : ℕ} {ts rest : Tokens} {a : WrittenCondition} → (expect AND (Close ∷ rest) ≡ none → Goes d condition ts (more-or a) (Close ∷ rest)) → read d condition ts ≡ some (a, Close ∷ rest)
 unfolding expect
 closes g = or-ends refl (g refl)
 
@@ -253,19 +253,19 @@ unfolding start expect readFrom readNumber readLetter
 exists-start n x ts = refl
 
 mutual
-  condition-goes : {ts rest : Tokens} {a : Text} → IsCondition ts a rest → (d : ℕ) → 8 * length ts + 5 ≤ d → expect AND rest ≡ none → Goes d condition ts (more-or a) rest
+  condition-goes : {ts rest : Tokens} {a : WrittenCondition} → IsCondition ts a rest → (d : ℕ) → 8 * length ts + 5 ≤ d → expect AND rest ≡ none → Goes d condition ts (more-or a) rest
   condition-goes {ts} (one-conjunction r) d h n = condition-step d ts h (conjunction-inside r) (λ e g. and-ends n (conjunction-goes r e g))
   condition-goes (joined-by-or {us = us} r q) d h n = or-goes (conjunction-inside q) (condition-goes r d h (or-is-no-and us)) (λ e g. and-ends n (conjunction-goes q e g))
 
-  conjunction-goes : {ts rest : Tokens} {a : Text} → IsConjunction ts a rest → (d : ℕ) → 8 * length ts + 4 ≤ d → Goes d conjunction ts (more-and a) rest
+  conjunction-goes : {ts rest : Tokens} {a : WrittenCondition} → IsConjunction ts a rest → (d : ℕ) → 8 * length ts + 4 ≤ d → Goes d conjunction ts (more-and a) rest
   conjunction-goes {ts} (one-factor r) d h = conjunction-step d ts h (factor-inside r) (λ e g. factor-read r e g)
   conjunction-goes (joined-by-and r q) d h = and-goes (factor-inside q) (conjunction-goes r d h) (λ e g. factor-read q e g)
 
-  factor-read : {ts rest : Tokens} {a : Text} → IsFactor ts a rest → (d : ℕ) → 8 * length ts + 3 ≤ d → read d factor ts ≡ some (a, rest)
+  factor-read : {ts rest : Tokens} {a : WrittenCondition} → IsFactor ts a rest → (d : ℕ) → 8 * length ts + 3 ≤ d → read d factor ts ≡ some (a, rest)
   factor-read (not-factor {ts = us} r) d h = not-step d us h (λ e g. factor-read r e g)
   factor-read {ts} (one-test r) d h = factor-step d ts h (no-not r) (λ e g. test-read r e g)
 
-  test-read : {ts rest : Tokens} {a : Text} → IsTest ts a rest → (d : ℕ) → 8 * length ts + 2 ≤ d → read d test ts ≡ some (a, rest)
+  test-read : {ts rest : Tokens} {a : WrittenCondition} → IsTest ts a rest → (d : ℕ) → 8 * length ts + 2 ≤ d → read d test ts ≡ some (a, rest)
   test-read (bracketed {ts = us} r) d h = around-step d Bracket (Open ∷ us) us h (omega arith) (bracket-start us) (λ e g. closes (λ n. condition-goes r e g n))
   test-read (exists {n = n} {x = x} {ts = us} r) d h =
       around-step d (OfExists (Over n x)) _ us h (omega arith) (exists-start n x us) (λ e g. closes (λ n. condition-goes r e g n))
@@ -285,16 +285,16 @@ mutual
       let q = list-read r in
       around-step d (OfList All Ne l s f) ts (q .inner) h (omega (arith, q .shorter, value-inside v)) (not-in-found (q .begins All Ne l) v) (q .reads)
 
-  list-read : {ts rest : Tokens} {s : Written} {f : From} {w : Text} → IsList ts s f w rest → ListRead ts s f w rest
+  list-read : {ts rest : Tokens} {s : WrittenValue} {f : From} {w : WrittenCondition} → IsList ts s f w rest → ListRead ts s f w rest
   list-read (list {us = us} v r) = record { inner = us; shorter = omega (arith, value-inside v); begins = λ q op l. list-found q op l v; reads = λ e g. closes (λ n. condition-goes r e g n) }
 
 -- ---- all the tokens
 
-pub read-complete : (ts : Tokens) (a : Text) → Reads ts a → readAll ts ≡ some a
+pub read-complete : (ts : Tokens) (a : WrittenCondition) → Reads ts a → readAll ts ≡ some a
 unfolding readAll expect
 read-complete ts a r = ap (_>>= atEnd) (or-ends refl (condition-goes r (enough ts) (le-refl (enough ts)) refl))
 
-abbrev ReadsSome : Tokens → Option Text → Type 0
+abbrev ReadsSome : Tokens → Option WrittenCondition → Type 0
 ReadsSome ts none = Unit {0}
 ReadsSome ts (some a) = Reads ts a
 
@@ -302,19 +302,19 @@ reads-some : (ts : Tokens) → ReadsSome ts (readAll ts)
 unfolding readAll
 reads-some ts = bind-ind (ReadsSome ts) (read (enough ts) condition ts) atEnd tt (λ x e. go (x .1) (met condition ts x e (sound (enough ts) condition ts)))
   where
-    go : {a : Text} (rest : Tokens) → IsCondition ts a rest → ReadsSome ts (atEnd (a, rest))
+    go : {a : WrittenCondition} (rest : Tokens) → IsCondition ts a rest → ReadsSome ts (atEnd (a, rest))
     go [] c = c
     go (t ∷ us) c = tt
 
-pub read-sound : (ts : Tokens) (a : Text) → readAll ts ≡ some a → Reads ts a
+pub read-sound : (ts : Tokens) (a : WrittenCondition) → readAll ts ≡ some a → Reads ts a
 read-sound ts a e = subst (ReadsSome ts) e (reads-some ts)
 
 -- "in its single reading": no tokens have two
-pub read-unique : (ts : Tokens) (a b : Text) → Reads ts a → Reads ts b → a ≡ b
+pub read-unique : (ts : Tokens) (a b : WrittenCondition) → Reads ts a → Reads ts b → a ≡ b
 read-unique ts a b p q = let x = read-complete ts a p in let y = read-complete ts b q in cc
 
 -- none: no reading at all
-pub read-none : (ts : Tokens) → readAll ts ≡ none → (a : Text) → ¬ Reads ts a
+pub read-none : (ts : Tokens) → readAll ts ≡ none → (a : WrittenCondition) → ¬ Reads ts a
 read-none ts e a r = let x = read-complete ts a r in let z : _≡_ {A = ℕ} 0 1 = cc in omega arith
 
 pub reading-claim : ReadingClaim

@@ -9,9 +9,9 @@ use lib.IntN.{pos}
 use lib.ListN.{length}
 use Rattle.tables.specs.Lists.{_>>=_, isMissing}
 use Rattle.tables.specs.Tables.{columnsOf, tablesOf}
-use Rattle.tables.specs.Refusals.{Refusal, _if_, lowest, Answer, unless, Lent, lend, tablesRefusals, rowRefusal}
+use Rattle.tables.specs.Refusals.{Refusal, _if_, firstApplying, Answer, unless, Lent, lend, tablesRefusals, rowRefusal}
 use Rattle.rule.specs.Tokens.{Token, tokensOf, opensFit}
-use Rattle.rule.specs.Condition.{Text, Rule}
+use Rattle.rule.specs.Condition.{WrittenCondition, Rule}
 use Rattle.rule.specs.Grammar.{Tokens}
 use Rattle.rule.specs.Reader.{readAll}
 use Rattle.rule.specs.Names.{limitsFit, outermost, ruleIn}
@@ -31,7 +31,7 @@ abbrev pub isThere : {A : Type 0} → Option A → Bool
 isThere x = not (isMissing x)
 
 -- the condition that a text reads as, and the rule that it is with these columns
-unfoldable pub textOf : List ℕ → Option Text
+unfoldable pub textOf : List ℕ → Option WrittenCondition
 textOf text = tokensOf text >>= readAll
 
 unfoldable pub ruleOf : List ℕ → List ℕ → Option Rule
@@ -51,7 +51,7 @@ readingRefusals text file =
 
 -- What demand 3 compares: "A rule is accepted with a tables file when no refusal of reading applies to the two."
 abbrev pub Accepted : List ℕ → List ℕ → Type 0
-Accepted text file = lowest (readingRefusals text file) ≡ none
+Accepted text file = firstApplying (readingRefusals text file) ≡ none
 
 -- ---- the calls
 
@@ -64,8 +64,11 @@ withRule (some r) d f = f r
 unfoldable pub readCall : List ℕ → List ℕ → List Part → Lent Part
 readCall text file buffer = lend (readingRefusals text file) (withRule (ruleOf text (columnsOf file)) [] partsOf) buffer
 
+-- "Reading goes before judging, and a refusal of either is passed up unchanged."
+unfoldable pub judgeRefusals : List ℕ → List ℕ → ℕ → List Refusal
+judgeRefusals text file row = readingRefusals text file ++ (rowRefusal file row ∷ [])
+
 -- JUDGE: "text, tables, row number to true, false or unknown"
 unfoldable pub judgeCall : List ℕ → List ℕ → ℕ → Answer Truth
 judgeCall text file row =
-    unless (lowest (readingRefusals text file ++ (rowRefusal file row ∷ [])))
-    (λ _. withRule (ruleOf text (columnsOf file)) Unknown (judged (tablesOf file) row))
+    unless (firstApplying (judgeRefusals text file row)) (λ _. withRule (ruleOf text (columnsOf file)) Unknown (judged (tablesOf file) row))

@@ -3,14 +3,14 @@ use mathlib.Core.List.{List, [], _∷_, _++_, map}
 use mathlib.Core.Option.{Option, none, some}
 use Prim.Native.Nat.{ℕ, zero, suc}
 use lib.IntN.{ℤ, pos, negsuc}
-use lib.ListN.{replicate}
+use lib.ListN.{length, replicate}
 use Prim.Native.String.{String}
 use Rattle.tables.specs.Bytes.{bytes32}
-use Rattle.tables.specs.Refusals.{Answer, Given, lowest}
+use Rattle.tables.specs.Refusals.{Answer, Given, firstApplying, Lent}
 use Rattle.rule.specs.Tokens.{bytes}
-use Rattle.rule.specs.Parts.{Field, unused, Part, partWith}
+use Rattle.rule.specs.Parts.{TaggedValue, unused, Part, partWith}
 use Rattle.rule.specs.Meaning.{Truth, False, Unknown, True}
-use Rattle.rule.specs.Calls.{readingRefusals, judgeCall}
+use Rattle.rule.specs.Calls.{readingRefusals, readCall, judgeCall}
 
 -- "Table 1, two columns: (1, 5), (2, blank), (3, 0). Table 2, one column: 1, blank. Table 3, one column, no rows."
 -- The bytes of a blank cell's value may be anything: here they are 7 and 9.
@@ -61,24 +61,79 @@ judgedAt c = map (judgeCall (bytes (c .text)) caseTables) (0 ∷ 1 ∷ 2 ∷ [])
 abbrev pub expectedAt : Case → List (Answer Truth)
 expectedAt c = map Given (c .values)
 
--- ---- the parts of one rule, in full: kind, end, comparison, table, left and right value
+-- each comparison at less, equal and greater; IS NOT NULL; blank with blank
+abbrev pub testCases : List Case
+testCases =
+    ("m.1 = 2" gives (F ∷ T ∷ F ∷ []))
+    ∷ ("m.1 <> 2" gives (T ∷ F ∷ T ∷ []))
+    ∷ ("m.1 < 2" gives (T ∷ F ∷ F ∷ []))
+    ∷ ("m.1 <= 2" gives (T ∷ T ∷ F ∷ []))
+    ∷ ("m.1 > 2" gives (F ∷ F ∷ T ∷ []))
+    ∷ ("m.1 >= 2" gives (F ∷ T ∷ T ∷ []))
+    ∷ ("-3 < m.1" gives (T ∷ T ∷ T ∷ []))
+    ∷ ("-3 <= -4" gives (F ∷ F ∷ F ∷ []))
+    ∷ ("m.2 IS NOT NULL" gives (T ∷ F ∷ T ∷ []))
+    ∷ ("m.2 = m.2" gives (T ∷ U ∷ T ∷ []))
+    ∷ ("0 = 0 OR 0 = 1 AND 0 = 2" gives (T ∷ T ∷ T ∷ []))
+    ∷ []
 
-unfoldable pub partsText : List ℕ
-partsText = bytes "NOT (m.1 = 1 OR m.2 IS NOT NULL) AND m.1 NOT IN (SELECT v.1 FROM 2 v WHERE v.1 > -5)"
+-- ---- the parts of two rules, in full: kind, end, comparison, table, left and right value
 
-abbrev field : ℕ → ℤ → Field
+abbrev field : ℕ → ℤ → TaggedValue
 field t n = record { tag = t; number = n }
 
-abbrev pub partsExpected : List Part
-partsExpected =
-    partWith 1 7 0 0 unused unused
-    ∷ partWith 3 5 0 0 unused unused
-    ∷ partWith 2 5 0 0 unused unused
-    ∷ partWith 4 4 1 0 (field 0 (pos 1)) (field 255 (pos 1))
-    ∷ partWith 6 5 0 0 (field 0 (pos 2)) unused
-    ∷ partWith 9 7 2 2 (field 0 (pos 1)) (field 1 (pos 1))
-    ∷ partWith 4 7 5 0 (field 1 (pos 1)) (field 255 (negsuc 4))
-    ∷ []
+pub record PartsCase : Type 0 where
+  pub text : String
+  pub parts : List Part
+
+-- precedence and grouping: AND before OR, from the left
+abbrev chainCase : PartsCase
+chainCase = record {
+  text = "1 = 1 OR 1 = 2 OR 1 = 3 AND 1 = 4 AND NOT m.1 <= 2 OR EXISTS (FROM 2 v WHERE v.1 IS NULL)";
+  parts =
+      partWith 2 13 0 0 unused unused
+      ∷ partWith 2 11 0 0 unused unused
+      ∷ partWith 2 5 0 0 unused unused
+      ∷ partWith 4 4 1 0 (field 255 (pos 1)) (field 255 (pos 1))
+      ∷ partWith 4 5 1 0 (field 255 (pos 1)) (field 255 (pos 2))
+      ∷ partWith 1 11 0 0 unused unused
+      ∷ partWith 1 9 0 0 unused unused
+      ∷ partWith 4 8 1 0 (field 255 (pos 1)) (field 255 (pos 3))
+      ∷ partWith 4 9 1 0 (field 255 (pos 1)) (field 255 (pos 4))
+      ∷ partWith 3 11 0 0 unused unused
+      ∷ partWith 4 11 4 0 (field 0 (pos 1)) (field 255 (pos 2))
+      ∷ partWith 7 13 0 2 unused unused
+      ∷ partWith 5 13 0 0 (field 1 (pos 1)) unused
+      ∷ [];
+}
+
+abbrev nestedCase : PartsCase
+nestedCase = record {
+  text = "NOT (m.1 = 1 OR m.2 IS NOT NULL) AND m.1 NOT IN (SELECT v.1 FROM 2 v WHERE v.1 IN (SELECT m.2 FROM 1 m WHERE m.1 > -5))";
+  parts =
+      partWith 1 8 0 0 unused unused
+      ∷ partWith 3 5 0 0 unused unused
+      ∷ partWith 2 5 0 0 unused unused
+      ∷ partWith 4 4 1 0 (field 0 (pos 1)) (field 255 (pos 1))
+      ∷ partWith 6 5 0 0 (field 0 (pos 2)) unused
+      ∷ partWith 9 8 2 2 (field 0 (pos 1)) (field 1 (pos 1))
+      ∷ partWith 8 8 1 1 (field 1 (pos 1)) (field 2 (pos 2))
+      ∷ partWith 4 8 5 0 (field 2 (pos 1)) (field 255 (negsuc 4))
+      ∷ [];
+}
+
+abbrev pub partsCases : List PartsCase
+partsCases = chainCase ∷ nestedCase ∷ []
+
+abbrev filler : Part
+filler = partWith 99 99 99 99 unused unused
+
+-- READ with room for two parts more, and what it is to give
+unfoldable pub partsRead : PartsCase → Lent Part
+partsRead c = readCall (bytes (c .text)) caseTables (map (λ _. filler) (c .parts) ++ (filler ∷ filler ∷ []))
+
+abbrev pub partsGiven : PartsCase → Lent Part
+partsGiven c = record { result = Given (length (c .parts)); buffer = c .parts ++ (filler ∷ filler ∷ []) }
 
 -- ---- texts at the edges, with the tables above: "The lowest applying number is given, and none where no row applies."
 
@@ -107,6 +162,8 @@ edges =
     ∷ ((replicate 33 40 ++ bytes "!") refused 4)
     -- brackets: 32 open may pass, a ) before them counts, and grammar comes after them
     ∷ accepted (replicate 32 40 ++ bytes "1 = 1" ++ replicate 32 41) ∷ ((bytes ")" ++ replicate 33 40) refused 6) ∷ ((bytes ")" ++ replicate 34 40) refused 5)
+    -- 4,096 bytes are read
+    ∷ (replicate 4096 32 refused 6) ∷ (replicate 4097 33 refused 3)
     -- grammar comes before limits, and limits before names
     ∷ ((chained 32 ++ bytes " OR") refused 6) ∷ ((chained 32 ++ bytes " OR k.1 = 1") refused 7)
     -- limits: 64 parts and three FROMs may pass
@@ -120,4 +177,4 @@ edges =
     ∷ accepted (bytes "NOT NOT 1 = 1") ∷ (bytes "NOT" refused 6) ∷ (bytes "(1 = 1" refused 6) ∷ []
 
 abbrev pub refusalAt : Edge → Option ℕ
-refusalAt e = lowest (readingRefusals (e .text) caseTables)
+refusalAt e = firstApplying (readingRefusals (e .text) caseTables)

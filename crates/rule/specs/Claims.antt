@@ -1,29 +1,29 @@
 -- What proofs/ shows of these definitions.
 use mathlib.Core.Path.{_≡_}
 use mathlib.Core.Bool.{true}
-use mathlib.Core.List.{List, map}
+use mathlib.Core.List.{List, [], _∷_, _++_, map}
 use mathlib.Core.Logic.{_↔_}
 use mathlib.Core.Option.{Option, none, some}
-use Prim.Native.Nat.{ℕ, _≤_}
+use Prim.Native.Nat.{ℕ, _+_, _≤_}
 use lib.IntN.{pos}
-use lib.ListN.{length, replicate}
+use lib.ListN.{length, getD, replicate}
 use Rattle.tables.specs.Tables.{sizesFit, marksFit, columnsOf}
-use Rattle.tables.specs.Refusals.{filledWith}
+use Rattle.tables.specs.Values.{judgedLevels}
 use Rattle.rule.specs.Tokens.{tokensOf, opensFit}
-use Rattle.rule.specs.Condition.{Text, Rule, parts, fromsDeep}
+use Rattle.rule.specs.Condition.{WrittenCondition, Rule, parts, fromsDeep}
 use Rattle.rule.specs.Grammar.{Tokens, Reads}
 use Rattle.rule.specs.Reader.{readAll}
-use Rattle.rule.specs.Names.{mostParts, mostFroms, outermost, ruleIn, Scoped}
-use Rattle.rule.specs.Parts.{unused, partWith, partsOf, ruleOfParts}
-use Rattle.rule.specs.Calls.{mostBytes, ruleOf, Accepted, readCall}
-use Rattle.rule.specs.Cases.{cases, judgedAt, expectedAt, caseTables, partsText, partsExpected, edges, refusalAt}
+use Rattle.rule.specs.Names.{mostParts, mostFroms, outermost, ruleIn, Fits, Scoped}
+use Rattle.rule.specs.Parts.{unused, Part, partWith, partsFrom, partsOf, ruleOfParts}
+use Rattle.rule.specs.Calls.{mostBytes, ruleOf, readingRefusals, Accepted, readCall, judgeRefusals}
+use Rattle.rule.specs.Cases.{cases, judgedAt, expectedAt, testCases, partsCases, partsRead, partsGiven, edges, refusalAt}
 
 -- the reader finds a reading exactly when the grammar has one, and no tokens have two: "in its single reading"
 pub record ReadingClaim : Type 0 where
-  pub finds : (ts : Tokens) (a : Text) → Reads ts a → readAll ts ≡ some a
-  pub finds-only : (ts : Tokens) (a : Text) → readAll ts ≡ some a → Reads ts a
-  pub finds-none : (ts : Tokens) → readAll ts ≡ none → (a : Text) → ¬ Reads ts a
-  pub single : (ts : Tokens) (a b : Text) → Reads ts a → Reads ts b → a ≡ b
+  pub finds : (ts : Tokens) (a : WrittenCondition) → Reads ts a → readAll ts ≡ some a
+  pub finds-only : (ts : Tokens) (a : WrittenCondition) → readAll ts ≡ some a → Reads ts a
+  pub finds-none : (ts : Tokens) → readAll ts ≡ none → (a : WrittenCondition) → ¬ Reads ts a
+  pub single : (ts : Tokens) (a b : WrittenCondition) → Reads ts a → Reads ts b → a ≡ b
 
 -- "A text is a rule just when the published grammar, names and limits allow it": what they allow, with the tables of a file
 pub record Allowed (text file : List ℕ) : Type 0 where
@@ -32,8 +32,8 @@ pub record Allowed (text file : List ℕ) : Type 0 where
   pub short : length text ≤ mostBytes
   pub tokens : Tokens
   pub are-tokens : tokensOf text ≡ some tokens
-  pub balanced : opensFit (pos 0) tokens ≡ true
-  pub condition : Text
+  pub brackets : opensFit (pos 0) tokens ≡ true
+  pub condition : WrittenCondition
   pub reads : Reads tokens condition
   pub few-parts : parts condition ≤ mostParts
   pub few-froms : fromsDeep condition ≤ mostFroms
@@ -43,24 +43,40 @@ pub record Allowed (text file : List ℕ) : Type 0 where
 abbrev pub AcceptedClaim : Type 0
 AcceptedClaim = (text file : List ℕ) → Accepted text file ↔ Allowed text file
 
--- the rule of an accepted text: the levels that it names exist, it has the text's parts, and it can be had back from them
-pub record AcceptedRule (r : Rule) : Type 0 where
-  pub scoped : Scoped 1 r
-  pub few-parts : parts r ≤ mostParts
-  pub few-froms : fromsDeep r ≤ mostFroms
-  pub records : length (partsOf r) ≡ parts r
-  pub back : ruleOfParts (partsOf r) ≡ some r
+-- an accepted text is a rule: what it names exists, it has one record for each part, and it can be had back from them
+pub record AcceptedAs (text file : List ℕ) : Type 0 where
+  pub rule : Rule
+  pub is-rule : ruleOf text (columnsOf file) ≡ some rule
+  pub fits : Fits (columnsOf file) judgedLevels rule
+  pub scoped : Scoped 1 rule
+  pub few-parts : parts rule ≤ mostParts
+  pub few-froms : fromsDeep rule ≤ mostFroms
+  pub records : length (partsOf rule) ≡ parts rule
+  pub back : ruleOfParts (partsOf rule) ≡ some rule
 
 abbrev pub PartsClaim : Type 0
-PartsClaim = (text file : List ℕ) → Accepted text file → (r : Rule) → ruleOf text (columnsOf file) ≡ some r → AcceptedRule r
+PartsClaim = (text file : List ℕ) → Accepted text file → AcceptedAs text file
+
+-- "end (number of the first part after it and its inner parts)"; inner parts are the parts of inner rules, so this is so for each of them
+abbrev pub EndsClaim : Type 0
+EndsClaim = (r : Rule) (k : ℕ) (d : Part) → getD (partsFrom k r) 0 d .end ≡ k + length (partsFrom k r)
+
+-- the refusals of READ and CARD but for 12, and those of JUDGE, in the order in which they win
+pub record OrderClaim : Type 0 where
+  pub reading : (text file : List ℕ) → map (λ r. r .number) (readingRefusals text file) ≡ 1 ∷ 2 ∷ 3 ∷ 4 ∷ 5 ∷ 6 ∷ 7 ∷ 8 ∷ []
+  pub judging : (text file : List ℕ) (row : ℕ) → map (λ r. r .number) (judgeRefusals text file row) ≡ 1 ∷ 2 ∷ 3 ∷ 4 ∷ 5 ∷ 6 ∷ 7 ∷ 8 ∷ 11 ∷ []
 
 -- cases 1 to 12, together
 abbrev pub CasesClaim : Type 0
 CasesClaim = map judgedAt cases ≡ map expectedAt cases
 
--- READ with room for 8 parts: the 7 parts of one rule, and the eighth element untouched
-abbrev pub PartsCaseClaim : Type 0
-PartsCaseClaim = let room = replicate 8 (partWith 99 99 99 99 unused unused) in readCall partsText caseTables room ≡ filledWith partsExpected room
+-- READ with room for two parts more than each rule has: its parts, their number, and the two last elements untouched
+abbrev pub PartsCasesClaim : Type 0
+PartsCasesClaim = map partsRead partsCases ≡ map partsGiven partsCases
+
+-- comparisons at less, equal and greater, and blanks
+abbrev pub TestsClaim : Type 0
+TestsClaim = map judgedAt testCases ≡ map expectedAt testCases
 
 -- the texts at the edges of the refusals, together
 abbrev pub EdgesClaim : Type 0

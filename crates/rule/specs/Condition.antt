@@ -1,7 +1,7 @@
 -- Document 01, Rule text: a condition as a tree. Brackets are gone, and OR and AND join two conditions each.
 use Prim.Native.Nat.{ℕ, _+_, max}
 use lib.IntN.{ℤ}
-use Rattle.tables.specs.Values.{Value, Comparison, Joint, Quantifier}
+use Rattle.tables.specs.Values.{Value, Comparison, Connective, Quantifier}
 
 -- the tests without inner parts, over operands A
 pub data Test (A : Type 0) : Type 0 where
@@ -11,24 +11,24 @@ pub data Test (A : Type 0) : Type 0 where
 -- a condition over operands A, where F is what a FROM says.
 -- Exists f w: EXISTS (FROM f WHERE w). Listed Some op l s f w: l op SOME (SELECT s FROM f WHERE w); Listed All: l op ALL (..).
 pub data Condition (A F : Type 0) : Type 0 where
-  Alone : Test A → Condition A F
-  Join : Joint → Condition A F → Condition A F → Condition A F
+  Atom : Test A → Condition A F
+  Join : Connective → Condition A F → Condition A F → Condition A F
   Not : Condition A F → Condition A F
   Exists : F → Condition A F → Condition A F
   Listed : Quantifier → Comparison → A → A → F → Condition A F → Condition A F
 
 -- a value as it is written: a number, or a letter and a number
-pub data Written : Type 0 where
-  Plain : ℤ → Written
-  Named : ℕ → ℤ → Written
+pub data WrittenValue : Type 0 where
+  Plain : ℤ → WrittenValue
+  Named : ℕ → ℤ → WrittenValue
 
 -- Over n x: FROM n x, the rows of table n under the letter x
 pub data From : Type 0 where
   Over : ℤ → ℕ → From
 
 -- a condition as it is written, and a rule: its letters are levels, and its tables and columns exist
-abbrev pub Text : Type 0
-Text = Condition Written From
+abbrev pub WrittenCondition : Type 0
+WrittenCondition = Condition WrittenValue From
 
 abbrev pub Rule : Type 0
 Rule = Condition Value ℕ
@@ -36,7 +36,7 @@ Rule = Condition Value ℕ
 module _ {A F : Type 0} where
   -- "Parts: each OR, AND, NOT and test, brackets themselves excepted."
   unfoldable pub parts : Condition A F → ℕ
-  parts (Alone x) = 1
+  parts (Atom x) = 1
   parts (Join j a b) = 1 + parts a + parts b
   parts (Not a) = 1 + parts a
   parts (Exists f w) = 1 + parts w
@@ -44,7 +44,7 @@ module _ {A F : Type 0} where
 
   -- how many FROMs stand around one another
   unfoldable pub fromsDeep : Condition A F → ℕ
-  fromsDeep (Alone x) = 0
+  fromsDeep (Atom x) = 0
   fromsDeep (Join j a b) = max (fromsDeep a) (fromsDeep b)
   fromsDeep (Not a) = fromsDeep a
   fromsDeep (Exists f w) = 1 + fromsDeep w
@@ -52,14 +52,14 @@ module _ {A F : Type 0} where
 
   -- the parts of kind 3, and those of kinds 8 and 9
   unfoldable pub nots : Condition A F → ℕ
-  nots (Alone x) = 0
+  nots (Atom x) = 0
   nots (Join j a b) = nots a + nots b
   nots (Not a) = 1 + nots a
   nots (Exists f w) = nots w
   nots (Listed q op l s f w) = nots w
 
   unfoldable pub lists : Condition A F → ℕ
-  lists (Alone x) = 0
+  lists (Atom x) = 0
   lists (Join j a b) = lists a + lists b
   lists (Not a) = lists a
   lists (Exists f w) = lists w

@@ -5,50 +5,50 @@ use Prim.Native.Nat.{ℕ}
 use lib.IntN.{ℤ}
 use Rattle.tables.specs.Values.{Comparison, Eq, Ne, And, Or, Some, All}
 use Rattle.rule.specs.Tokens.{Token, Compares, Letter, Number, AND, OR, NOT, EXISTS, IN, SOME, ALL, IS, NULL, SELECT, FROM, WHERE, Open, Close, Point}
-use Rattle.rule.specs.Condition.{Compare, IsNull, IsNotNull, Alone, Join, Not, Exists, Listed, Written, Plain, Named, From, Over, Text}
+use Rattle.rule.specs.Condition.{Compare, IsNull, IsNotNull, Atom, Join, Not, Exists, Listed, WrittenValue, Plain, Named, From, Over, WrittenCondition}
 
 abbrev pub Tokens : Type 0
 Tokens = List Token
 
 -- "value: a number, or letter . number (a column)."
-pub data IsValue : Tokens → Written → Tokens → Type 0 where
+pub data IsValue : Tokens → WrittenValue → Tokens → Type 0 where
   number : {n : ℤ} {rest : Tokens} → IsValue (Number n ∷ rest) (Plain n) rest
   column : {x : ℕ} {n : ℤ} {rest : Tokens} → IsValue (Letter x ∷ Point ∷ Number n ∷ rest) (Named x n) rest
 
 mutual
   -- "condition: one or more conjunctions joined by OR." "OR and AND group from the left."
-  pub data IsCondition : Tokens → Text → Tokens → Type 0 where
-    one-conjunction : {ts rest : Tokens} {a : Text} → IsConjunction ts a rest → IsCondition ts a rest
-    joined-by-or : {ts us rest : Tokens} {a b : Text} → IsCondition ts a (OR ∷ us) → IsConjunction us b rest → IsCondition ts (Join Or a b) rest
+  pub data IsCondition : Tokens → WrittenCondition → Tokens → Type 0 where
+    one-conjunction : {ts rest : Tokens} {a : WrittenCondition} → IsConjunction ts a rest → IsCondition ts a rest
+    joined-by-or : {ts us rest : Tokens} {a b : WrittenCondition} → IsCondition ts a (OR ∷ us) → IsConjunction us b rest → IsCondition ts (Join Or a b) rest
 
   -- "conjunction: one or more factors joined by AND."
-  pub data IsConjunction : Tokens → Text → Tokens → Type 0 where
-    one-factor : {ts rest : Tokens} {a : Text} → IsFactor ts a rest → IsConjunction ts a rest
-    joined-by-and : {ts us rest : Tokens} {a b : Text} → IsConjunction ts a (AND ∷ us) → IsFactor us b rest → IsConjunction ts (Join And a b) rest
+  pub data IsConjunction : Tokens → WrittenCondition → Tokens → Type 0 where
+    one-factor : {ts rest : Tokens} {a : WrittenCondition} → IsFactor ts a rest → IsConjunction ts a rest
+    joined-by-and : {ts us rest : Tokens} {a b : WrittenCondition} → IsConjunction ts a (AND ∷ us) → IsFactor us b rest → IsConjunction ts (Join And a b) rest
 
   -- "factor: NOT factor, or a test."
-  pub data IsFactor : Tokens → Text → Tokens → Type 0 where
-    not-factor : {ts rest : Tokens} {a : Text} → IsFactor ts a rest → IsFactor (NOT ∷ ts) (Not a) rest
-    one-test : {ts rest : Tokens} {a : Text} → IsTest ts a rest → IsFactor ts a rest
+  pub data IsFactor : Tokens → WrittenCondition → Tokens → Type 0 where
+    not-factor : {ts rest : Tokens} {a : WrittenCondition} → IsFactor ts a rest → IsFactor (NOT ∷ ts) (Not a) rest
+    one-test : {ts rest : Tokens} {a : WrittenCondition} → IsTest ts a rest → IsFactor ts a rest
 
   -- "test: ( condition ); EXISTS ( FROM number letter WHERE condition ); value IS NULL; value IS NOT NULL; value comparison value;
   -- value comparison SOME list; value comparison ALL list; value IN list; value NOT IN list." "IN is 8 with =; NOT IN is 9 with <>."
-  pub data IsTest : Tokens → Text → Tokens → Type 0 where
-    bracketed : {ts rest : Tokens} {a : Text} → IsCondition ts a (Close ∷ rest) → IsTest (Open ∷ ts) a rest
-    exists : {n : ℤ} {x : ℕ} {ts rest : Tokens} {w : Text} → IsCondition ts w (Close ∷ rest) → IsTest (EXISTS ∷ Open ∷ FROM ∷ Number n ∷ Letter x ∷ WHERE ∷ ts) (Exists (Over n x) w) rest
-    is-null : {ts rest : Tokens} {l : Written} → IsValue ts l (IS ∷ NULL ∷ rest) → IsTest ts (Alone (IsNull l)) rest
-    is-not-null : {ts rest : Tokens} {l : Written} → IsValue ts l (IS ∷ NOT ∷ NULL ∷ rest) → IsTest ts (Alone (IsNotNull l)) rest
-    compared : {ts us rest : Tokens} {op : Comparison} {l r : Written} → IsValue ts l (Compares op ∷ us) → IsValue us r rest → IsTest ts (Alone (Compare op l r)) rest
-    some-of : {ts us rest : Tokens} {op : Comparison} {l : Written} {s : Written} {f : From} {w : Text} → IsValue ts l (Compares op ∷ SOME ∷ us) → IsList us s f w rest → IsTest ts (Listed Some op l s f w) rest
-    all-of : {ts us rest : Tokens} {op : Comparison} {l : Written} {s : Written} {f : From} {w : Text} → IsValue ts l (Compares op ∷ ALL ∷ us) → IsList us s f w rest → IsTest ts (Listed All op l s f w) rest
-    is-in : {ts us rest : Tokens} {l : Written} {s : Written} {f : From} {w : Text} → IsValue ts l (IN ∷ us) → IsList us s f w rest → IsTest ts (Listed Some Eq l s f w) rest
-    not-in : {ts us rest : Tokens} {l : Written} {s : Written} {f : From} {w : Text} → IsValue ts l (NOT ∷ IN ∷ us) → IsList us s f w rest → IsTest ts (Listed All Ne l s f w) rest
+  pub data IsTest : Tokens → WrittenCondition → Tokens → Type 0 where
+    bracketed : {ts rest : Tokens} {a : WrittenCondition} → IsCondition ts a (Close ∷ rest) → IsTest (Open ∷ ts) a rest
+    exists : {n : ℤ} {x : ℕ} {ts rest : Tokens} {w : WrittenCondition} → IsCondition ts w (Close ∷ rest) → IsTest (EXISTS ∷ Open ∷ FROM ∷ Number n ∷ Letter x ∷ WHERE ∷ ts) (Exists (Over n x) w) rest
+    is-null : {ts rest : Tokens} {l : WrittenValue} → IsValue ts l (IS ∷ NULL ∷ rest) → IsTest ts (Atom (IsNull l)) rest
+    is-not-null : {ts rest : Tokens} {l : WrittenValue} → IsValue ts l (IS ∷ NOT ∷ NULL ∷ rest) → IsTest ts (Atom (IsNotNull l)) rest
+    compared : {ts us rest : Tokens} {op : Comparison} {l r : WrittenValue} → IsValue ts l (Compares op ∷ us) → IsValue us r rest → IsTest ts (Atom (Compare op l r)) rest
+    some-of : {ts us rest : Tokens} {op : Comparison} {l : WrittenValue} {s : WrittenValue} {f : From} {w : WrittenCondition} → IsValue ts l (Compares op ∷ SOME ∷ us) → IsList us s f w rest → IsTest ts (Listed Some op l s f w) rest
+    all-of : {ts us rest : Tokens} {op : Comparison} {l : WrittenValue} {s : WrittenValue} {f : From} {w : WrittenCondition} → IsValue ts l (Compares op ∷ ALL ∷ us) → IsList us s f w rest → IsTest ts (Listed All op l s f w) rest
+    is-in : {ts us rest : Tokens} {l : WrittenValue} {s : WrittenValue} {f : From} {w : WrittenCondition} → IsValue ts l (IN ∷ us) → IsList us s f w rest → IsTest ts (Listed Some Eq l s f w) rest
+    not-in : {ts us rest : Tokens} {l : WrittenValue} {s : WrittenValue} {f : From} {w : WrittenCondition} → IsValue ts l (NOT ∷ IN ∷ us) → IsList us s f w rest → IsTest ts (Listed All Ne l s f w) rest
 
   -- "list: ( SELECT value FROM number letter WHERE condition )."
   -- `IsList ts s f w rest`: the list selects s, its FROM is f and its WHERE is w.
-  pub data IsList : Tokens → Written → From → Text → Tokens → Type 0 where
-    list : {n : ℤ} {x : ℕ} {ts us rest : Tokens} {v : Written} {w : Text} → IsValue ts v (FROM ∷ Number n ∷ Letter x ∷ WHERE ∷ us) → IsCondition us w (Close ∷ rest) → IsList (Open ∷ SELECT ∷ ts) v (Over n x) w rest
+  pub data IsList : Tokens → WrittenValue → From → WrittenCondition → Tokens → Type 0 where
+    list : {n : ℤ} {x : ℕ} {ts us rest : Tokens} {v : WrittenValue} {w : WrittenCondition} → IsValue ts v (FROM ∷ Number n ∷ Letter x ∷ WHERE ∷ us) → IsCondition us w (Close ∷ rest) → IsList (Open ∷ SELECT ∷ ts) v (Over n x) w rest
 
 -- the whole of some tokens is a condition
-abbrev pub Reads : Tokens → Text → Type 0
+abbrev pub Reads : Tokens → WrittenCondition → Type 0
 Reads ts a = IsCondition ts a []

@@ -4,8 +4,8 @@ use mathlib.Core.List.{List, [], _∷_, map}
 use Prim.Native.Nat.{ℕ}
 use Rattle.tables.specs.Lists.{any, keep}
 use Rattle.tables.specs.Tables.{Cell, Blank, Present, Row, Tables, rowsOf}
-use Rattle.tables.specs.Values.{Value, Comparison, holds, Joint, And, Or, Quantifier, Some, All, Env, judgedRow, _▸_, cellOf, isBlank}
-use Rattle.rule.specs.Condition.{Test, Compare, IsNull, IsNotNull, Condition, Alone, Join, Not, Exists, Listed, Rule}
+use Rattle.tables.specs.Values.{Value, Comparison, holds, Connective, And, Or, Quantifier, Some, All, Env, judgedRow, _▸_, cellOf, byNumbers, isBlank}
+use Rattle.rule.specs.Condition.{Test, Compare, IsNull, IsNotNull, Condition, Atom, Join, Not, Exists, Listed, Rule}
 
 -- ---- the three truth values
 
@@ -53,7 +53,7 @@ or3 Unknown Unknown = Unknown
 or3 Unknown True = True
 or3 False b = b
 
-abbrev pub join3 : Joint → Truth → Truth → Truth
+abbrev pub join3 : Connective → Truth → Truth → Truth
 join3 And a b = and3 a b
 join3 Or a b = or3 a b
 
@@ -61,9 +61,7 @@ join3 Or a b = or3 a b
 
 -- "A comparison with a blank is unknown, blank with blank too."
 abbrev pub compare3 : Comparison → Cell → Cell → Truth
-compare3 op Blank y = Unknown
-compare3 op (Present x) Blank = Unknown
-compare3 op (Present x) (Present y) = truth (holds op x y)
+compare3 op x y = byNumbers Unknown (λ a b. truth (holds op a b)) x y
 
 -- "IS NULL is true or false only"
 abbrev pub test3 : Env → Test Value → Truth
@@ -85,7 +83,7 @@ over3 All vs = cond (any isFalse vs) False (cond (any isUnknown vs) Unknown True
 -- "A subquery retains the rows whose WHERE is true. EXISTS: some row retained."
 -- The value left of a list is read outside it, the selected one at the retained row.
 unfoldable pub meaning : Tables → Env → Rule → Truth
-meaning ts env (Alone x) = test3 env x
+meaning ts env (Atom x) = test3 env x
 meaning ts env (Join j a b) = join3 j (meaning ts env a) (meaning ts env b)
 meaning ts env (Not a) = not3 (meaning ts env a)
 meaning ts env (Exists t w) = truth (any (λ row. isTrue (meaning ts (env ▸ row) w)) (rowsOf ts t))

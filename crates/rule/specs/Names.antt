@@ -1,15 +1,15 @@
 -- Document 01, Rule text: letters, levels and limits; refusals 7 and 8.
 use mathlib.Core.Bool.{Bool, true, false, _&&_}
-use mathlib.Core.List.{List, [], _∷_}
+use mathlib.Core.List.{List, [], _∷_, _++_}
 use mathlib.Core.Option.{Option, none, some}
 use Prim.Native.Nat.{ℕ, suc, _<_}
-use lib.Dec.{eqb, leb}
+use lib.Dec.{T, eqb, leb}
 use lib.IntN.{ℤ, pos, negsuc}
-use lib.ListN.{length}
+use lib.ListN.{length, getD}
 use Rattle.tables.specs.Lists.{numbered, only, _>>=_}
-use Rattle.tables.specs.Bytes.{between}
+use Rattle.tables.specs.Bytes.{between, inRange}
 use Rattle.tables.specs.Values.{Value, Constant, Column}
-use Rattle.rule.specs.Condition.{Test, Compare, IsNull, IsNotNull, Condition, Alone, Join, Not, Exists, Listed, Written, Plain, Named, From, Over, Text, Rule, parts, fromsDeep}
+use Rattle.rule.specs.Condition.{Test, Compare, IsNull, IsNotNull, Condition, Atom, Join, Not, Exists, Listed, WrittenValue, Plain, Named, From, Over, WrittenCondition, Rule, parts, fromsDeep}
 
 -- ---- 7: "At most 64 parts, at most three FROMs around one another."
 
@@ -19,7 +19,7 @@ mostParts = 64
 abbrev pub mostFroms : ℕ
 mostFroms = 3
 
-unfoldable pub limitsFit : Text → Bool
+unfoldable pub limitsFit : WrittenCondition → Bool
 limitsFit a = leb (parts a) mostParts && leb (fromsDeep a) mostFroms
 
 -- ---- 8: "letter unbound, table or column absent"
@@ -54,18 +54,18 @@ existing most (negsuc n) = none
 
 -- columns has the columns of each table
 module _ (columns : List ℕ) where
-  unfoldable pub valueIn : Scope → Written → Option Value
+  unfoldable pub valueIn : Scope → WrittenValue → Option Value
   valueIn scope (Plain k) = some (Constant k)
   valueIn scope (Named x n) = nearest scope x >>= (λ b. existing (numbered columns (b .table) 0) n >>= (λ c. some (Column (b .level) c)))
 
-  unfoldable pub testIn : Scope → Test Written → Option (Test Value)
+  unfoldable pub testIn : Scope → Test WrittenValue → Option (Test Value)
   testIn scope (Compare op l r) = valueIn scope l >>= (λ x. valueIn scope r >>= (λ y. some (Compare op x y)))
   testIn scope (IsNull l) = valueIn scope l >>= (λ x. some (IsNull x))
   testIn scope (IsNotNull l) = valueIn scope l >>= (λ x. some (IsNotNull x))
 
   -- the rule that a written condition stands for; "The value left of a list belongs outside it."
-  unfoldable pub ruleIn : Scope → Text → Option Rule
-  ruleIn scope (Alone x) = testIn scope x >>= (λ y. some (Alone y))
+  unfoldable pub ruleIn : Scope → WrittenCondition → Option Rule
+  ruleIn scope (Atom x) = testIn scope x >>= (λ y. some (Atom y))
   ruleIn scope (Join j a b) = ruleIn scope a >>= (λ x. ruleIn scope b >>= (λ y. some (Join j x y)))
   ruleIn scope (Not a) = ruleIn scope a >>= (λ x. some (Not x))
   ruleIn scope (Exists (Over n x) w) =
@@ -74,7 +74,29 @@ module _ (columns : List ℕ) where
       existing (length columns) n >>= (λ t.
       valueIn scope l >>= (λ l′. valueIn (bound scope x t) s >>= (λ s′. ruleIn (bound scope x t) w >>= (λ w′. some (Listed q op l′ s′ t w′)))))
 
--- ---- the levels that a rule names
+-- ---- what a rule names exists
+
+-- levels has the table of each level, level 0 first
+module _ (columns : List ℕ) where
+  -- an existing level and column; a constant has 32 bits
+  abbrev pub ValueFits : List ℕ → Value → Type 0
+  ValueFits levels (Constant k) = T (inRange k)
+  ValueFits levels (Column l c) = (l < length levels) × T (between 1 (numbered columns (getD levels l 0) 0) c)
+
+  abbrev pub TestFits : List ℕ → Test Value → Type 0
+  TestFits levels (Compare op l r) = ValueFits levels l × ValueFits levels r
+  TestFits levels (IsNull l) = ValueFits levels l
+  TestFits levels (IsNotNull l) = ValueFits levels l
+
+  abbrev pub TableFits : ℕ → Type 0
+  TableFits t = T (between 1 (length columns) t)
+
+  unfoldable pub Fits : List ℕ → Rule → Type 0
+  Fits levels (Atom x) = TestFits levels x
+  Fits levels (Join j a b) = Fits levels a × Fits levels b
+  Fits levels (Not a) = Fits levels a
+  Fits levels (Exists t w) = TableFits t × Fits (levels ++ (t ∷ [])) w
+  Fits levels (Listed q op l s t w) = TableFits t × ValueFits levels l × ValueFits (levels ++ (t ∷ [])) s × Fits (levels ++ (t ∷ [])) w
 
 -- a value names a level below n
 abbrev pub ValueScoped : ℕ → Value → Type 0
@@ -86,9 +108,9 @@ TestScoped n (Compare op l r) = ValueScoped n l × ValueScoped n r
 TestScoped n (IsNull l) = ValueScoped n l
 TestScoped n (IsNotNull l) = ValueScoped n l
 
--- with n levels around it, a rule names existing levels alone, at most three of them its own
+-- with n levels around it, a rule names existing levels alone
 unfoldable pub Scoped : ℕ → Rule → Type 0
-Scoped n (Alone x) = TestScoped n x
+Scoped n (Atom x) = TestScoped n x
 Scoped n (Join j a b) = Scoped n a × Scoped n b
 Scoped n (Not a) = Scoped n a
 Scoped n (Exists t w) = Scoped (suc n) w

@@ -6,20 +6,20 @@ use Prim.Native.Nat.{ℕ, _+_}
 use lib.Dec.{eqb}
 use lib.IntN.{ℤ, pos, negsuc}
 use Rattle.tables.specs.Lists.{numbered}
-use Rattle.tables.specs.Values.{Value, Constant, Column, Comparison, comparisonNumber, comparisonOf, Joint, And, Or, Quantifier, Some, All}
-use Rattle.rule.specs.Condition.{Test, Compare, IsNull, IsNotNull, Condition, Alone, Join, Not, Exists, Listed, Rule, parts}
+use Rattle.tables.specs.Values.{constantTag, Value, Constant, Column, Comparison, comparisonNumber, comparisonOf, Connective, And, Or, Quantifier, Some, All}
+use Rattle.rule.specs.Condition.{Test, Compare, IsNull, IsNotNull, Condition, Atom, Join, Not, Exists, Listed, Rule, parts}
 
--- "a value is a tag (255 constant, else level 0 to 3) and a number"
-pub record Field : Type 0 where
+-- a value as a part has it: "a tag (255 constant, else level 0 to 3) and a number"
+pub record TaggedValue : Type 0 where
   pub tag : ℕ
   pub number : ℤ
 
-abbrev pub fieldOf : Value → Field
-fieldOf (Constant k) = record { tag = 255; number = k }
-fieldOf (Column l c) = record { tag = l; number = pos c }
+abbrev pub taggedOf : Value → TaggedValue
+taggedOf (Constant k) = record { tag = constantTag; number = k }
+taggedOf (Column l c) = record { tag = l; number = pos c }
 
 -- "unused fields are 0"
-abbrev pub unused : Field
+abbrev pub unused : TaggedValue
 unused = record { tag = 0; number = pos 0 }
 
 -- "Fields: kind, comparison, table, end, left and right value."
@@ -28,14 +28,14 @@ pub record Part : Type 0 where
   pub comparison : ℕ
   pub table : ℕ
   pub end : ℕ
-  pub left : Field
-  pub right : Field
+  pub left : TaggedValue
+  pub right : TaggedValue
 
 -- ---- what a part says by itself
 
 pub data Head : Type 0 where
-  AloneHead : Test Value → Head
-  JoinHead : Joint → Head
+  AtomHead : Test Value → Head
+  JoinHead : Connective → Head
   NotHead : Head
   ExistsHead : ℕ → Head
   ListedHead : Quantifier → Comparison → Value → Value → ℕ → Head
@@ -45,31 +45,31 @@ abbrev pub kindOf : Head → ℕ
 kindOf (JoinHead And) = 1
 kindOf (JoinHead Or) = 2
 kindOf NotHead = 3
-kindOf (AloneHead (Compare op l r)) = 4
-kindOf (AloneHead (IsNull l)) = 5
-kindOf (AloneHead (IsNotNull l)) = 6
+kindOf (AtomHead (Compare op l r)) = 4
+kindOf (AtomHead (IsNull l)) = 5
+kindOf (AtomHead (IsNotNull l)) = 6
 kindOf (ExistsHead t) = 7
 kindOf (ListedHead Some op l s t) = 8
 kindOf (ListedHead All op l s t) = 9
 
 -- kind, end, and the fields comparison, table, left, right
-abbrev pub partWith : ℕ → ℕ → ℕ → ℕ → Field → Field → Part
+abbrev pub partWith : ℕ → ℕ → ℕ → ℕ → TaggedValue → TaggedValue → Part
 partWith k e op t l r = record { kind = k; comparison = op; table = t; end = e; left = l; right = r }
 
 -- "For 8 and 9 the right value is the selected one."
 abbrev pub partOf : ℕ → Head → Part
 partOf e (JoinHead j) = partWith (kindOf (JoinHead j)) e 0 0 unused unused
 partOf e NotHead = partWith (kindOf NotHead) e 0 0 unused unused
-partOf e (AloneHead (Compare op l r)) = partWith (kindOf (AloneHead (Compare op l r))) e (comparisonNumber op) 0 (fieldOf l) (fieldOf r)
-partOf e (AloneHead (IsNull l)) = partWith (kindOf (AloneHead (IsNull l))) e 0 0 (fieldOf l) unused
-partOf e (AloneHead (IsNotNull l)) = partWith (kindOf (AloneHead (IsNotNull l))) e 0 0 (fieldOf l) unused
+partOf e (AtomHead (Compare op l r)) = partWith (kindOf (AtomHead (Compare op l r))) e (comparisonNumber op) 0 (taggedOf l) (taggedOf r)
+partOf e (AtomHead (IsNull l)) = partWith (kindOf (AtomHead (IsNull l))) e 0 0 (taggedOf l) unused
+partOf e (AtomHead (IsNotNull l)) = partWith (kindOf (AtomHead (IsNotNull l))) e 0 0 (taggedOf l) unused
 partOf e (ExistsHead t) = partWith (kindOf (ExistsHead t)) e 0 t unused unused
-partOf e (ListedHead q op l s t) = partWith (kindOf (ListedHead q op l s t)) e (comparisonNumber op) t (fieldOf l) (fieldOf s)
+partOf e (ListedHead q op l s t) = partWith (kindOf (ListedHead q op l s t)) e (comparisonNumber op) t (taggedOf l) (taggedOf s)
 
 -- ---- the parts of a rule, the first of which has the number k
 -- "a part before its inner parts, left first"; "end (number of the first part after it and its inner parts)"
 unfoldable pub partsFrom : ℕ → Rule → List Part
-partsFrom k (Alone x) = partOf (k + 1) (AloneHead x) ∷ []
+partsFrom k (Atom x) = partOf (k + 1) (AtomHead x) ∷ []
 partsFrom k (Join j a b) = partOf (k + (1 + parts a + parts b)) (JoinHead j) ∷ (partsFrom (k + 1) a ++ partsFrom (k + 1 + parts a) b)
 partsFrom k (Not a) = partOf (k + (1 + parts a)) NotHead ∷ partsFrom (k + 1) a
 partsFrom k (Exists t w) = partOf (k + (1 + parts w)) (ExistsHead t) ∷ partsFrom (k + 1) w
@@ -85,8 +85,8 @@ abbrev pub naturalOf : ℤ → ℕ
 naturalOf (pos n) = n
 naturalOf (negsuc n) = 0
 
-abbrev pub valueOf : Field → Value
-valueOf f = cond (eqb (f .tag) 255) (Constant (f .number)) (Column (f .tag) (naturalOf (f .number)))
+abbrev pub valueOf : TaggedValue → Value
+valueOf f = cond (eqb (f .tag) constantTag) (Constant (f .number)) (Column (f .tag) (naturalOf (f .number)))
 
 abbrev pub headOf : Part → Head
 headOf p =
@@ -94,14 +94,14 @@ headOf p =
     let l = valueOf (p .left) in
     let r = valueOf (p .right) in
     numbered
-    (JoinHead And ∷ JoinHead Or ∷ NotHead ∷ AloneHead (Compare op l r) ∷ AloneHead (IsNull l) ∷ AloneHead (IsNotNull l)
+    (JoinHead And ∷ JoinHead Or ∷ NotHead ∷ AtomHead (Compare op l r) ∷ AtomHead (IsNull l) ∷ AtomHead (IsNotNull l)
     ∷ ExistsHead (p .table) ∷ ListedHead Some op l r (p .table) ∷ ListedHead All op l r (p .table) ∷ [])
     (p .kind)
     NotHead
 
 -- the rules that start at a part and behind it, where rs are those that start behind it; a part whose inner parts are missing ends it
 abbrev pub onto : Head → List Rule → List Rule
-onto (AloneHead x) rs = Alone x ∷ rs
+onto (AtomHead x) rs = Atom x ∷ rs
 onto (JoinHead j) [] = []
 onto (JoinHead j) (a ∷ []) = []
 onto (JoinHead j) (a ∷ b ∷ rs) = Join j a b ∷ rs
@@ -117,10 +117,10 @@ rulesOf [] = []
 rulesOf (p ∷ ps) = onto (headOf p) (rulesOf ps)
 
 -- the one rule that all the parts make up
-abbrev pub single : List Rule → Option Rule
-single [] = none
-single (r ∷ []) = some r
-single (r ∷ s ∷ rs) = none
+abbrev pub oneRule : List Rule → Option Rule
+oneRule [] = none
+oneRule (r ∷ []) = some r
+oneRule (r ∷ s ∷ rs) = none
 
 abbrev pub ruleOfParts : List Part → Option Rule
-ruleOfParts ps = single (rulesOf ps)
+ruleOfParts ps = oneRule (rulesOf ps)

@@ -10,7 +10,7 @@ use lib.ListN.{length}
 use Rattle.tables.specs.Lists.{only, _>>=_, _<|>_}
 use Rattle.tables.specs.Values.{Comparison, Eq, Ne, And, Or, Quantifier, Some, All}
 use Rattle.rule.specs.Tokens.{Token, Fixed, Compares, Letter, Number, AND, OR, NOT, EXISTS, IN, SOME, ALL, IS, NULL, SELECT, FROM, WHERE, Open, Close, Point}
-use Rattle.rule.specs.Condition.{Compare, IsNull, IsNotNull, Alone, Join, Not, Exists, Listed, Written, Plain, Named, From, Over, Text}
+use Rattle.rule.specs.Condition.{Compare, IsNull, IsNotNull, Atom, Join, Not, Exists, Listed, WrittenValue, Plain, Named, From, Over, WrittenCondition}
 use Rattle.rule.specs.Grammar.{Tokens}
 
 -- ---- one token
@@ -52,7 +52,7 @@ readComparison (Number n ∷ ts) = none
 
 -- ---- runs of tokens without a condition in them
 
-unfoldable pub readValue : Tokens → Option (Written × Tokens)
+unfoldable pub readValue : Tokens → Option (WrittenValue × Tokens)
 readValue [] = none
 readValue (Fixed k ∷ ts) = none
 readValue (Compares op ∷ ts) = none
@@ -68,29 +68,29 @@ readFrom ts =
 pub data Opening : Type 0 where
   Bracket : Opening
   OfExists : From → Opening
-  OfList : Quantifier → Comparison → Written → Written → From → Opening
+  OfList : Quantifier → Comparison → WrittenValue → WrittenValue → From → Opening
 
 -- the test, once that condition is read
-abbrev pub closed : Opening → Text → Text
+abbrev pub closed : Opening → WrittenCondition → WrittenCondition
 closed Bracket w = w
 closed (OfExists f) w = Exists f w
 closed (OfList q op l s f) w = Listed q op l s f w
 
 -- how a test begins: it is read to its end, or up to the condition that it holds
 pub data Start : Type 0 where
-  Whole : Text → Tokens → Start
+  Whole : WrittenCondition → Tokens → Start
   Around : Opening → Tokens → Start
 
 -- ( SELECT value FROM number letter WHERE
-unfoldable pub startList : Quantifier → Comparison → Written → Tokens → Option Start
+unfoldable pub startList : Quantifier → Comparison → WrittenValue → Tokens → Option Start
 startList q op l ts = expect Open ts >>= (λ us. expect SELECT us >>= (λ vs. readValue vs >>= (λ s. readFrom (s .1) >>= (λ f. some (Around (OfList q op l (s .0) (f .0)) (f .1))))))
 
 -- what may stand behind a value
-unfoldable pub startValue : Written → Tokens → Option Start
+unfoldable pub startValue : WrittenValue → Tokens → Option Start
 startValue l ts =
-    (expect IS ts >>= (λ us. expect NULL us >>= (λ rest. some (Whole (Alone (IsNull l)) rest))))
-    <|> (expect IS ts >>= (λ us. expect NOT us >>= (λ vs. expect NULL vs >>= (λ rest. some (Whole (Alone (IsNotNull l)) rest)))))
-    <|> (readComparison ts >>= (λ c. readValue (c .1) >>= (λ r. some (Whole (Alone (Compare (c .0) l (r .0))) (r .1)))))
+    (expect IS ts >>= (λ us. expect NULL us >>= (λ rest. some (Whole (Atom (IsNull l)) rest))))
+    <|> (expect IS ts >>= (λ us. expect NOT us >>= (λ vs. expect NULL vs >>= (λ rest. some (Whole (Atom (IsNotNull l)) rest)))))
+    <|> (readComparison ts >>= (λ c. readValue (c .1) >>= (λ r. some (Whole (Atom (Compare (c .0) l (r .0))) (r .1)))))
     <|> (readComparison ts >>= (λ c. expect SOME (c .1) >>= (λ us. startList Some (c .0) l us)))
     <|> (readComparison ts >>= (λ c. expect ALL (c .1) >>= (λ us. startList All (c .0) l us)))
     <|> (expect IN ts >>= (λ us. startList Some Eq l us))
@@ -107,11 +107,11 @@ start ts =
 -- what is asked for; more-or a: the rest of a condition of which a is read; more-and a: the rest of a conjunction
 pub data Goal : Type 0 where
   condition conjunction factor test : Goal
-  more-or more-and : Text → Goal
+  more-or more-and : WrittenCondition → Goal
 
 -- a reading, and the tokens after it
 abbrev pub Found : Type 0
-Found = Option (Text × Tokens)
+Found = Option (WrittenCondition × Tokens)
 
 abbrev pub branch : Option Tokens → (Tokens → Found) → (Unit {0} → Found) → Found
 branch (some us) there missing = there us
@@ -123,7 +123,7 @@ started (some (Whole a rest)) around = some (a, rest)
 started (some (Around o us)) around = around o us
 
 -- the bracket that closes behind the condition that a test holds
-abbrev pub closing : Opening → Text × Tokens → Found
+abbrev pub closing : Opening → WrittenCondition × Tokens → Found
 closing o w = expect Close (w .1) >>= (λ rest. some (closed o (w .0), rest))
 
 -- the longest reading at the front of some tokens; depth bounds how deep the calls go
@@ -142,9 +142,9 @@ read (suc depth) test ts = started (start ts) (λ o us. read depth condition us 
 abbrev pub enough : Tokens → ℕ
 enough ts = 8 * length ts + 5
 
-abbrev pub atEnd : Text × Tokens → Option Text
+abbrev pub atEnd : WrittenCondition × Tokens → Option WrittenCondition
 atEnd x = elim (x .1) [ [] ↦ some (x .0) | t ∷ ts ↦ none ]
 
 -- the reading of all the tokens; none: refusal 6
-unfoldable pub readAll : Tokens → Option Text
+unfoldable pub readAll : Tokens → Option WrittenCondition
 readAll ts = read (enough ts) condition ts >>= atEnd

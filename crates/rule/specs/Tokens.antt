@@ -109,9 +109,9 @@ abbrev pub isDigit : ℕ → Bool
 isDigit = between 48 57
 
 -- the longest run of bytes of one class that a text begins with: "longest first", "the whole run of digits"
-unfoldable pub run : (ℕ → Bool) → List ℕ → List ℕ
-run p [] = []
-run p (b ∷ bs) = elim (p b) [ true ↦ b ∷ run p bs | false ↦ [] ]
+unfoldable pub takeWhile : (ℕ → Bool) → List ℕ → List ℕ
+takeWhile p [] = []
+takeWhile p (b ∷ bs) = elim (p b) [ true ↦ b ∷ takeWhile p bs | false ↦ [] ]
 
 -- a token, and how many bytes it takes
 abbrev pub Lexed : Type 0
@@ -151,14 +151,14 @@ numberFrom sign before digits =
 unfoldable pub firstToken : ℕ → List ℕ → Option Lexed
 firstToken b bs =
     elim (isCapital b) [
-      | true ↦ wordIn words (run isCapital (b ∷ bs))
+      | true ↦ wordIn words (takeWhile isCapital (b ∷ bs))
       | false ↦
           elim (isSmall b) [
             | true ↦ some (Letter b, 1)
             | false ↦
                 elim (isDigit b) [
-                  | true ↦ numberFrom pos 0 (run isDigit (b ∷ bs))
-                  | false ↦ elim (eqb b 45) [ true ↦ numberFrom (λ n. negℤ (pos n)) 1 (run isDigit bs) | false ↦ signIn signs (b ∷ bs) ]
+                  | true ↦ numberFrom pos 0 (takeWhile isDigit (b ∷ bs))
+                  | false ↦ elim (eqb b 45) [ true ↦ numberFrom (λ n. negℤ (pos n)) 1 (takeWhile isDigit bs) | false ↦ signIn signs (b ∷ bs) ]
                 ]
           ]
     ]
@@ -185,13 +185,13 @@ abbrev pub mostOpen : ℤ
 mostOpen = pos 32
 
 -- what a token adds to the count of ( less that of )
-abbrev pub opening : Token → ℤ
-opening (Fixed k) = elim (eqb k 13) [ true ↦ pos 1 | false ↦ elim (eqb k 14) [ true ↦ negsuc 0 | false ↦ pos 0 ] ]
-opening (Compares c) = pos 0
-opening (Letter b) = pos 0
-opening (Number n) = pos 0
+abbrev pub bracketStep : Token → ℤ
+bracketStep (Fixed k) = elim (eqb k 13) [ true ↦ pos 1 | false ↦ elim (eqb k 14) [ true ↦ negsuc 0 | false ↦ pos 0 ] ]
+bracketStep (Compares c) = pos 0
+bracketStep (Letter b) = pos 0
+bracketStep (Number n) = pos 0
 
 -- with n more ( than ) before these tokens, there are at most 32 more up to each of them; n may be negative
 unfoldable pub opensFit : ℤ → List Token → Bool
 opensFit n [] = true
-opensFit n (t ∷ ts) = let m = n +ℤ opening t in elim (ltZ mostOpen m) [ true ↦ false | false ↦ opensFit m ts ]
+opensFit n (t ∷ ts) = let m = n +ℤ bracketStep t in elim (ltZ mostOpen m) [ true ↦ false | false ↦ opensFit m ts ]

@@ -1,7 +1,7 @@
 -- The sample file, and the files at the edges of the refusals, each as one computed fact.
 use mathlib.Core.Path.{refl}
-use Rattle.tables.specs.Cases.{edges}
-use Rattle.tables.specs.Claims.{SampleClaim, EdgesClaim}
+use Rattle.tables.specs.Cases.{edges, sizeEdges}
+use Rattle.tables.specs.Claims.{SampleClaim, SizesClaim, EdgesClaim}
 use Rattle.tables.proofs.Opened.{opened}
 
 pub sample-claim : SampleClaim
@@ -11,3 +11,7 @@ sample-claim = refl
 pub edges-claim : EdgesClaim
 unfolding opened edges
 edges-claim = refl
+
+pub sizes-claim : SizesClaim
+unfolding opened sizeEdges
+sizes-claim = refl

@@ -3,3 +3,4 @@ pub mod Opened
 pub mod Computed
 pub mod Refusals
 pub mod Sizes
+pub mod Rows

@@ -49,4 +49,4 @@ same-refl (x ∷ xs) = and-i (eqb x x) (same xs xs) (eqb-refl x) (same-refl xs)
 
 pub same-columns-is : (file later : List ℕ) → T (sameColumns file later) → columnsOf file ≡ columnsOf later
 unfolding sameColumns
-same-columns-is file later h = same-is (columnsOf file) (columnsOf later) (and-r (eqb (tableCount file) (tableCount later)) _ h)
+same-columns-is file later h = same-is (columnsOf file) (columnsOf later) h

@@ -1,11 +1,12 @@
 -- A tables file and what it holds, and files at the edges of refusals 1 and 2.
+use mathlib.Core.Bool.{Bool, true, false}
 use mathlib.Core.List.{List, [], _∷_, _++_}
 use mathlib.Core.Option.{Option, none, some}
 use Prim.Native.Nat.{ℕ, zero, suc}
 use lib.IntN.{pos, negsuc}
 use lib.ListN.{replicate}
 use Rattle.tables.specs.Tables.{Blank, Present, Tables}
-use Rattle.tables.specs.Refusals.{lowest, tablesRefusals}
+use Rattle.tables.specs.Refusals.{firstApplying, tablesRefusals}
 
 -- table 1 of two columns and two rows, table 2 of one column and no rows, table 3 of one column and one row
 abbrev pub sampleFile : List ℕ
@@ -22,6 +23,7 @@ sampleTables =
     ∷ ((Blank ∷ []) ∷ [])
     ∷ []
 
+-- a file, and the refusal that it gets
 pub record Edge : Type 0 where
   pub file : List ℕ
   pub refusal : Option ℕ
@@ -46,5 +48,20 @@ edges =
     ∷ ((1 ∷ 1 ∷ 1 ∷ 0 ∷ replicate 4 0) refused 1) ∷ accepted (1 ∷ 1 ∷ 1 ∷ 0 ∷ replicate 5 0) ∷ ((1 ∷ 1 ∷ 1 ∷ 0 ∷ replicate 6 0) refused 1)
     ∷ accepted (1 ∷ 1 ∷ 1 ∷ 0 ∷ replicate 5 1) ∷ ((1 ∷ 1 ∷ 1 ∷ 0 ∷ replicate 5 2) refused 2) ∷ ((1 ∷ 1 ∷ 1 ∷ 0 ∷ replicate 6 2) refused 1) ∷ []
 
+-- ---- sizes alone, on files that are long: whether refusal 1 applies
+
+pub record SizeEdge : Type 0 where
+  pub sized : List ℕ
+  pub fits : Bool
+
+-- 1,000 rows and 1,001; 8,192 cells and 8,193: a table of 1,000 rows and 8 columns and one of a column and 192 or 193 rows
+unfoldable pub sizeEdges : List SizeEdge
+sizeEdges =
+    record { sized = (1 ∷ 1 ∷ 232 ∷ 3 ∷ []) ++ replicate 5000 0; fits = true }
+    ∷ record { sized = (1 ∷ 1 ∷ 233 ∷ 3 ∷ []) ++ replicate 5005 0; fits = false }
+    ∷ record { sized = (2 ∷ 8 ∷ 232 ∷ 3 ∷ 1 ∷ 192 ∷ 0 ∷ []) ++ replicate 40960 0; fits = true }
+    ∷ record { sized = (2 ∷ 8 ∷ 232 ∷ 3 ∷ 1 ∷ 193 ∷ 0 ∷ []) ++ replicate 40965 0; fits = false }
+    ∷ []
+
 abbrev pub refusalAt : Edge → Option ℕ
-refusalAt e = lowest (tablesRefusals (e .file))
+refusalAt e = firstApplying (tablesRefusals (e .file))

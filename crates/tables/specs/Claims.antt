@@ -1,13 +1,24 @@
 -- What proofs/ shows of these definitions.
 use mathlib.Core.Path.{_≡_}
-use mathlib.Core.List.{map}
-use Rattle.tables.specs.Tables.{tablesOf}
-use Rattle.tables.specs.Cases.{sampleFile, sampleTables, edges, refusalAt}
+use mathlib.Core.Bool.{Bool, true}
+use mathlib.Core.List.{List, map, List·Memᴰ, IsChain}
+use mathlib.Core.Logic.{_↔_}
+use Prim.Native.Nat.{ℕ, _<_}
+use Rattle.tables.specs.Tables.{rowCount, sizesFit, tablesOf, rowsWhere}
+use Rattle.tables.specs.Cases.{sampleFile, sampleTables, edges, sizeEdges, refusalAt}
 
 -- the sample file holds the sample tables
 abbrev pub SampleClaim : Type 0
 SampleClaim = tablesOf sampleFile ≡ sampleTables
 
+abbrev pub SizesClaim : Type 0
+SizesClaim = map (λ e. sizesFit (e .sized)) sizeEdges ≡ map (λ e. e .fits) sizeEdges
+
 -- the files at the edges of the refusals, together
 abbrev pub EdgesClaim : Type 0
 EdgesClaim = map refusalAt edges ≡ map (λ e. e .refusal) edges
+
+-- the rows that a test picks: "exactly the rows where" a test holds, "each once, rising"
+pub record RowsClaim : Type 0 where
+  pub exactly : (file : List ℕ) (p : ℕ → Bool) (row : ℕ) → List·Memᴰ row (rowsWhere file p) ↔ ((row < rowCount file 1) × (p row ≡ true))
+  pub rising : (file : List ℕ) (p : ℕ → Bool) → IsChain _<_ (rowsWhere file p)

@@ -18,9 +18,9 @@ abbrev pub _if_ : ℕ → Bool → Refusal
 n if b = record { number = n; applies = b }
 
 -- the number of the first refusal of a list that applies
-unfoldable pub lowest : List Refusal → Option ℕ
-lowest [] = none
-lowest (r ∷ rs) = elim (r .applies) [ true ↦ some (r .number) | false ↦ lowest rs ]
+unfoldable pub firstApplying : List Refusal → Option ℕ
+firstApplying [] = none
+firstApplying (r ∷ rs) = elim (r .applies) [ true ↦ some (r .number) | false ↦ firstApplying rs ]
 
 -- what a call answers: "A refusal is its number and nothing else"
 pub data Answer (A : Type 0) : Type 0 where
@@ -58,7 +58,7 @@ module _ {A : Type 0} where
 
   -- the call's own refusals, and then 12
   unfoldable pub lend : List Refusal → List A → List A → Lent A
-  lend refusals answer buffer = lendUnless (lowest (refusals ++ (shortRefusal answer buffer ∷ []))) answer buffer
+  lend refusals answer buffer = lendUnless (firstApplying (refusals ++ (shortRefusal answer buffer ∷ []))) answer buffer
 
 -- ---- refusals that several calls share
 

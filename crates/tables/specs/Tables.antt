@@ -6,7 +6,7 @@ use Prim.Native.Nat.{ℕ, zero, suc, _+_, _*_}
 use lib.Dec.{leb, ltb, eqb}
 use lib.IntN.{ℤ}
 use lib.ListN.{length, take}
-use Rattle.tables.specs.Lists.{tabulate, numbered, any, all, total, same}
+use Rattle.tables.specs.Lists.{tabulate, numbered, all, keep, total, same}
 use Rattle.tables.specs.Bytes.{between, byteAt, word16, word32, signed}
 
 -- ---- the limits
@@ -89,7 +89,7 @@ sizesFit bs =
     between 1 mostTables (tableCount bs)
     && (all sizeFits (sizes bs)
     && (leb (cellCount bs) mostCells
-    && eqb (length bs) (1 + 3 * tableCount bs + 5 * cellCount bs)))
+    && eqb (length bs) (marksAt bs + cellCount bs)))
 
 -- refusal 2 does not apply: no mark is above 1
 unfoldable pub marksFit : List ℕ → Bool
@@ -137,6 +137,12 @@ cellIn row c = numbered row c Blank
 
 -- ---- later tables
 
--- What demand 3 compares: "the same T and the same columns per table"
+-- What demand 3 compares: "the same T and the same columns per table" (T is the length of the list of columns)
 unfoldable pub sameColumns : List ℕ → List ℕ → Bool
-sameColumns bs cs = eqb (tableCount bs) (tableCount cs) && same (columnsOf bs) (columnsOf cs)
+sameColumns bs cs = same (columnsOf bs) (columnsOf cs)
+
+-- ---- rows of table 1
+
+-- the numbers of the rows of table 1 of which a test holds, rising
+unfoldable pub rowsWhere : List ℕ → (ℕ → Bool) → List ℕ
+rowsWhere bs p = keep p (tabulate (rowCount bs 1) (λ r. r))

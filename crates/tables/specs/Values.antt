@@ -13,7 +13,11 @@ pub data Value : Type 0 where
   Constant : ℤ → Value
   Column : ℕ → ℕ → Value
 
--- "1 =, 2 <>, 3 <, 4 <=, 5 >, 6 >="
+-- "a tag (255 constant, else level 0 to 3)"
+abbrev pub constantTag : ℕ
+constantTag = 255
+
+-- comparison "(1 =, 2 <>, 3 <, 4 <=, 5 >, 6 >=)"
 pub data Comparison : Type 0 where
   Eq Ne Lt Le Gt Ge : Comparison
 
@@ -30,8 +34,8 @@ abbrev pub comparisonOf : ℕ → Comparison
 comparisonOf n = getD (Eq ∷ Eq ∷ Ne ∷ Lt ∷ Le ∷ Gt ∷ Ge ∷ []) n Eq
 
 -- what joins two conditions, or two entries
-pub data Joint : Type 0 where
-  And Or : Joint
+pub data Connective : Type 0 where
+  And Or : Connective
 
 -- what is asked of a table's rows
 pub data Quantifier : Type 0 where
@@ -59,7 +63,10 @@ holds Ge x y = leZ y x
 abbrev pub Env : Type 0
 Env = List Row
 
--- level 0 stands at the judged row of table 1
+-- level 0 stands at the judged row of table 1: the tables of the levels, and their rows
+abbrev pub judgedLevels : List ℕ
+judgedLevels = 1 ∷ []
+
 abbrev pub judgedRow : Tables → ℕ → Env
 judgedRow ts row = getD (rowsOf ts 1) row [] ∷ []
 
@@ -72,6 +79,12 @@ env ▸ row = env ++ (row ∷ [])
 abbrev pub cellOf : Env → Value → Cell
 cellOf env (Constant k) = Present k
 cellOf env (Column level c) = cellIn (getD env level []) c
+
+-- a comparison of two cells: by their numbers, unless one of them is blank, "blank with blank too"
+abbrev pub byNumbers : {A : Type 0} → A → (ℤ → ℤ → A) → Cell → Cell → A
+byNumbers blank compare Blank y = blank
+byNumbers blank compare (Present x) Blank = blank
+byNumbers blank compare (Present x) (Present y) = compare x y
 
 abbrev pub isBlank : Cell → Bool
 isBlank Blank = true

@@ -5,12 +5,20 @@ use Rattle.rule.proofs.Opened.{opened as rule-opened}
 use Rattle.rule.specs.Cases.{chained}
 use Rattle.translation.specs.Translation.{negated, cardOf}
 use Rattle.translation.specs.Calls.{ruleBytes, cardCall}
-use Rattle.translation.specs.Cases.{workedText, readRefusal, refusalExamples}
-use Rattle.translation.specs.Claims.{WorkedCardClaim, RefusalsClaim}
+use Rattle.translation.specs.Cases.{workedText, fullText, thirdCard, readRefusal, refusalExamples}
+use Rattle.translation.specs.Claims.{WorkedCardClaim, FullCardClaim, GateCaseClaim, RefusalsClaim}
 
 pub worked-card-claim : WorkedCardClaim
 unfolding card-opened rule-opened negated cardOf ruleBytes cardCall workedText
 worked-card-claim = refl
+
+pub full-card-claim : FullCardClaim
+unfolding card-opened rule-opened negated cardOf ruleBytes cardCall fullText
+full-card-claim = refl
+
+pub gate-case-claim : GateCaseClaim
+unfolding card-opened rule-opened negated cardOf ruleBytes cardCall thirdCard
+gate-case-claim = record { runs = refl; lists-3 = refl; lists-2 = refl; lists-1 = refl }
 
 pub refusals-claim : RefusalsClaim
 unfolding card-opened rule-opened negated cardOf ruleBytes cardCall workedText chained readRefusal refusalExamples

@@ -10,19 +10,19 @@ use lib.ListN.{length, getD, length-append, List·getD-append}
 use Rattle.tables.specs.Lists.{numbered}
 use Rattle.tables.specs.Bytes.{between, inRange}
 use Rattle.tables.specs.Values.{Value, Constant, Column, Some, All}
-use Rattle.card.specs.Card.{mostRowEntries, Interpretation, AsNo, Leaf, Compare, IsNull, NotNull, Card, At, Both, Rows, valueFits, leafFits, rowsFit, cardFits}
-use Rattle.rule.specs.Condition.{Compare as Compare₃, IsNull as IsNull₃, IsNotNull as IsNotNull₃, Alone, Join, Not, Exists, Listed, Rule, fromsDeep}
-use Rattle.rule.proofs.Fits.{ValueFits, TableFits, Fits}
+use Rattle.card.specs.Card.{mostRowEntries, Interpretation, AsNo, Leaf, CompareLeaf, BlankLeaf, NotBlankLeaf, Card, LeafEntry, PairEntry, RowEntry, valueFits, leafFits, rowsFit, cardFits}
+use Rattle.rule.specs.Condition.{Compare, IsNull, IsNotNull, Atom, Join, Not, Exists, Listed, Rule, fromsDeep}
+use Rattle.rule.specs.Names.{ValueFits, TableFits, Fits}
 use Rattle.translation.specs.Translation.{other, negated, cardOf}
 
 module _ (columns : List ℕ) where
   negated-fits : (c : Card) (levels : List ℕ) → cardFits columns levels (negated c) ≡ cardFits columns levels c
   unfolding cardFits negated
-  negated-fits (At (Compare i op l r)) levels = refl
-  negated-fits (At (IsNull l)) levels = refl
-  negated-fits (At (NotNull l)) levels = refl
-  negated-fits (Both j a b) levels = ap₂ _&&_ (negated-fits a levels) (negated-fits b levels)
-  negated-fits (Rows q t c) levels = simp (negated-fits c)
+  negated-fits (LeafEntry (CompareLeaf i op l r)) levels = refl
+  negated-fits (LeafEntry (BlankLeaf l)) levels = refl
+  negated-fits (LeafEntry (NotBlankLeaf l)) levels = refl
+  negated-fits (PairEntry j a b) levels = ap₂ _&&_ (negated-fits a levels) (negated-fits b levels)
+  negated-fits (RowEntry q t c) levels = simp (negated-fits c)
 
   value-fits : (levels : List ℕ) (v : Value) → ValueFits columns levels v → T (valueFits columns levels v)
   value-fits levels (Constant k) f = f
@@ -43,9 +43,9 @@ module _ (columns : List ℕ) where
 
   pub card-fits : (r : Rule) (i : Interpretation) (levels : List ℕ) → length levels + fromsDeep r ≤ 4 → Fits columns levels r → T (cardFits columns levels (cardOf i r))
   unfolding cardFits cardOf Fits fromsDeep
-  card-fits (Alone (Compare₃ op l r)) i levels h f = and-i (valueFits columns levels l) _ (value-fits levels l (f .0)) (value-fits levels r (f .1))
-  card-fits (Alone (IsNull₃ l)) i levels h f = value-fits levels l f
-  card-fits (Alone (IsNotNull₃ l)) i levels h f = value-fits levels l f
+  card-fits (Atom (Compare op l r)) i levels h f = and-i (valueFits columns levels l) _ (value-fits levels l (f .0)) (value-fits levels r (f .1))
+  card-fits (Atom (IsNull l)) i levels h f = value-fits levels l f
+  card-fits (Atom (IsNotNull l)) i levels h f = value-fits levels l f
   card-fits (Join j a b) i levels h f =
       and-i (cardFits columns levels (cardOf i a)) _ (card-fits a i levels (omega arith) (f .0)) (card-fits b i levels (omega arith) (f .1))
   card-fits (Not a) i levels h f = rw negated-fits (card-fits a (other i) levels h f)

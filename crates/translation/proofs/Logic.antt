@@ -5,10 +5,16 @@ use mathlib.Core.List.{List, [], _∷_, map}
 use lib.Dec.{T}
 use Rattle.tables.specs.Lists.{any, all, put, keep}
 use Rattle.tables.specs.Tables.{Row}
-use Rattle.tables.specs.Values.{Joint, And, Or, Quantifier, Some, All}
-use Rattle.card.specs.Card.{Interpretation, AsNo, AsYes, joined, overRows}
+use Rattle.tables.specs.Values.{Connective, And, Or, Quantifier, Some, All}
+use Rattle.card.specs.Card.{Interpretation, AsNo, AsYes, unknownSays, joined, overRows}
 use Rattle.rule.specs.Meaning.{Truth, False, Unknown, True, truth, isTrue, isFalse, isUnknown, not3, and3, or3, join3, over3}
-use Rattle.translation.specs.Translation.{other, says, otherJoint, otherQuantifier}
+use Rattle.translation.specs.Translation.{other, otherConnective, otherQuantifier}
+
+-- a truth value as yes or no
+abbrev pub says : Interpretation → Truth → Bool
+says i False = false
+says i Unknown = unknownSays i
+says i True = true
 
 pub same-test : (a b : Bool) → (T a → T b) → (T b → T a) → a ≡ b
 same-test true true f g = refl
@@ -74,7 +80,7 @@ module _ {A : Type 0} where
   not-all p [] = refl
   not-all p (x ∷ xs) = not-and (p x) (all p xs) ∙ ap (not (p x) ||_) (not-all p xs)
 
-pub not-joined : (j : Joint) (a b : Bool) → not (joined j a b) ≡ joined (otherJoint j) (not a) (not b)
+pub not-joined : (j : Connective) (a b : Bool) → not (joined j a b) ≡ joined (otherConnective j) (not a) (not b)
 not-joined And a b = not-and a b
 not-joined Or a b = not-or a b
 
@@ -82,7 +88,7 @@ pub not-over : (q : Quantifier) (p : Row → Bool) (rows : List Row) → not (ov
 not-over Some p rows = not-any p rows
 not-over All p rows = not-all p rows
 
-pub says-join : (i : Interpretation) (j : Joint) (a b : Truth) → says i (join3 j a b) ≡ joined j (says i a) (says i b)
+pub says-join : (i : Interpretation) (j : Connective) (a b : Truth) → says i (join3 j a b) ≡ joined j (says i a) (says i b)
 says-join i And a b = says-and i a b
 says-join i Or a b = says-or i a b
 

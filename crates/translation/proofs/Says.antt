@@ -12,13 +12,13 @@ use lib.Signed.{ltZ, leZ}
 use Rattle.tables.specs.Lists.{any, all, keep}
 use Rattle.tables.specs.Tables.{Cell, Blank, Present, Row, Tables, rowsOf}
 use Rattle.tables.specs.Values.{Value, Constant, Column, Comparison, Eq, Ne, Lt, Le, Gt, Ge, holds, Quantifier, Some, All, Env, _▸_, cellOf}
-use Rattle.card.specs.Card.{Interpretation, AsNo, AsYes, unknownSays, Leaf, Compare, IsNull, NotNull, Card, At, Both, Rows, compares, leafSays, answer}
-use Rattle.rule.specs.Condition.{Test, Compare as Compare₃, IsNull as IsNull₃, IsNotNull as IsNotNull₃, Alone, Join, Not, Exists, Listed, Rule}
+use Rattle.card.specs.Card.{Interpretation, AsNo, AsYes, unknownSays, Leaf, CompareLeaf, BlankLeaf, NotBlankLeaf, Card, LeafEntry, PairEntry, RowEntry, compares, leafSays, answer}
+use Rattle.rule.specs.Condition.{Test, Compare, IsNull, IsNotNull, Atom, Join, Not, Exists, Listed, Rule}
 use Rattle.rule.specs.Names.{ValueScoped, Scoped}
 use Rattle.rule.specs.Meaning.{Truth, Unknown, truth, isTrue, isFalse, compare3, test3, meaning}
-use Rattle.translation.specs.Translation.{other, says, otherComparison, otherLeaf, negated, leafOf, cardOf}
+use Rattle.translation.specs.Translation.{other, otherComparison, otherLeaf, negated, leafOf, cardOf}
 use Rattle.translation.specs.Claims.{TranslationClaim}
-use Rattle.translation.proofs.Logic.{same-test, not-joined, not-over, says-join, says-not, says-truth, isTrue-says, isFalse-says, says-some, says-all}
+use Rattle.translation.proofs.Logic.{says, same-test, not-joined, not-over, says-join, says-not, says-truth, isTrue-says, isFalse-says, says-some, says-all}
 
 -- ---- comparisons
 
@@ -48,36 +48,32 @@ compares-other i op Blank b = unknown-other i
 compares-other i op (Present x) Blank = unknown-other i
 compares-other i op (Present x) (Present y) = holds-other op x y
 
-unknown-says : (i : Interpretation) → unknownSays i ≡ says i Unknown
-unknown-says AsNo = refl
-unknown-says AsYes = refl
-
 -- a card's comparison is a rule's, interpreted
 compares-says : (i : Interpretation) (op : Comparison) (a b : Cell) → compares i op a b ≡ says i (compare3 op a b)
-compares-says i op Blank b = unknown-says i
-compares-says i op (Present x) Blank = unknown-says i
+compares-says i op Blank b = refl
+compares-says i op (Present x) Blank = refl
 compares-says i op (Present x) (Present y) = sym (says-truth i (holds op x y))
 
 -- ---- negating
 
 leaf-other : (env : Env) (x : Leaf) → leafSays env (otherLeaf x) ≡ not (leafSays env x)
-leaf-other env (Compare i op l r) = compares-other i op (cellOf env l) (cellOf env r)
-leaf-other env (IsNull l) = refl
-leaf-other env (NotNull l) = simp Bool·not-not
+leaf-other env (CompareLeaf i op l r) = compares-other i op (cellOf env l) (cellOf env r)
+leaf-other env (BlankLeaf l) = refl
+leaf-other env (NotBlankLeaf l) = simp Bool·not-not
 
 -- negating a card negates its answer
 pub negated-not : (ts : Tables) (c : Card) (env : Env) → answer ts env (negated c) ≡ not (answer ts env c)
 unfolding answer negated
-negated-not ts (At x) env = leaf-other env x
-negated-not ts (Both j a b) env = simp (negated-not ts a, negated-not ts b, not-joined)
-negated-not ts (Rows q t c) env = simp (negated-not ts c, not-over)
+negated-not ts (LeafEntry x) env = leaf-other env x
+negated-not ts (PairEntry j a b) env = simp (negated-not ts a, negated-not ts b, not-joined)
+negated-not ts (RowEntry q t c) env = simp (negated-not ts c, not-over)
 
 -- ---- the theorem
 
 leaf-says : (env : Env) (i : Interpretation) (x : Test Value) → leafSays env (leafOf i x) ≡ says i (test3 env x)
-leaf-says env i (Compare₃ op l r) = compares-says i op (cellOf env l) (cellOf env r)
-leaf-says env i (IsNull₃ l) = simp says-truth
-leaf-says env i (IsNotNull₃ l) = simp says-truth
+leaf-says env i (Compare op l r) = compares-says i op (cellOf env l) (cellOf env r)
+leaf-says env i (IsNull l) = simp says-truth
+leaf-says env i (IsNotNull l) = simp says-truth
 
 -- a value that belongs outside a row is the same inside
 outside : (v : Value) (env : Env) (row : Row) → ValueScoped (length env) v → cellOf (env ▸ row) v ≡ cellOf env v
@@ -103,7 +99,7 @@ listed-says ts All op l s t w i env scoped inner =
 module _ (ts : Tables) where
   pub card-says : (r : Rule) (i : Interpretation) (env : Env) → Scoped (length env) r → answer ts env (cardOf i r) ≡ says i (meaning ts env r)
   unfolding answer cardOf meaning Scoped
-  card-says (Alone x) i env s = leaf-says env i x
+  card-says (Atom x) i env s = leaf-says env i x
   card-says (Join j a b) i env s = simp (says-join, card-says a i env (s .0), card-says b i env (s .1))
   card-says (Not a) i env s = simp (negated-not, says-not, card-says a (other i) env s)
   card-says (Exists t w) i env s =

@@ -8,7 +8,8 @@ use Rattle.card.specs.Calls.{checkCall, runCall}
 use Rattle.rule.specs.Tokens.{bytes}
 use Rattle.rule.specs.Parts.{partWith, unused}
 use Rattle.rule.specs.Calls.{readCall, judgeCall}
-use Rattle.rule.specs.Cases.{chained}
+use Rattle.card.specs.Cases.{workedCard}
+use Rattle.rule.specs.Cases.{caseTables, chained}
 use Rattle.translation.specs.Calls.{cardCall}
 
 -- ---- the worked card: "For one table of 3 columns, NOT m.2 < 5 gives, in hexadecimal, .."
@@ -19,9 +20,41 @@ workedTables = 1 ∷ 3 ∷ 0 ∷ 0 ∷ []
 unfoldable pub workedText : List ℕ
 workedText = bytes "NOT m.2 < 5"
 
-abbrev pub workedCard : List ℕ
-workedCard =
-    0x01 ∷ 0x00 ∷ 0x01 ∷ 0x03 ∷ 0x05 ∷ 0x01 ∷ 0x00 ∷ 0x00 ∷ 0x06 ∷ 0x00 ∷ 0x02 ∷ 0x00 ∷ 0x00 ∷ 0x00 ∷ 0xFF ∷ 0x05 ∷ 0x00 ∷ 0x00 ∷ 0x00 ∷ []
+-- ---- a card with every kind, for the tables of the proved cases
+
+unfoldable pub fullText : List ℕ
+fullText =
+    bytes
+    "NOT (m.1 < 5 AND m.2 IS NULL) OR m.1 <= ALL (SELECT v.1 FROM 2 v WHERE NOT v.1 > -1) OR m.2 = SOME (SELECT w.1 FROM 3 w WHERE NOT EXISTS (FROM 1 m WHERE m.2 IS NOT NULL OR w.1 >= m.1))"
+
+-- the sizes and the kinds, then a line for each record: end, table, comparison, left value, right value
+abbrev pub fullCard : List ℕ
+fullCard =
+    16 ∷ 0 ∷ 3 ∷ 2 ∷ 1 ∷ 1
+    ∷ 2 ∷ 2 ∷ 2 ∷ 5 ∷ 8 ∷ 4 ∷ 2 ∷ 6 ∷ 5 ∷ 3 ∷ 1 ∷ 4 ∷ 1 ∷ 7 ∷ 6 ∷ 5
+    ∷ 16 ∷ 0 ∷ 0 ∷ 0 ∷ 0 ∷ 0 ∷ 0 ∷ 0 ∷ 0 ∷ 0 ∷ 0 ∷ 0 ∷ 0 ∷ 0
+    ∷ 9 ∷ 0 ∷ 0 ∷ 0 ∷ 0 ∷ 0 ∷ 0 ∷ 0 ∷ 0 ∷ 0 ∷ 0 ∷ 0 ∷ 0 ∷ 0
+    ∷ 5 ∷ 0 ∷ 0 ∷ 0 ∷ 0 ∷ 0 ∷ 0 ∷ 0 ∷ 0 ∷ 0 ∷ 0 ∷ 0 ∷ 0 ∷ 0
+    ∷ 4 ∷ 0 ∷ 0 ∷ 6 ∷ 0 ∷ 1 ∷ 0 ∷ 0 ∷ 0 ∷ 255 ∷ 5 ∷ 0 ∷ 0 ∷ 0
+    ∷ 5 ∷ 0 ∷ 0 ∷ 0 ∷ 0 ∷ 2 ∷ 0 ∷ 0 ∷ 0 ∷ 0 ∷ 0 ∷ 0 ∷ 0 ∷ 0
+    ∷ 9 ∷ 0 ∷ 2 ∷ 0 ∷ 0 ∷ 0 ∷ 0 ∷ 0 ∷ 0 ∷ 0 ∷ 0 ∷ 0 ∷ 0 ∷ 0
+    ∷ 9 ∷ 0 ∷ 0 ∷ 0 ∷ 0 ∷ 0 ∷ 0 ∷ 0 ∷ 0 ∷ 0 ∷ 0 ∷ 0 ∷ 0 ∷ 0
+    ∷ 8 ∷ 0 ∷ 0 ∷ 5 ∷ 1 ∷ 1 ∷ 0 ∷ 0 ∷ 0 ∷ 255 ∷ 255 ∷ 255 ∷ 255 ∷ 255
+    ∷ 9 ∷ 0 ∷ 0 ∷ 4 ∷ 0 ∷ 1 ∷ 0 ∷ 0 ∷ 0 ∷ 1 ∷ 1 ∷ 0 ∷ 0 ∷ 0
+    ∷ 16 ∷ 0 ∷ 3 ∷ 0 ∷ 0 ∷ 0 ∷ 0 ∷ 0 ∷ 0 ∷ 0 ∷ 0 ∷ 0 ∷ 0 ∷ 0
+    ∷ 16 ∷ 0 ∷ 0 ∷ 0 ∷ 0 ∷ 0 ∷ 0 ∷ 0 ∷ 0 ∷ 0 ∷ 0 ∷ 0 ∷ 0 ∷ 0
+    ∷ 15 ∷ 0 ∷ 1 ∷ 0 ∷ 0 ∷ 0 ∷ 0 ∷ 0 ∷ 0 ∷ 0 ∷ 0 ∷ 0 ∷ 0 ∷ 0
+    ∷ 15 ∷ 0 ∷ 0 ∷ 0 ∷ 0 ∷ 0 ∷ 0 ∷ 0 ∷ 0 ∷ 0 ∷ 0 ∷ 0 ∷ 0 ∷ 0
+    ∷ 14 ∷ 0 ∷ 0 ∷ 0 ∷ 2 ∷ 2 ∷ 0 ∷ 0 ∷ 0 ∷ 0 ∷ 0 ∷ 0 ∷ 0 ∷ 0
+    ∷ 15 ∷ 0 ∷ 0 ∷ 3 ∷ 1 ∷ 1 ∷ 0 ∷ 0 ∷ 0 ∷ 2 ∷ 1 ∷ 0 ∷ 0 ∷ 0
+    ∷ 16 ∷ 0 ∷ 0 ∷ 1 ∷ 0 ∷ 2 ∷ 0 ∷ 0 ∷ 0 ∷ 1 ∷ 1 ∷ 0 ∷ 0 ∷ 0
+    ∷ []
+
+-- ---- RUN and LIST on the card of case 3, which is true on rows 0 and 2
+
+-- a card that fills its buffer
+unfoldable pub thirdCard : List ℕ
+thirdCard = cardCall (bytes "m.2 > 0 OR NOT m.2 > 0") caseTables (replicate 51 0) .buffer
 
 -- ---- the refusal table
 

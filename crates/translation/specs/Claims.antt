@@ -1,13 +1,16 @@
 -- What proofs/ shows of these definitions.
 use mathlib.Core.Path.{_≡_}
-use mathlib.Core.Bool.{Bool, not}
-use mathlib.Core.List.{List}
+use mathlib.Core.Bool.{Bool, true, false, not}
+use mathlib.Core.List.{List, [], _∷_, _++_, map}
 use Prim.Native.Nat.{ℕ}
 use lib.ListN.{length, replicate}
 use Rattle.tables.specs.Tables.{Tables}
 use Rattle.tables.specs.Values.{Env}
-use Rattle.tables.specs.Refusals.{filledWith}
+use Rattle.tables.specs.Refusals.{Refused, Given}
 use Rattle.card.specs.Card.{AsNo, AsYes, Card, answer, entries}
+use Rattle.card.specs.Calls.{runCall, listCall}
+use Rattle.card.specs.Cases.{workedCard}
+use Rattle.rule.specs.Cases.{caseTables}
 use Rattle.rule.specs.Condition.{Rule}
 use Rattle.rule.specs.Names.{Scoped}
 use Rattle.rule.specs.Calls.{Accepted}
@@ -15,7 +18,7 @@ use Rattle.rule.specs.Meaning.{isTrue, isFalse, meaning}
 use Rattle.translation.specs.Translation.{negated, cardOf, ruleCard, entrySum}
 use Rattle.translation.specs.Calls.{cardCall}
 use Rattle.translation.specs.Demand3.{Demand3For}
-use Rattle.translation.specs.Cases.{workedText, workedTables, workedCard, refusalExamples, refusalNumbers}
+use Rattle.translation.specs.Cases.{workedText, workedTables, fullText, fullCard, thirdCard, refusalExamples, refusalNumbers}
 
 -- for every rule whose levels exist, all tables and rows: false-interpreted, the card says yes exactly where the rule is true;
 -- true-interpreted, it says no exactly where the rule is false; and negating any card negates its answer
@@ -28,9 +31,20 @@ pub record TranslationClaim : Type 0 where
 abbrev pub SumClaim : Type 0
 SumClaim = (r : Rule) → entries (ruleCard r) ≡ entrySum r
 
--- the worked card: its 19 bytes fill a buffer of 19
+-- the worked card, in a buffer of two bytes more: its 19 bytes, their number, and the two last bytes untouched
 abbrev pub WorkedCardClaim : Type 0
-WorkedCardClaim = cardCall workedText workedTables (replicate 19 7) ≡ filledWith workedCard (replicate 19 7)
+WorkedCardClaim = cardCall workedText workedTables (replicate 21 7) ≡ record { result = Given 19; buffer = workedCard ++ (7 ∷ 7 ∷ []) }
+
+-- a card with every kind; 3 + 3 + 15 × 16 bytes
+abbrev pub FullCardClaim : Type 0
+FullCardClaim = cardCall fullText caseTables (replicate 246 7) ≡ record { result = Given 246; buffer = fullCard }
+
+-- case 3 through RUN and LIST: with room for three rows, for two and for one
+pub record GateCaseClaim : Type 0 where
+  pub runs : map (runCall thirdCard caseTables) (0 ∷ 1 ∷ 2 ∷ 3 ∷ []) ≡ Given true ∷ Given false ∷ Given true ∷ Refused 11 ∷ []
+  pub lists-3 : listCall thirdCard caseTables (9 ∷ 9 ∷ 9 ∷ []) ≡ record { result = Given 2; buffer = 0 ∷ 2 ∷ 9 ∷ [] }
+  pub lists-2 : listCall thirdCard caseTables (9 ∷ 9 ∷ []) ≡ record { result = Given 2; buffer = 0 ∷ 2 ∷ [] }
+  pub lists-1 : listCall thirdCard caseTables (9 ∷ []) ≡ record { result = Refused 12; buffer = 9 ∷ [] }
 
 -- the examples of the refusal table, together
 abbrev pub RefusalsClaim : Type 0

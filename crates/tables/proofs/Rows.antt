@@ -6,10 +6,9 @@ use mathlib.Core.Logic.{_↔_}
 use Prim.Native.Nat.{ℕ, zero, suc, _+_, _<_, suc-le-suc}
 use native.Mathlib.Nat.{le-of-suc-le-suc}
 use native.Mathlib.Omega.{arith}
 use Rattle.tables.specs.Lists.{tabulate, put, keep}
-use Rattle.tables.specs.Tables.{rowCount}
-use Rattle.card.specs.Calls.{rowsWhere}
-use Rattle.card.specs.Claims.{RowsClaim}
+use Rattle.tables.specs.Tables.{rowCount, rowsWhere}
+use Rattle.tables.specs.Claims.{RowsClaim}
 
 -- a number of the list is some f k, and the test holds of it
 record Among (p : ℕ → Bool) (n : ℕ) (f : ℕ → ℕ) (y : ℕ) : Type 0 where
