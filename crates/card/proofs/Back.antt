@@ -1,6 +1,6 @@
 -- The bytes of a card read back as the card, so what is sound passes the test.
 use mathlib.Core.Path.{_≡_, refl, sym, ap, ap₂, subst, fun-ext, _∙_}
-use mathlib.Core.Bool.{Bool, true, false}
+use mathlib.Core.Bool.{Bool, true}
 use mathlib.Core.List.{List, [], _∷_, _++_, append-nil}
 use mathlib.Core.Option.{some}
 use Prim.Native.Nat.{ℕ, zero, suc, _+_, _≤_, _<_}
@@ -11,9 +11,9 @@ use lib.Dec.{T, leb, ltb, eqb, leb→le, ltb→lt, eqb-refl}
 use lib.Ieee.Fits.{and-i}
 use lib.ListN.{length, getD, drop, length-append}
 use Rattle.tables.specs.Lists.{tabulate, numbered, all, only}
-use Rattle.tables.specs.Bytes.{between, byteAt, word32, bytes32, signed, bits, inRange}
+use Rattle.tables.specs.Bytes.{between, byteAt, word32, bytes32, bits, inRange}
 use Rattle.tables.specs.Tables.{mostTables, mostColumns}
-use Rattle.tables.specs.Values.{constantTag, judgedLevels, Value, Constant, Column, Comparison, Eq, Ne, Lt, Le, Gt, Ge, comparisonNumber, comparisonOf, And, Or, Some, All}
+use Rattle.tables.specs.Values.{constantTag, judgedLevels, Value, Constant, Column, Comparison, Eq, Ne, Lt, Le, Gt, Ge, comparisonNumber, And, Or, Some, All}
 use Rattle.card.specs.Card.{mostRowEntries, AsNo, AsYes, Leaf, CompareLeaf, BlankLeaf, NotBlankLeaf, Card, LeafEntry, PairEntry, RowEntry, entries, valueFits, leafFits, rowsFit, cardFits}
 use Rattle.card.specs.Layout.{Head, LeafHead, PairHead, RowHead, kindOf, valueBytes, noValue, recordBytes, cardBytes, valueOf, valueFrom, zeros, headFrom, inside, entryFrom, cardFrom}
 use Rattle.card.specs.Sound.{mostEntries, columnsFit, sound, Sound}

@@ -1,6 +1,5 @@
 -- The claims of specs/Claims.antt.
-use mathlib.Core.Path.{_≡_, refl, ap, _∙_}
-use lib.Dec.{T}
+use mathlib.Core.Path.{refl, ap, _∙_}
 use Rattle.card.specs.Layout.{columnsIn}
 use Rattle.card.specs.Cases.{nested, chained, edges}
 use Rattle.card.specs.Claims.{SoundClaim, LengthClaim, OrderClaim, EdgesClaim}

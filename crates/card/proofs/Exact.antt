@@ -11,7 +11,7 @@ use lib.ListN.{length, getD, take, drop, length-drop, take-append-drop, drop-of-
 use lib.Seq.{take-take, drop-cons, drop-drop, getD-drop, length-take-le}
 use Rattle.tables.specs.Lists.{tabulate, all, only, _>>=_}
 use Rattle.tables.specs.Bytes.{between, byteAt, word16, word32, bytes16, bytes32, signed}
-use Rattle.tables.specs.Values.{constantTag, judgedLevels, Value, Constant, Column, comparisonNumber, comparisonOf, Connective, And, Or, Quantifier, Some, All}
+use Rattle.tables.specs.Values.{constantTag, judgedLevels, Constant, Column, comparisonNumber, comparisonOf, Connective, And, Or, Quantifier, Some, All}
 use Rattle.card.specs.Card.{Interpretation, AsNo, AsYes, Leaf, CompareLeaf, BlankLeaf, NotBlankLeaf, Card, LeafEntry, PairEntry, RowEntry, entries, cardFits}
 use Rattle.card.specs.Layout.{recordSize, Head, LeafHead, PairHead, RowHead, kindOf, valueBytes, noValue, fieldBytes, recordBytes, kindBytes, recordsFrom, cardBytes, cardLength, entryCount, tablesIn, columnsIn, kindAt, recordAt, endAt, valueFrom, zeros, headFrom, Taken, inside, entryFrom, cardFrom}
 use Rattle.card.specs.Sound.{mostEntries, columnsFit, holdsFitting, sound, Sound}

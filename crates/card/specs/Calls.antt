@@ -1,15 +1,14 @@
 -- CHECK, RUN and LIST (document 01, What the product holds): which refusal, or which answer, for any bytes and any row number.
-use mathlib.Core.Bool.{Bool, true, false, not, _&&_}
+use mathlib.Core.Bool.{Bool, false, not}
 use mathlib.Core.List.{List, [], _∷_, _++_}
 use mathlib.Core.Option.{Option, none, some}
 use Prim.Native.Nat.{ℕ}
-use lib.Dec.{eqb}
-use Rattle.tables.specs.Lists.{tabulate, keep, same}
+use Rattle.tables.specs.Lists.{same}
 use Rattle.tables.specs.Tables.{columnsOf, tablesOf, rowsWhere}
 use Rattle.tables.specs.Values.{judgedRow}
 use Rattle.tables.specs.Refusals.{Refusal, _if_, firstApplying, Answer, unless, Lent, lend, tablesRefusals, rowRefusal}
 use Rattle.card.specs.Card.{Card, answer}
-use Rattle.card.specs.Layout.{tablesIn, columnsIn, cardFrom}
+use Rattle.card.specs.Layout.{columnsIn, cardFrom}
 use Rattle.card.specs.Sound.{sound}
 
 abbrev pub cardSays : List ℕ → ℕ → Option Card → Bool
@@ -26,7 +25,7 @@ saysYes card file row = cardSays file row (cardFrom card)
 unfoldable pub checkRefusals : List ℕ → List Refusal
 checkRefusals card = (9 if not (sound card)) ∷ []
 
--- 10 does not apply: "card's T or columns differ from the tables'" (T is the length of the list of columns)
+-- refusal 10 does not apply: the card was made for this number of tables and these columns (the number of tables is the list's length)
 unfoldable pub fitsTables : List ℕ → List ℕ → Bool
 fitsTables card file = same (columnsIn card) (columnsOf file)
 
@@ -39,14 +38,14 @@ runRefusals card file row = gateRefusals card file ++ (rowRefusal file row ∷ [
 
 -- ---- the calls
 
--- CHECK: "a card alone, sound or refused"
+-- CHECK looks at a card alone: nothing to answer, or refusal 9
 unfoldable pub checkCall : List ℕ → Answer (Unit {0})
 checkCall card = unless (firstApplying (checkRefusals card)) (λ _. tt)
 
--- RUN: "card, tables, row number to yes or no"
+-- RUN answers yes or no for one row
 unfoldable pub runCall : List ℕ → List ℕ → ℕ → Answer Bool
 runCall card file row = unless (firstApplying (runRefusals card file row)) (λ _. saysYes card file row)
 
--- LIST: "card and tables to the admitted row numbers, rising, one element of the lent list each, with their count"
+-- LIST writes the numbers of the rows that the card says yes to into the lent list, one element each, and answers how many
 unfoldable pub listCall : List ℕ → List ℕ → List ℕ → Lent ℕ
 listCall card file buffer = lend (gateRefusals card file) (rowsWhere file (saysYes card file)) buffer

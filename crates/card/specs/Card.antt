@@ -6,10 +6,10 @@ use lib.Dec.{leb, ltb}
 use lib.ListN.{length, getD}
 use Rattle.tables.specs.Lists.{numbered, any, all}
 use Rattle.tables.specs.Bytes.{between, inRange}
-use Rattle.tables.specs.Tables.{Cell, Blank, Present, Row, Tables, rowsOf}
+use Rattle.tables.specs.Tables.{Cell, Row, Tables, rowsOf}
 use Rattle.tables.specs.Values.{Value, Constant, Column, Comparison, holds, Connective, And, Or, Quantifier, Some, All, Env, _▸_, cellOf, byNumbers, isBlank}
 
--- "at most three row entries around one another"
+-- how many row entries a sound card may have around one another
 abbrev pub mostRowEntries : ℕ
 mostRowEntries = 3
 
@@ -21,13 +21,12 @@ abbrev pub unknownSays : Interpretation → Bool
 unknownSays AsNo = false
 unknownSays AsYes = true
 
--- an entry without inner ones. Compare AsNo and AsYes: kinds 5 and 6, "comparison where unknown counts as no", "as yes".
--- IsNull: kind 7, "blank". NotNull: kind 8, "not blank".
+-- an entry without inner ones. CompareLeaf AsNo and AsYes: the comparisons of kinds 5 and 6. BlankLeaf and NotBlankLeaf: kinds 7 and 8.
 pub data Leaf : Type 0 where
   CompareLeaf : Interpretation → Comparison → Value → Value → Leaf
   BlankLeaf NotBlankLeaf : Value → Leaf
 
--- an entry with its inner ones. Both And, Both Or: kinds 1 and 2. Rows Some, Rows All: kinds 3 and 4, "some row", "every row".
+-- an entry with its inner ones. PairEntry And and Or: kinds 1 and 2. RowEntry Some and All: kinds 3 and 4, over the rows of a table.
 pub data Card : Type 0 where
   LeafEntry : Leaf → Card
   PairEntry : Connective → Card → Card → Card
@@ -52,7 +51,7 @@ abbrev pub overRows : Quantifier → (Row → Bool) → List Row → Bool
 overRows Some p rows = any p rows
 overRows All p rows = all p rows
 
--- "A compound entry's answer comes from its smaller inner entries."
+-- an entry with inner ones answers by their answers
 unfoldable pub answer : Tables → Env → Card → Bool
 answer ts env (LeafEntry x) = leafSays env x
 answer ts env (PairEntry j a b) = joined j (answer ts env a) (answer ts env b)
@@ -67,7 +66,7 @@ entries (RowEntry q t c) = 1 + entries c
 
 -- columns has the columns of each table; levels has the table of each level, level 0 first
 module _ (columns : List ℕ) where
-  -- "existing .. columns and levels", and a number that 4 bytes can hold
+  -- a value of a sound card: its level and column exist, its number has 32 bits
   abbrev pub valueFits : List ℕ → Value → Bool
   valueFits levels (Constant k) = inRange k
   valueFits levels (Column l c) = ltb l (length levels) && between 1 (numbered columns (getD levels l 0) 0) c
@@ -77,7 +76,7 @@ module _ (columns : List ℕ) where
   leafFits levels (BlankLeaf l) = valueFits levels l
   leafFits levels (NotBlankLeaf l) = valueFits levels l
 
-  -- "existing tables", and at most three row entries around one another: levels holds the judged row's and one for each row entry around
+  -- a row entry of a sound card: its table exists, and it is within at most two others (levels has the judged row's and one for each of them)
   abbrev pub rowsFit : List ℕ → ℕ → Bool
   rowsFit levels t = between 1 (length columns) t && leb (length levels) mostRowEntries
 

@@ -2,12 +2,10 @@
 use mathlib.Core.Bool.{Bool, true, false}
 use mathlib.Core.List.{List, [], _∷_, _++_}
 use Prim.Native.Nat.{ℕ, zero, suc}
-use lib.IntN.{pos}
 use lib.ListN.{set}
-use Rattle.tables.specs.Values.{Value, Constant, Column, Lt, Or, Some, All}
-use Rattle.card.specs.Card.{AsNo, AsYes, CompareLeaf, BlankLeaf, NotBlankLeaf, Card, LeafEntry, PairEntry, RowEntry}
+use Rattle.tables.specs.Values.{Column, Or, Some, All}
+use Rattle.card.specs.Card.{BlankLeaf, NotBlankLeaf, Card, LeafEntry, PairEntry, RowEntry}
 use Rattle.card.specs.Layout.{cardBytes}
-use Rattle.card.specs.Sound.{sound}
 
 pub record Edge : Type 0 where
   pub card : List ℕ

@@ -18,7 +18,7 @@ pub record SoundClaim : Type 0 where
   pub holds-card : (bs : List ℕ) (s : Sound bs) → cardFrom bs ≡ some (s .card)
   pub holds-columns : (bs : List ℕ) (s : Sound bs) → columnsIn bs ≡ s .columns
 
--- "the card takes 3 + T + 15n bytes"
+-- the length in bytes that the section Card gives
 abbrev pub LengthClaim : Type 0
 LengthClaim = (columns : List ℕ) (c : Card) → length (cardBytes columns c) ≡ cardLength (length columns) (entries c)
 

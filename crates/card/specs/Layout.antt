@@ -7,14 +7,14 @@ use lib.Dec.{eqb}
 use lib.ListN.{length, take, drop}
 use Rattle.tables.specs.Lists.{tabulate, numbered, all, only, _>>=_}
 use Rattle.tables.specs.Bytes.{between, byteAt, word16, word32, bytes16, bytes32, signed, bits}
-use Rattle.tables.specs.Values.{constantTag, Value, Constant, Column, Comparison, comparisonNumber, comparisonOf, Connective, And, Or, Quantifier, Some, All}
-use Rattle.card.specs.Card.{Interpretation, AsNo, AsYes, Leaf, CompareLeaf, BlankLeaf, NotBlankLeaf, Card, LeafEntry, PairEntry, RowEntry, entries}
+use Rattle.tables.specs.Values.{constantTag, Value, Constant, Column, comparisonNumber, comparisonOf, Connective, And, Or, Quantifier, Some, All}
+use Rattle.card.specs.Card.{AsNo, AsYes, Leaf, CompareLeaf, BlankLeaf, NotBlankLeaf, Card, LeafEntry, PairEntry, RowEntry, entries}
 
--- "n records of 14 bytes"
+-- the bytes of one record
 abbrev pub recordSize : ℕ
 recordSize = 14
 
--- "Record: end (2 bytes, as for parts), table, comparison, left value, right value (tag byte, then a 4-byte number each)": the places
+-- where a record's fields stand, after the two bytes of its end; a value has a byte for its tag and four for its number
 abbrev pub tablePlace : ℕ
 tablePlace = 2
 
@@ -34,7 +34,7 @@ pub data Head : Type 0 where
   PairHead : Connective → Head
   RowHead : Quantifier → ℕ → Head
 
--- "Kinds: 1 and, 2 or, 3 some row, 4 every row, 5 comparison where unknown counts as no, 6 .. as yes, 7 blank, 8 not blank."
+-- the numbers of the eight kinds
 abbrev pub kindOf : Head → ℕ
 kindOf (PairHead And) = 1
 kindOf (PairHead Or) = 2
@@ -49,11 +49,11 @@ abbrev pub valueBytes : Value → List ℕ
 valueBytes (Constant k) = constantTag ∷ bytes32 (bits k)
 valueBytes (Column l c) = l ∷ bytes32 c
 
--- "Unused bytes are 0."
+-- a value that a kind does not use: zeros
 abbrev pub noValue : List ℕ
 noValue = 0 ∷ 0 ∷ 0 ∷ 0 ∷ 0 ∷ []
 
--- "Kinds 3 and 4 use the table, 5 and 6 the comparison and both values, 7 and 8 the left value."
+-- which fields each kind uses: row entries the table, comparisons the comparison and both values, blank tests the left value
 abbrev pub fieldBytes : Head → List ℕ
 fieldBytes (PairHead j) = 0 ∷ 0 ∷ noValue ++ noValue
 fieldBytes (RowHead q t) = t ∷ 0 ∷ noValue ++ noValue
@@ -66,7 +66,7 @@ recordBytes end h = bytes16 end ++ fieldBytes h
 
 -- ---- the bytes of a card
 
--- "each entry precedes its inner ones, left first": the kinds of a card's entries
+-- the kinds of a card's entries: an entry stands before its inner ones, and the left one before the right
 unfoldable pub kindBytes : Card → List ℕ
 kindBytes (LeafEntry x) = kindOf (LeafHead x) ∷ []
 kindBytes (PairEntry j a b) = kindOf (PairHead j) ∷ (kindBytes a ++ kindBytes b)
@@ -79,11 +79,11 @@ recordsFrom k (PairEntry j a b) =
     recordBytes (k + (1 + entries a + entries b)) (PairHead j) ++ (recordsFrom (k + 1) a ++ recordsFrom (k + 1 + entries a) b)
 recordsFrom k (RowEntry q t c) = recordBytes (k + (1 + entries c)) (RowHead q t) ++ recordsFrom (k + 1) c
 
--- "Bytes 0 and 1: entries n. Byte 2: T. T bytes: columns. Then n kind bytes; then n records."
+-- the whole card: how many entries, how many tables, the columns of each, all kinds, all records
 unfoldable pub cardBytes : List ℕ → Card → List ℕ
 cardBytes columns c = bytes16 (entries c) ++ (length columns ∷ (columns ++ (kindBytes c ++ recordsFrom 0 c)))
 
--- "the card takes 3 + T + 15n bytes"
+-- how long a card of n entries is: two bytes and one, the columns, and for each entry its kind and its record
 abbrev pub cardLength : ℕ → ℕ → ℕ
 cardLength tables n = 3 + tables + (1 + recordSize) * n
 
@@ -148,7 +148,7 @@ headFrom kind r =
 abbrev pub Taken : Type 0
 Taken = Card × ℕ
 
--- "Kinds 1 and 2 have two inner entries, 3 and 4 one, the rest none": `from` takes the entry that starts at a number
+-- the inner entries by kind: two, one or none; `from` takes the entry that starts at a number
 abbrev pub inside : (ℕ → Option Taken) → ℕ → Head → Option Taken
 inside from i (LeafHead x) = some (LeafEntry x, i + 1)
 inside from i (PairHead j) = from (i + 1) >>= (λ a. from (a .1) >>= (λ b. some (PairEntry j (a .0) (b .0), b .1)))
@@ -160,6 +160,6 @@ entryFrom bs zero i = none
 entryFrom bs (suc depth) i =
     headFrom (kindAt bs i) (recordAt bs i) >>= (λ h. inside (entryFrom bs depth) i h >>= (λ x. only (eqb (endAt bs i) (x .1)) x))
 
--- the card that some bytes hold: "entry 0 covering all"
+-- the card that some bytes hold: entry 0 reaches to the last one
 unfoldable pub cardFrom : List ℕ → Option Card
 cardFrom bs = entryFrom bs (entryCount bs) 0 >>= (λ x. only (eqb (x .1) (entryCount bs)) (x .0))

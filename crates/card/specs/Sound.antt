@@ -1,8 +1,8 @@
--- Document 01, Card: "A sound card has this layout, ends that fit, entry 0 covering all, existing tables, columns and levels, at most
--- three row entries around one another, and no spare bytes."
+-- Document 01, Card, the paragraph on sound cards: the layout with nothing to spare, ends and entry 0 as they should be, tables, columns and
+-- levels that exist, and a bound on row entries around one another.
 use mathlib.Core.Path.{_≡_}
-use mathlib.Core.Bool.{Bool, true, false, _&&_}
-use mathlib.Core.List.{List, [], _∷_}
+use mathlib.Core.Bool.{Bool, false, _&&_}
+use mathlib.Core.List.{List}
 use mathlib.Core.Option.{Option, none, some}
 use Prim.Native.Nat.{ℕ}
 use lib.Dec.{T, eqb}
@@ -14,11 +14,11 @@ use Rattle.tables.specs.Values.{judgedLevels}
 use Rattle.card.specs.Card.{Card, entries, cardFits}
 use Rattle.card.specs.Layout.{cardBytes, cardLength, entryCount, tablesIn, columnsIn, cardFrom}
 
--- "entries n, 1 to 192"
+-- how many entries a card may have
 abbrev pub mostEntries : ℕ
 mostEntries = 192
 
--- a card's tables: "T, 1 to 8. T bytes: columns, 1 to 16 each."
+-- how many tables, and how many columns each
 abbrev pub columnsFit : List ℕ → Bool
 columnsFit columns = between 1 mostTables (length columns) && all (between 1 mostColumns) columns
 

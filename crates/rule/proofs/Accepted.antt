@@ -1,10 +1,9 @@
 -- An accepted text is just what the grammar, names and limits allow.
-use mathlib.Core.Path.{_≡_, refl, sym, ap, _∙_}
+use mathlib.Core.Path.{_≡_, refl, ap, _∙_}
 use mathlib.Core.Bool.{Bool, true, false, not, _&&_}
-use mathlib.Core.List.{List, [], _∷_, _++_}
-use mathlib.Core.Logic.{_↔_}
+use mathlib.Core.List.{List}
 use mathlib.Core.Option.{Option, none, some}
-use Prim.Native.Nat.{ℕ, suc, _+_, _≤_, max}
+use Prim.Native.Nat.{ℕ, _≤_}
 use native.Mathlib.Omega.{arith}
 use borrow.Author.Tests.{ltb-false, le-ltb, leb-true, le-leb, not-false, not-true}
 use lib.Dec.{ltb, leb}
@@ -16,14 +15,12 @@ use Rattle.tables.specs.Values.{judgedLevels}
 use Rattle.tables.specs.Refusals.{tablesRefusals}
 use Rattle.tables.proofs.Refusals.{first-nil, first-none, none-first}
 use Rattle.rule.specs.Tokens.{tokensOf, opensFit}
-use Rattle.rule.specs.Condition.{Atom, Join, Not, Exists, Listed, Over, WrittenCondition, Rule, parts, fromsDeep}
-use Rattle.rule.specs.Grammar.{Tokens}
+use Rattle.rule.specs.Condition.{WrittenCondition, parts, fromsDeep}
 use Rattle.rule.specs.Reader.{readAll}
-use Rattle.rule.specs.Names.{mostParts, mostFroms, limitsFit, Scope, outermost, bound, existing, valueIn, testIn, ruleIn}
+use Rattle.rule.specs.Names.{mostParts, mostFroms, limitsFit, outermost, ruleIn}
 use Rattle.rule.specs.Calls.{mostBytes, fails, isThere, textOf, ruleOf, readingRefusals, Accepted}
 use Rattle.rule.specs.Claims.{Allowed, AcceptedClaim, PartsClaim}
 use Rattle.rule.proofs.Reading.{read-sound, read-complete}
-use Rattle.rule.proofs.Sizes.{names-sized}
 use Rattle.rule.proofs.Constants.{tokens-fit, reading-constants}
 use Rattle.rule.proofs.Fits.{names-fit, fits-scoped}
 use Rattle.rule.proofs.Parts.{parts-back, parts-length}
@@ -130,16 +127,15 @@ parts-claim text file e =
     let w = accepted-allowed text file e in
     let read : textOf text ≡ some (w .condition) = ap (_>>= readAll) (w .are-tokens) ∙ read-complete (w .tokens) (w .condition) (w .reads) in
     let constants = reading-constants (w .reads) (tokens-fit text (w .are-tokens)) in
-    let fits = names-fit (columnsOf file) (w .condition) constants (w .names) in
-    let scoped = fits-scoped (columnsOf file) 1 judgedLevels refl (w .rule) fits in
-    let size = names-sized (columnsOf file) (w .condition) (w .names) in
+    let resolved = names-fit (columnsOf file) (w .condition) constants (w .names) in
+    let scoped = fits-scoped (columnsOf file) 1 judgedLevels refl (w .rule) (resolved .fits) in
     let few = w .few-parts in
     let shallow = w .few-froms in
     let deep : fromsDeep (w .rule) ≤ mostFroms = omega arith in
     record {
       rule = w .rule;
       is-rule = ap (_>>= ruleIn (columnsOf file) outermost) read ∙ w .names;
-      fits = fits;
+      fits = resolved .fits;
       scoped = scoped;
       few-parts = omega arith;
       few-froms = deep;

@@ -5,13 +5,12 @@ use mathlib.Core.List.{List, [], _∷_}
 use mathlib.Core.Option.{Option, none, some, Option·map}
 use Prim.Native.Nat.{ℕ, zero, suc, _+_, pred}
 use lib.Dec.{T, eqb}
-use lib.Ieee.Fits.{and-r}
 use lib.IntN.{ℤ, pos, negℤ}
 use lib.ListN.{length}
 use Rattle.tables.specs.Lists.{same, only}
 use Rattle.tables.specs.Bytes.{between, inRange}
 use Rattle.rule.specs.Tokens.{Token, Fixed, Compares, Letter, Number, Spelling, words, signs, isGap, isCapital, isSmall, isDigit, takeWhile, Lexed, wordIn, begins, signIn, mostDigits, spelled, numberFrom, firstToken, andThen, tokensAfter, tokensOf}
-use Rattle.rule.specs.Condition.{Test, Compare, IsNull, IsNotNull, Condition, Atom, Join, Not, Exists, Listed, WrittenValue, Plain, Named, From, WrittenCondition}
+use Rattle.rule.specs.Condition.{Test, Compare, IsNull, IsNotNull, Atom, Join, Not, Exists, Listed, WrittenValue, Plain, Named, From, WrittenCondition}
 use Rattle.rule.specs.Grammar.{Tokens, IsValue, number, column, IsCondition, one-conjunction, joined-by-or, IsConjunction, one-factor, joined-by-and, IsFactor, not-factor, one-test, IsTest, bracketed, exists, is-null, is-not-null, compared, some-of, all-of, is-in, not-in, IsList, list}
 use Rattle.rule.proofs.Every.{Every, missing, there, found}
 

@@ -13,8 +13,3 @@ found (there p) = p
 pub every-bind : {A B : Type 0} (P : A → Type 0) (Q : B → Type 0) {o : Option A} (f : A → Option B) → Every P o → ((x : A) → P x → Every Q (f x)) → Every Q (o >>= f)
 every-bind P Q f missing h = missing
 every-bind P Q f (there {x = x} p) h = h x p
-
--- whatever is there
-pub any-number : {A : Type 0} (o : Option A) → Every (λ _. Unit {0}) o
-any-number none = missing
-any-number (some x) = there tt

@@ -1,18 +1,18 @@
--- The rule of an accepted text names existing tables, columns and levels alone, and its constants have 32 bits.
-use mathlib.Core.Path.{_≡_, refl, sym, ap, _∙_}
-use mathlib.Core.Bool.{Bool, true, false, _&&_}
+-- The rule that a condition stands for names existing tables, columns and levels alone, its constants have 32 bits, and it has the condition's size.
+use mathlib.Core.Path.{_≡_, refl, ap, ap₂, _∙_}
+use mathlib.Core.Bool.{Bool, true, false}
 use mathlib.Core.List.{List, [], _∷_, _++_}
-use mathlib.Core.Option.{Option, none, some}
-use Prim.Native.Nat.{ℕ, zero, suc, _+_, _<_, _≤_}
+use mathlib.Core.Option.{some}
+use Prim.Native.Nat.{ℕ, suc, _<_, _+_, max}
 use native.Mathlib.Omega.{arith}
 use lib.Dec.{T, eqb}
 use lib.IntN.{ℤ, pos, negsuc}
 use lib.ListN.{length, getD, length-append, List·getD-append}
 use lib.Seq.{getD-append-seam}
-use Rattle.tables.specs.Lists.{numbered, only, _>>=_}
-use Rattle.tables.specs.Bytes.{between, inRange}
-use Rattle.tables.specs.Values.{Value, Constant, Column}
-use Rattle.rule.specs.Condition.{Test, Compare, IsNull, IsNotNull, Condition, Atom, Join, Not, Exists, Listed, WrittenValue, Plain, Named, From, Over, WrittenCondition, Rule}
+use Rattle.tables.specs.Lists.{numbered, only}
+use Rattle.tables.specs.Bytes.{between}
+use Rattle.tables.specs.Values.{judgedLevels, Value, Constant, Column}
+use Rattle.rule.specs.Condition.{Test, Compare, IsNull, IsNotNull, Atom, Join, Not, Exists, Listed, WrittenValue, Plain, Named, Over, WrittenCondition, Rule, parts, fromsDeep}
 use Rattle.rule.specs.Names.{Binding, Scope, outermost, bound, nearest, existing, valueIn, testIn, ruleIn, ValueFits, TestFits, TableFits, Fits, ValueScoped, Scoped}
 use Rattle.rule.proofs.Every.{Every, missing, there, found, every-bind}
 use Rattle.rule.proofs.Constants.{WrittenFits, TestConstants, Constants}
@@ -76,25 +76,38 @@ module _ (columns : List ℕ) where
   test-fits p (IsNull l) f = every-bind (ValueFits columns _) (TestFits columns _) _ (value-fits p l f) (λ x h. there h)
   test-fits p (IsNotNull l) f = every-bind (ValueFits columns _) (TestFits columns _) _ (value-fits p l f) (λ x h. there h)
 
-  rule-fits : {levels : List ℕ} {scope : Scope} → length scope ≡ length levels → Placed levels scope → (a : WrittenCondition) → Constants a → Every (Fits columns levels) (ruleIn columns scope a)
-  unfolding ruleIn Fits Constants
-  rule-fits e p (Atom x) f = every-bind (TestFits columns _) (Fits columns _) _ (test-fits p x f) (λ y h. there h)
-  rule-fits e p (Join j a b) f = every-bind (Fits columns _) (Fits columns _) _ (rule-fits e p a (f .0)) (λ x h. every-bind (Fits columns _) (Fits columns _) _ (rule-fits e p b (f .1)) (λ y g. there (h, g)))
-  rule-fits e p (Not a) f = every-bind (Fits columns _) (Fits columns _) _ (rule-fits e p a f) (λ x h. there h)
-  rule-fits {levels} {scope} e p (Exists (Over n x) w) f =
-      every-bind (TableFits columns) (Fits columns levels) _ (existing-fits (length columns) n) (λ t g.
-      every-bind (Fits columns (levels ++ (t ∷ []))) (Fits columns levels) _ (rule-fits (one-longer levels (length scope) t e) (bound-placed x t e p) w f) (λ w′ h. there (g, h)))
-  rule-fits {levels} {scope} e p (Listed q op l s (Over n x) w) f =
-      every-bind (TableFits columns) (Fits columns levels) _ (existing-fits (length columns) n) (λ t g.
-      every-bind (ValueFits columns levels) (Fits columns levels) _ (value-fits p l (f .0)) (λ l′ hl.
-      every-bind (ValueFits columns (levels ++ (t ∷ []))) (Fits columns levels) _ (value-fits (bound-placed x t e p) s (f .1)) (λ s′ hs.
-      every-bind (Fits columns (levels ++ (t ∷ []))) (Fits columns levels) _ (rule-fits (one-longer levels (length scope) t e) (bound-placed x t e p) w (f .2)) (λ w′ h. there (g, hl, hs, h)))))
+  -- the rule of a condition fits, with as many parts and as many FROMs around one another
+  pub record Resolved (levels : List ℕ) (a : WrittenCondition) (r : Rule) : Type 0 where
+    pub fits : Fits columns levels r
+    pub same-parts : parts r ≡ parts a
+    pub same-depth : fromsDeep r ≡ fromsDeep a
 
-  -- a whole rule: level 0 is table 1
-  pub names-fit : (a : WrittenCondition) {r : Rule} → Constants a → ruleIn columns outermost a ≡ some r → Fits columns (1 ∷ []) r
+  rule-fits : {levels : List ℕ} {scope : Scope} → length scope ≡ length levels → Placed levels scope → (a : WrittenCondition) → Constants a → Every (Resolved levels a) (ruleIn columns scope a)
+  unfolding ruleIn Fits Constants parts fromsDeep
+  rule-fits e p (Atom x) f = every-bind (TestFits columns _) (Resolved _ (Atom x)) _ (test-fits p x f) (λ y h. there (record { fits = h; same-parts = refl; same-depth = refl }))
+  rule-fits e p (Join j a b) f =
+      every-bind (Resolved _ a) (Resolved _ (Join j a b)) _ (rule-fits e p a (f .0)) (λ x h.
+      every-bind (Resolved _ b) (Resolved _ (Join j a b)) _ (rule-fits e p b (f .1)) (λ y g.
+      there (record { fits = (h .fits, g .fits); same-parts = ap₂ (λ m n. 1 + m + n) (h .same-parts) (g .same-parts); same-depth = ap₂ max (h .same-depth) (g .same-depth) })))
+  rule-fits e p (Not a) f =
+      every-bind (Resolved _ a) (Resolved _ (Not a)) _ (rule-fits e p a f) (λ x h. there (record { fits = h .fits; same-parts = ap (1 +_) (h .same-parts); same-depth = h .same-depth }))
+  rule-fits {levels} {scope} e p (Exists (Over n x) w) f =
+      every-bind (TableFits columns) (Resolved levels (Exists (Over n x) w)) _ (existing-fits (length columns) n) (λ t g.
+      every-bind (Resolved (levels ++ (t ∷ [])) w) (Resolved levels (Exists (Over n x) w)) _ (rule-fits (one-longer levels (length scope) t e) (bound-placed x t e p) w f) (λ w′ h.
+      there (record { fits = (g, h .fits); same-parts = ap (1 +_) (h .same-parts); same-depth = ap (1 +_) (h .same-depth) })))
+  rule-fits {levels} {scope} e p (Listed q op l s (Over n x) w) f =
+      let a = Listed q op l s (Over n x) w in
+      every-bind (TableFits columns) (Resolved levels a) _ (existing-fits (length columns) n) (λ t g.
+      every-bind (ValueFits columns levels) (Resolved levels a) _ (value-fits p l (f .0)) (λ l′ hl.
+      every-bind (ValueFits columns (levels ++ (t ∷ []))) (Resolved levels a) _ (value-fits (bound-placed x t e p) s (f .1)) (λ s′ hs.
+      every-bind (Resolved (levels ++ (t ∷ [])) w) (Resolved levels a) _ (rule-fits (one-longer levels (length scope) t e) (bound-placed x t e p) w (f .2)) (λ w′ h.
+      there (record { fits = (g, hl, hs, h .fits); same-parts = ap (1 +_) (h .same-parts); same-depth = ap (1 +_) (h .same-depth) })))))
+
+  -- a whole rule
+  pub names-fit : (a : WrittenCondition) {r : Rule} → Constants a → ruleIn columns outermost a ≡ some r → Resolved judgedLevels a r
   names-fit a f e =
-      let b : InPlace (1 ∷ []) (record { letter = 109; level = 0; table = 1 }) = (omega arith, refl) in
-      found (rw e at (rule-fits {levels = 1 ∷ []} {scope = outermost} refl (one-placed b none-placed) a f))
+      let b : InPlace judgedLevels (record { letter = 109; level = 0; table = 1 }) = (omega arith, refl) in
+      found (rw e at (rule-fits {levels = judgedLevels} {scope = outermost} refl (one-placed b none-placed) a f))
 
   -- the levels that it names exist
   value-scoped : (n : ℕ) (levels : List ℕ) → n ≡ length levels → (v : Value) → ValueFits columns levels v → ValueScoped n v

@@ -2,7 +2,7 @@
 -- The first half goes by induction principles: whatever holds of "nothing found" and of each form holds of what is found.
 use mathlib.Core.Path.{_≡_, refl, ap, subst, _∙_}
 use mathlib.Core.Bool.{Bool, true, false}
-use mathlib.Core.List.{List, [], _∷_}
+use mathlib.Core.List.{[], _∷_}
 use mathlib.Core.Option.{Option, none, some}
 use Prim.Native.Nat.{ℕ}
 use lib.Dec.{eqb}
@@ -10,10 +10,10 @@ use lib.IntN.{ℤ}
 use borrow.Author.Tests.{eqb-true}
 use Rattle.tables.specs.Lists.{only, _>>=_, _<|>_}
 use Rattle.tables.specs.Values.{Comparison, Eq, Ne, Quantifier, Some, All}
-use Rattle.rule.specs.Tokens.{Token, Fixed, Compares, Letter, Number, NOT, EXISTS, IN, SOME, ALL, IS, NULL, SELECT, FROM, WHERE, Open, Close, Point}
-use Rattle.rule.specs.Condition.{Compare, IsNull, IsNotNull, Atom, Exists, Listed, WrittenValue, Plain, Named, From, Over, WrittenCondition}
+use Rattle.rule.specs.Tokens.{Fixed, Compares, Letter, Number, NOT, EXISTS, IN, SOME, ALL, IS, NULL, SELECT, FROM, WHERE, Open, Close, Point}
+use Rattle.rule.specs.Condition.{Compare, IsNull, IsNotNull, Atom, Listed, WrittenValue, Plain, Named, From, Over, WrittenCondition}
 use Rattle.rule.specs.Grammar.{Tokens, IsValue, number, column, IsCondition, IsTest, bracketed, exists, is-null, is-not-null, compared, some-of, all-of, is-in, not-in, IsList, list}
-use Rattle.rule.specs.Reader.{expect, readNumber, readLetter, readComparison, readValue, readFrom, Opening, Bracket, OfExists, OfList, closed, Start, Whole, Around, startList, startValue, start, Found, branch}
+use Rattle.rule.specs.Reader.{expect, readNumber, readLetter, readComparison, readValue, readFrom, Opening, OfList, closed, Start, Whole, Around, startList, startValue, start}
 
 module _ {A : Type 0} where
   pub bind-ind : {B : Type 0} (P : Option B → Type 0) (o : Option A) (f : A → Option B) → P none → ((x : A) → o ≡ some x → P (f x)) → P (o >>= f)

@@ -4,7 +4,6 @@ pub mod Every
 pub mod Found
 pub mod Reading
 pub mod Constants
-pub mod Sizes
 pub mod Fits
 pub mod Parts
 pub mod Accepted

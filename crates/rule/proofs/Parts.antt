@@ -1,20 +1,17 @@
 -- Parts lose nothing: the rule can be had back from its parts.
-use mathlib.Core.Path.{_≡_, refl, sym, ap, ap₂, _∙_}
-use mathlib.Core.Bool.{Bool, true, false}
+use mathlib.Core.Path.{_≡_, refl, sym, ap}
 use mathlib.Core.List.{List, [], _∷_, _++_, append-assoc, append-nil}
-use mathlib.Core.Option.{Option, none, some}
-use Prim.Native.Nat.{ℕ, suc, _+_, _*_, _<_, _≤_, max}
+use mathlib.Core.Option.{some}
+use Prim.Native.Nat.{ℕ, suc, _+_, _≤_}
 use native.Mathlib.Omega.{arith}
 use borrow.Author.Tests.{ne-eqb}
-use lib.Dec.{eqb}
-use lib.IntN.{pos}
 use lib.ListN.{length, length-append}
-use Rattle.tables.specs.Values.{Value, Constant, Column, Connective, And, Or, Quantifier, Some, All}
+use Rattle.tables.specs.Values.{Value, Constant, Column, And, Or, Some, All}
 use Rattle.tables.proofs.Values.{comparison-back}
-use Rattle.rule.specs.Condition.{Test, Compare, IsNull, IsNotNull, Condition, Atom, Join, Not, Exists, Listed, Rule, parts, fromsDeep}
-use Rattle.rule.specs.Names.{ValueScoped, TestScoped, Scoped}
+use Rattle.rule.specs.Condition.{Compare, IsNull, IsNotNull, Atom, Join, Not, Exists, Listed, Rule, parts, fromsDeep}
+use Rattle.rule.specs.Names.{ValueScoped, Scoped}
 use Rattle.rule.specs.Claims.{EndsClaim}
-use Rattle.rule.specs.Parts.{TaggedValue, taggedOf, Part, Head, AtomHead, JoinHead, NotHead, ExistsHead, ListedHead, partOf, partsFrom, partsOf, valueOf, headOf, onto, rulesOf, oneRule, ruleOfParts}
+use Rattle.rule.specs.Parts.{taggedOf, Part, partsFrom, partsOf, valueOf, rulesOf, ruleOfParts}
 
 -- a level below 255 is not taken for a constant's tag
 value-back : (n : ℕ) (v : Value) → n ≤ 255 → ValueScoped n v → valueOf (taggedOf v) ≡ v

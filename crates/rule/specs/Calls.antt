@@ -1,6 +1,6 @@
 -- READ and JUDGE (document 01, What the product holds): which refusal, or which answer, for any bytes and any row number.
 use mathlib.Core.Path.{_≡_}
-use mathlib.Core.Bool.{Bool, true, false, not}
+use mathlib.Core.Bool.{Bool, false, not}
 use mathlib.Core.List.{List, [], _∷_, _++_}
 use mathlib.Core.Option.{Option, none, some}
 use Prim.Native.Nat.{ℕ}
@@ -10,15 +10,14 @@ use lib.ListN.{length}
 use Rattle.tables.specs.Lists.{_>>=_, isMissing}
 use Rattle.tables.specs.Tables.{columnsOf, tablesOf}
 use Rattle.tables.specs.Refusals.{Refusal, _if_, firstApplying, Answer, unless, Lent, lend, tablesRefusals, rowRefusal}
-use Rattle.rule.specs.Tokens.{Token, tokensOf, opensFit}
+use Rattle.rule.specs.Tokens.{tokensOf, opensFit}
 use Rattle.rule.specs.Condition.{WrittenCondition, Rule}
-use Rattle.rule.specs.Grammar.{Tokens}
 use Rattle.rule.specs.Reader.{readAll}
 use Rattle.rule.specs.Names.{limitsFit, outermost, ruleIn}
 use Rattle.rule.specs.Parts.{Part, partsOf}
 use Rattle.rule.specs.Meaning.{Truth, Unknown, judged}
 
--- 3: "At most 4,096 bytes."
+-- how long a text may be; refusal 3
 abbrev pub mostBytes : ℕ
 mostBytes = 4096
 
@@ -49,26 +48,26 @@ readingRefusals text file =
     ∷ (8 if fails (λ a. isThere (ruleIn (columnsOf file) outermost a)) (textOf text))
     ∷ [])
 
--- What demand 3 compares: "A rule is accepted with a tables file when no refusal of reading applies to the two."
+-- What demand 3 compares, first sentence: accepted with a tables file
 abbrev pub Accepted : List ℕ → List ℕ → Type 0
 Accepted text file = firstApplying (readingRefusals text file) ≡ none
 
 -- ---- the calls
 
--- what is done with the rule of an accepted text; d is never given
+-- what is made of a rule; d where there is none, which never reaches an answer, since a refusal of reading applies then
 abbrev pub withRule : {A : Type 0} → Option Rule → A → (Rule → A) → A
 withRule none d f = d
 withRule (some r) d f = f r
 
--- READ: "text and tables to a list of parts", in a lent list
+-- READ writes the rule's parts into a lent list, and answers how many
 unfoldable pub readCall : List ℕ → List ℕ → List Part → Lent Part
 readCall text file buffer = lend (readingRefusals text file) (withRule (ruleOf text (columnsOf file)) [] partsOf) buffer
 
--- "Reading goes before judging, and a refusal of either is passed up unchanged."
+-- judging comes after reading, with the refusals of both
 unfoldable pub judgeRefusals : List ℕ → List ℕ → ℕ → List Refusal
 judgeRefusals text file row = readingRefusals text file ++ (rowRefusal file row ∷ [])
 
--- JUDGE: "text, tables, row number to true, false or unknown"
+-- JUDGE answers the rule's value on one row
 unfoldable pub judgeCall : List ℕ → List ℕ → ℕ → Answer Truth
 judgeCall text file row =
     unless (firstApplying (judgeRefusals text file row)) (λ _. withRule (ruleOf text (columnsOf file)) Unknown (judged (tablesOf file) row))

@@ -12,8 +12,7 @@ use Rattle.rule.specs.Parts.{TaggedValue, unused, Part, partWith}
 use Rattle.rule.specs.Meaning.{Truth, False, Unknown, True}
 use Rattle.rule.specs.Calls.{readingRefusals, readCall, judgeCall}
 
--- "Table 1, two columns: (1, 5), (2, blank), (3, 0). Table 2, one column: 1, blank. Table 3, one column, no rows."
--- The bytes of a blank cell's value may be anything: here they are 7 and 9.
+-- the three tables of the proved cases; the value bytes of the two blank cells are 7 and 9, since they may be anything
 abbrev pub caseTables : List ℕ
 caseTables =
     (3 ∷ 2 ∷ 3 ∷ 0 ∷ 1 ∷ 2 ∷ 0 ∷ 1 ∷ 0 ∷ 0 ∷ [])
@@ -37,7 +36,7 @@ U = Unknown
 abbrev F : Truth
 F = False
 
--- ALL2 and ALL3 written out; "Values for rows 0, 1, 2"
+-- the texts with ALL2 and ALL3 written out, and their values on rows 0, 1 and 2
 abbrev pub cases : List Case
 cases =
     ("m.2 > 0" gives (T ∷ U ∷ F ∷ []))
@@ -135,7 +134,7 @@ partsRead c = readCall (bytes (c .text)) caseTables (map (λ _. filler) (c .part
 abbrev pub partsGiven : PartsCase → Lent Part
 partsGiven c = record { result = Given (length (c .parts)); buffer = c .parts ++ (filler ∷ filler ∷ []) }
 
--- ---- texts at the edges, with the tables above: "The lowest applying number is given, and none where no row applies."
+-- ---- texts at the edges of the refusals, with the tables above
 
 pub record Edge : Type 0 where
   pub text : List ℕ

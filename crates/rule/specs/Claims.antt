@@ -1,12 +1,12 @@
 -- What proofs/ shows of these definitions.
 use mathlib.Core.Path.{_≡_}
 use mathlib.Core.Bool.{true}
-use mathlib.Core.List.{List, [], _∷_, _++_, map}
+use mathlib.Core.List.{List, [], _∷_, map}
 use mathlib.Core.Logic.{_↔_}
-use mathlib.Core.Option.{Option, none, some}
+use mathlib.Core.Option.{none, some}
 use Prim.Native.Nat.{ℕ, _+_, _≤_}
 use lib.IntN.{pos}
-use lib.ListN.{length, getD, replicate}
+use lib.ListN.{length, getD}
 use Rattle.tables.specs.Tables.{sizesFit, marksFit, columnsOf}
 use Rattle.tables.specs.Values.{judgedLevels}
 use Rattle.rule.specs.Tokens.{tokensOf, opensFit}
@@ -14,18 +14,18 @@ use Rattle.rule.specs.Condition.{WrittenCondition, Rule, parts, fromsDee
 use Rattle.rule.specs.Grammar.{Tokens, Reads}
 use Rattle.rule.specs.Reader.{readAll}
 use Rattle.rule.specs.Names.{mostParts, mostFroms, outermost, ruleIn, Fits, Scoped}
-use Rattle.rule.specs.Parts.{unused, Part, partWith, partsFrom, partsOf, ruleOfParts}
-use Rattle.rule.specs.Calls.{mostBytes, ruleOf, readingRefusals, Accepted, readCall, judgeRefusals}
+use Rattle.rule.specs.Parts.{Part, partsFrom, partsOf, ruleOfParts}
+use Rattle.rule.specs.Calls.{mostBytes, ruleOf, readingRefusals, Accepted, judgeRefusals}
 use Rattle.rule.specs.Cases.{cases, judgedAt, expectedAt, testCases, partsCases, partsRead, partsGiven, edges, refusalAt}
 
--- the reader finds a reading exactly when the grammar has one, and no tokens have two: "in its single reading"
+-- the reader finds a reading exactly when the grammar has one, and no tokens have two
 pub record ReadingClaim : Type 0 where
   pub finds : (ts : Tokens) (a : WrittenCondition) → Reads ts a → readAll ts ≡ some a
   pub finds-only : (ts : Tokens) (a : WrittenCondition) → readAll ts ≡ some a → Reads ts a
   pub finds-none : (ts : Tokens) → readAll ts ≡ none → (a : WrittenCondition) → ¬ Reads ts a
   pub single : (ts : Tokens) (a b : WrittenCondition) → Reads ts a → Reads ts b → a ≡ b
 
--- "A text is a rule just when the published grammar, names and limits allow it": what they allow, with the tables of a file
+-- demand 2, first half: a text is a rule just when grammar, names and limits allow it. What they allow, with the tables of a file:
 pub record Allowed (text file : List ℕ) : Type 0 where
   pub tables-sized : sizesFit file ≡ true
   pub tables-marked : marksFit file ≡ true
@@ -57,7 +57,7 @@ pub record AcceptedAs (text file : List ℕ) : Type 0 where
 abbrev pub PartsClaim : Type 0
 PartsClaim = (text file : List ℕ) → Accepted text file → AcceptedAs text file
 
--- "end (number of the first part after it and its inner parts)"; inner parts are the parts of inner rules, so this is so for each of them
+-- a part's end is the number of the first part behind its inner parts; inner parts are the parts of inner rules, so this covers each of them
 abbrev pub EndsClaim : Type 0
 EndsClaim = (r : Rule) (k : ℕ) (d : Part) → getD (partsFrom k r) 0 d .end ≡ k + length (partsFrom k r)
 

@@ -26,7 +26,7 @@ pub data WrittenValue : Type 0 where
 pub data From : Type 0 where
   Over : ℤ → ℕ → From
 
--- a condition as it is written, and a rule: its letters are levels, and its tables and columns exist
+-- a condition as it is written; and a rule, in which letters have become levels
 abbrev pub WrittenCondition : Type 0
 WrittenCondition = Condition WrittenValue From
 
@@ -34,7 +34,7 @@ abbrev pub Rule : Type 0
 Rule = Condition Value ℕ
 
 module _ {A F : Type 0} where
-  -- "Parts: each OR, AND, NOT and test, brackets themselves excepted."
+  -- what counts as a part: each connective, each NOT and each test; brackets do not
   unfoldable pub parts : Condition A F → ℕ
   parts (Atom x) = 1
   parts (Join j a b) = 1 + parts a + parts b

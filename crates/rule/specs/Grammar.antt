@@ -10,29 +10,28 @@ use Rattle.rule.specs.Condition.{Compare, IsNull, IsNotNull, Atom, Join,
 abbrev pub Tokens : Type 0
 Tokens = List Token
 
--- "value: a number, or letter . number (a column)."
+-- value: a number, or a column as letter, point, number
 pub data IsValue : Tokens → WrittenValue → Tokens → Type 0 where
   number : {n : ℤ} {rest : Tokens} → IsValue (Number n ∷ rest) (Plain n) rest
   column : {x : ℕ} {n : ℤ} {rest : Tokens} → IsValue (Letter x ∷ Point ∷ Number n ∷ rest) (Named x n) rest
 
 mutual
-  -- "condition: one or more conjunctions joined by OR." "OR and AND group from the left."
+  -- condition: conjunctions with OR between them; what stands left of the last OR is one condition
   pub data IsCondition : Tokens → WrittenCondition → Tokens → Type 0 where
     one-conjunction : {ts rest : Tokens} {a : WrittenCondition} → IsConjunction ts a rest → IsCondition ts a rest
     joined-by-or : {ts us rest : Tokens} {a b : WrittenCondition} → IsCondition ts a (OR ∷ us) → IsConjunction us b rest → IsCondition ts (Join Or a b) rest
 
-  -- "conjunction: one or more factors joined by AND."
+  -- conjunction: factors with AND between them; what stands left of the last AND is one conjunction
   pub data IsConjunction : Tokens → WrittenCondition → Tokens → Type 0 where
     one-factor : {ts rest : Tokens} {a : WrittenCondition} → IsFactor ts a rest → IsConjunction ts a rest
     joined-by-and : {ts us rest : Tokens} {a b : WrittenCondition} → IsConjunction ts a (AND ∷ us) → IsFactor us b rest → IsConjunction ts (Join And a b) rest
 
-  -- "factor: NOT factor, or a test."
+  -- factor: a test, after any number of NOTs
   pub data IsFactor : Tokens → WrittenCondition → Tokens → Type 0 where
     not-factor : {ts rest : Tokens} {a : WrittenCondition} → IsFactor ts a rest → IsFactor (NOT ∷ ts) (Not a) rest
     one-test : {ts rest : Tokens} {a : WrittenCondition} → IsTest ts a rest → IsFactor ts a rest
 
-  -- "test: ( condition ); EXISTS ( FROM number letter WHERE condition ); value IS NULL; value IS NOT NULL; value comparison value;
-  -- value comparison SOME list; value comparison ALL list; value IN list; value NOT IN list." "IN is 8 with =; NOT IN is 9 with <>."
+  -- test: its nine forms, in the paper's order; IN is SOME with =, NOT IN is ALL with <>
   pub data IsTest : Tokens → WrittenCondition → Tokens → Type 0 where
     bracketed : {ts rest : Tokens} {a : WrittenCondition} → IsCondition ts a (Close ∷ rest) → IsTest (Open ∷ ts) a rest
     exists : {n : ℤ} {x : ℕ} {ts rest : Tokens} {w : WrittenCondition} → IsCondition ts w (Close ∷ rest) → IsTest (EXISTS ∷ Open ∷ FROM ∷ Number n ∷ Letter x ∷ WHERE ∷ ts) (Exists (Over n x) w) rest
@@ -44,7 +43,7 @@ mutual
     is-in : {ts us rest : Tokens} {l : WrittenValue} {s : WrittenValue} {f : From} {w : WrittenCondition} → IsValue ts l (IN ∷ us) → IsList us s f w rest → IsTest ts (Listed Some Eq l s f w) rest
     not-in : {ts us rest : Tokens} {l : WrittenValue} {s : WrittenValue} {f : From} {w : WrittenCondition} → IsValue ts l (NOT ∷ IN ∷ us) → IsList us s f w rest → IsTest ts (Listed All Ne l s f w) rest
 
-  -- "list: ( SELECT value FROM number letter WHERE condition )."
+  -- list: a selected value, a table under a letter, and a condition, in brackets.
   -- `IsList ts s f w rest`: the list selects s, its FROM is f and its WHERE is w.
   pub data IsList : Tokens → WrittenValue → From → WrittenCondition → Tokens → Type 0 where
     list : {n : ℤ} {x : ℕ} {ts us rest : Tokens} {v : WrittenValue} {w : WrittenCondition} → IsValue ts v (FROM ∷ Number n ∷ Letter x ∷ WHERE ∷ us) → IsCondition us w (Close ∷ rest) → IsList (Open ∷ SELECT ∷ ts) v (Over n x) w rest

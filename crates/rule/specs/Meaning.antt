@@ -1,11 +1,11 @@
 -- Document 01, Meaning: the value of a rule with each level at a row: true, false or unknown. Nothing here knows of cards.
 use mathlib.Core.Bool.{Bool, true, false, not, cond}
-use mathlib.Core.List.{List, [], _∷_, map}
+use mathlib.Core.List.{List, map}
 use Prim.Native.Nat.{ℕ}
 use Rattle.tables.specs.Lists.{any, keep}
-use Rattle.tables.specs.Tables.{Cell, Blank, Present, Row, Tables, rowsOf}
+use Rattle.tables.specs.Tables.{Cell, Tables, rowsOf}
 use Rattle.tables.specs.Values.{Value, Comparison, holds, Connective, And, Or, Quantifier, Some, All, Env, judgedRow, _▸_, cellOf, byNumbers, isBlank}
-use Rattle.rule.specs.Condition.{Test, Compare, IsNull, IsNotNull, Condition, Atom, Join, Not, Exists, Listed, Rule}
+use Rattle.rule.specs.Condition.{Test, Compare, IsNull, IsNotNull, Atom, Join, Not, Exists, Listed, Rule}
 
 -- ---- the three truth values
 
@@ -31,13 +31,13 @@ isFalse False = true
 isFalse Unknown = false
 isFalse True = false
 
--- "NOT keeps unknown."
+-- the opposite; unknown stays
 abbrev pub not3 : Truth → Truth
 not3 False = True
 not3 Unknown = Unknown
 not3 True = False
 
--- "AND is false if one side is false, else unknown if one is unknown"
+-- false as soon as one side is, then unknown as soon as one side is
 abbrev pub and3 : Truth → Truth → Truth
 and3 False b = False
 and3 Unknown False = False
@@ -45,7 +45,7 @@ and3 Unknown Unknown = Unknown
 and3 Unknown True = Unknown
 and3 True b = b
 
--- "OR is its mirror": true if one side is true, else unknown if one is unknown
+-- the mirror of AND: true as soon as one side is, then unknown as soon as one side is
 abbrev pub or3 : Truth → Truth → Truth
 or3 True b = True
 or3 Unknown False = Unknown
@@ -59,11 +59,11 @@ join3 Or a b = or3 a b
 
 -- ---- tests
 
--- "A comparison with a blank is unknown, blank with blank too."
+-- a comparison with a blank on either side is unknown
 abbrev pub compare3 : Comparison → Cell → Cell → Truth
 compare3 op x y = byNumbers Unknown (λ a b. truth (holds op a b)) x y
 
--- "IS NULL is true or false only"
+-- IS NULL and IS NOT NULL are never unknown
 abbrev pub test3 : Env → Test Value → Truth
 test3 env (Compare op l r) = compare3 op (cellOf env l) (cellOf env r)
 test3 env (IsNull l) = truth (isBlank (cellOf env l))
@@ -72,15 +72,15 @@ test3 env (IsNotNull l) = truth (not (isBlank (cellOf env l)))
 -- ---- subqueries
 
 -- the values that a comparison takes over the retained rows, as one.
--- "SOME: true if a retained row compares true, else unknown if one is unknown, else false; false over none."
--- "ALL: false if one compares false, else unknown if one is unknown, else true; true over none."
+-- SOME looks for a true one, then for an unknown one, and is false without either; ALL looks for a false one, then for an unknown one, and is
+-- true without either. So over no rows SOME is false and ALL is true.
 abbrev pub over3 : Quantifier → List Truth → Truth
 over3 Some vs = cond (any isTrue vs) True (cond (any isUnknown vs) Unknown False)
 over3 All vs = cond (any isFalse vs) False (cond (any isUnknown vs) Unknown True)
 
 -- ---- rules
 
--- "A subquery retains the rows whose WHERE is true. EXISTS: some row retained."
+-- A subquery keeps just the rows on which its WHERE is true; EXISTS asks whether it keeps one.
 -- The value left of a list is read outside it, the selected one at the retained row.
 unfoldable pub meaning : Tables → Env → Rule → Truth
 meaning ts env (Atom x) = test3 env x

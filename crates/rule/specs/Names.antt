@@ -9,9 +9,9 @@ use lib.ListN.{length, getD}
 use Rattle.tables.specs.Lists.{numbered, only, _>>=_}
 use Rattle.tables.specs.Bytes.{between, inRange}
 use Rattle.tables.specs.Values.{Value, Constant, Column}
-use Rattle.rule.specs.Condition.{Test, Compare, IsNull, IsNotNull, Condition, Atom, Join, Not, Exists, Listed, WrittenValue, Plain, Named, From, Over, WrittenCondition, Rule, parts, fromsDeep}
+use Rattle.rule.specs.Condition.{Test, Compare, IsNull, IsNotNull, Atom, Join, Not, Exists, Listed, WrittenValue, Plain, Named, Over, WrittenCondition, Rule, parts, fromsDeep}
 
--- ---- 7: "At most 64 parts, at most three FROMs around one another."
+-- ---- refusal 7: the limits
 
 abbrev pub mostParts : ℕ
 mostParts = 64
@@ -22,7 +22,7 @@ mostFroms = 3
 unfoldable pub limitsFit : WrittenCondition → Bool
 limitsFit a = leb (parts a) mostParts && leb (fromsDeep a) mostFroms
 
--- ---- 8: "letter unbound, table or column absent"
+-- ---- refusal 8: letters, tables and columns
 
 -- a letter, the level that it takes and the table that it ranges over
 pub record Binding : Type 0 where
@@ -34,20 +34,20 @@ pub record Binding : Type 0 where
 abbrev pub Scope : Type 0
 Scope = List Binding
 
--- "Letter m is the judged row of table 1, level 0."
+-- around a whole rule, m alone is bound: the judged row, level 0
 abbrev pub outermost : Scope
 outermost = record { letter = 109; level = 0; table = 1 } ∷ []
 
--- "Each FROM binds its letter for its own WHERE and SELECT, one level deeper."
+-- a FROM binds its letter one level deeper, for its WHERE and its SELECT
 abbrev pub bound : Scope → ℕ → ℕ → Scope
 bound scope x t = record { letter = x; level = length scope; table = t } ∷ scope
 
--- "a letter means its nearest binding"
+-- what a letter means: the nearest binding of it
 unfoldable pub nearest : Scope → ℕ → Option Binding
 nearest [] x = none
 nearest (b ∷ scope) x = elim (eqb (b .letter) x) [ true ↦ some b | false ↦ nearest scope x ]
 
--- "Tables and columns are numbered from 1": the number n, if it is one of 1 to most
+-- the table or column with a written number, if there is one: they are numbered from 1 to most
 abbrev pub existing : ℕ → ℤ → Option ℕ
 existing most (pos n) = only (between 1 most n) n
 existing most (negsuc n) = none
@@ -63,7 +63,7 @@ module _ (columns : List ℕ) where
   testIn scope (IsNull l) = valueIn scope l >>= (λ x. some (IsNull x))
   testIn scope (IsNotNull l) = valueIn scope l >>= (λ x. some (IsNotNull x))
 
-  -- the rule that a written condition stands for; "The value left of a list belongs outside it."
+  -- the rule that a written condition stands for; the value left of a list is looked up outside the list's FROM
   unfoldable pub ruleIn : Scope → WrittenCondition → Option Rule
   ruleIn scope (Atom x) = testIn scope x >>= (λ y. some (Atom y))
   ruleIn scope (Join j a b) = ruleIn scope a >>= (λ x. ruleIn scope b >>= (λ y. some (Join j x y)))

@@ -7,9 +7,9 @@ use lib.Dec.{eqb}
 use lib.IntN.{ℤ, pos, negsuc}
 use Rattle.tables.specs.Lists.{numbered}
 use Rattle.tables.specs.Values.{constantTag, Value, Constant, Column, Comparison, comparisonNumber, comparisonOf, Connective, And, Or, Quantifier, Some, All}
-use Rattle.rule.specs.Condition.{Test, Compare, IsNull, IsNotNull, Condition, Atom, Join, Not, Exists, Listed, Rule, parts}
+use Rattle.rule.specs.Condition.{Test, Compare, IsNull, IsNotNull, Atom, Join, Not, Exists, Listed, Rule, parts}
 
--- a value as a part has it: "a tag (255 constant, else level 0 to 3) and a number"
+-- a value as a part has it: a tag, which tells a constant from a level, and a number
 pub record TaggedValue : Type 0 where
   pub tag : ℕ
   pub number : ℤ
@@ -18,11 +18,11 @@ abbrev pub taggedOf : Value → TaggedValue
 taggedOf (Constant k) = record { tag = constantTag; number = k }
 taggedOf (Column l c) = record { tag = l; number = pos c }
 
--- "unused fields are 0"
+-- a value that a kind does not use
 abbrev pub unused : TaggedValue
 unused = record { tag = 0; number = pos 0 }
 
--- "Fields: kind, comparison, table, end, left and right value."
+-- a part's record
 pub record Part : Type 0 where
   pub kind : ℕ
   pub comparison : ℕ
@@ -40,7 +40,7 @@ pub data Head : Type 0 where
   ExistsHead : ℕ → Head
   ListedHead : Quantifier → Comparison → Value → Value → ℕ → Head
 
--- "kind (1 and, 2 or, 3 not, 4 comparison, 5 IS NULL, 6 IS NOT NULL, 7 exists, 8 some, 9 all)"
+-- the numbers of the nine kinds
 abbrev pub kindOf : Head → ℕ
 kindOf (JoinHead And) = 1
 kindOf (JoinHead Or) = 2
@@ -56,7 +56,7 @@ kindOf (ListedHead All op l s t) = 9
 abbrev pub partWith : ℕ → ℕ → ℕ → ℕ → TaggedValue → TaggedValue → Part
 partWith k e op t l r = record { kind = k; comparison = op; table = t; end = e; left = l; right = r }
 
--- "For 8 and 9 the right value is the selected one."
+-- the record of a part, by what it says: fields that it does not use are 0, and a list's right value is the selected one
 abbrev pub partOf : ℕ → Head → Part
 partOf e (JoinHead j) = partWith (kindOf (JoinHead j)) e 0 0 unused unused
 partOf e NotHead = partWith (kindOf NotHead) e 0 0 unused unused
@@ -67,7 +67,7 @@ partOf e (ExistsHead t) = partWith (kindOf (ExistsHead t)) e 0 t unused unused
 partOf e (ListedHead q op l s t) = partWith (kindOf (ListedHead q op l s t)) e (comparisonNumber op) t (taggedOf l) (taggedOf s)
 
 -- ---- the parts of a rule, the first of which has the number k
--- "a part before its inner parts, left first"; "end (number of the first part after it and its inner parts)"
+-- a part stands before its inner parts, and the left ones before the right ones; its end is the number of the first part behind them
 unfoldable pub partsFrom : ℕ → Rule → List Part
 partsFrom k (Atom x) = partOf (k + 1) (AtomHead x) ∷ []
 partsFrom k (Join j a b) = partOf (k + (1 + parts a + parts b)) (JoinHead j) ∷ (partsFrom (k + 1) a ++ partsFrom (k + 1 + parts a) b)
@@ -75,7 +75,7 @@ partsFrom k (Not a) = partOf (k + (1 + parts a)) NotHead ∷ partsFrom (k + 1) a
 partsFrom k (Exists t w) = partOf (k + (1 + parts w)) (ExistsHead t) ∷ partsFrom (k + 1) w
 partsFrom k (Listed q op l s t w) = partOf (k + (1 + parts w)) (ListedHead q op l s t) ∷ partsFrom (k + 1) w
 
--- "Parts are numbered from 0"
+-- the first part of a whole rule is number 0
 abbrev pub partsOf : Rule → List Part
 partsOf r = partsFrom 0 r
 

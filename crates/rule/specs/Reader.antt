@@ -1,25 +1,17 @@
 -- The grammar as a function on tokens: the reading that it has, or none. proofs/Reading.antt shows that it finds exactly the readings
 -- of Grammar.antt, and that no tokens have two.
-use mathlib.Core.Bool.{Bool, true, false}
-use mathlib.Core.List.{List, [], _∷_}
+use mathlib.Core.List.{[], _∷_}
 use mathlib.Core.Option.{Option, none, some}
 use Prim.Native.Nat.{ℕ, zero, suc, _+_, _*_}
-use lib.Dec.{eqb}
 use lib.IntN.{ℤ}
 use lib.ListN.{length}
 use Rattle.tables.specs.Lists.{only, _>>=_, _<|>_}
 use Rattle.tables.specs.Values.{Comparison, Eq, Ne, And, Or, Quantifier, Some, All}
-use Rattle.rule.specs.Tokens.{Token, Fixed, Compares, Letter, Number, AND, OR, NOT, EXISTS, IN, SOME, ALL, IS, NULL, SELECT, FROM, WHERE, Open, Close, Point}
+use Rattle.rule.specs.Tokens.{Token, isFixed, Fixed, Compares, Letter, Number, AND, OR, NOT, EXISTS, IN, SOME, ALL, IS, NULL, SELECT, FROM, WHERE, Open, Close, Point}
 use Rattle.rule.specs.Condition.{Compare, IsNull, IsNotNull, Atom, Join, Not, Exists, Listed, WrittenValue, Plain, Named, From, Over, WrittenCondition}
 use Rattle.rule.specs.Grammar.{Tokens}
 
 -- ---- one token
-
-abbrev pub isFixed : Token → ℕ → Bool
-isFixed (Fixed n) k = eqb n k
-isFixed (Compares op) k = false
-isFixed (Letter x) k = false
-isFixed (Number n) k = false
 
 -- the tokens after a fixed one
 unfoldable pub expect : Token → Tokens → Option Tokens
@@ -126,7 +118,7 @@ started (some (Around o us)) around = around o us
 abbrev pub closing : Opening → WrittenCondition × Tokens → Found
 closing o w = expect Close (w .1) >>= (λ rest. some (closed o (w .0), rest))
 
--- the longest reading at the front of some tokens; depth bounds how deep the calls go
+-- a reading at the front of some tokens, taken as far as OR and AND go on; depth bounds how deep the calls go
 unfoldable pub read : ℕ → Goal → Tokens → Found
 read zero goal ts = none
 read (suc depth) condition ts = read depth conjunction ts >>= (λ a. read depth (more-or (a .0)) (a .1))

@@ -3,13 +3,13 @@ use mathlib.Core.Bool.{Bool, true, false, _&&_, _||_}
 use mathlib.Core.List.{List, [], _∷_}
 use mathlib.Core.Option.{Option, none, some, Option·map}
 use Prim.Native.Nat.{ℕ, zero, suc, _+_, _*_, _-_, pred}
-use Prim.Native.Char.{Char, code}
+use Prim.Native.Char.{code}
 use Prim.Native.String.{String, [] as []ˢ, _∷_ as _∷ˢ_}
-use lib.Dec.{eqb, leb, ltb}
+use lib.Dec.{eqb}
 use lib.IntN.{ℤ, pos, negsuc, negℤ, _+ℤ_}
 use lib.ListN.{length}
 use lib.Signed.{ltZ}
-use Rattle.tables.specs.Lists.{same, only, _>>=_, _<|>_}
+use Rattle.tables.specs.Lists.{same, only}
 use Rattle.tables.specs.Bytes.{between, inRange}
 use Rattle.tables.specs.Values.{Comparison, Eq, Ne, Lt, Le, Gt, Ge}
 
@@ -72,6 +72,13 @@ Close = Fixed 14
 abbrev pub Point : Token
 Point = Fixed 15
 
+-- the token t is the one with the number k
+abbrev pub isFixed : Token → ℕ → Bool
+isFixed (Fixed n) k = eqb n k
+isFixed (Compares op) k = false
+isFixed (Letter x) k = false
+isFixed (Number n) k = false
+
 -- a token that is always written the same
 pub record Spelling : Type 0 where
   pub text : List ℕ
@@ -81,13 +88,13 @@ infix 10 _is_
 abbrev _is_ : String → Token → Spelling
 s is t = record { text = bytes s; token = t }
 
--- "a run of capitals, which must be AND OR NOT EXISTS IN SOME ALL IS NULL SELECT FROM WHERE"
+-- the words: what a run of capitals may be
 unfoldable pub words : List Spelling
 words =
     ("AND" is AND) ∷ ("OR" is OR) ∷ ("NOT" is NOT) ∷ ("EXISTS" is EXISTS) ∷ ("IN" is IN) ∷ ("SOME" is SOME) ∷ ("ALL" is ALL)
     ∷ ("IS" is IS) ∷ ("NULL" is NULL) ∷ ("SELECT" is SELECT) ∷ ("FROM" is FROM) ∷ ("WHERE" is WHERE) ∷ []
 
--- "( ) . = <> < <= > >=": where one sign begins another, the longer stands first
+-- the signs; where one begins another, the longer stands first
 unfoldable pub signs : List Spelling
 signs =
     ("<>" is Compares Ne) ∷ ("<=" is Compares Le) ∷ (">=" is Compares Ge) ∷ ("(" is Open) ∷ (")" is Close) ∷ ("." is Point)
@@ -95,7 +102,7 @@ signs =
 
 -- ---- the bytes of a token
 
--- "any spaces (byte 32) and line feeds (byte 10) before, between and after them"
+-- what may stand around tokens: spaces and line feeds
 abbrev pub isGap : ℕ → Bool
 isGap b = eqb b 32 || eqb b 10
 
@@ -108,7 +115,7 @@ isSmall = between 97 122
 abbrev pub isDigit : ℕ → Bool
 isDigit = between 48 57
 
--- the longest run of bytes of one class that a text begins with: "longest first", "the whole run of digits"
+-- the longest run of bytes of one class that a text begins with: a word and a number take all of it
 unfoldable pub takeWhile : (ℕ → Bool) → List ℕ → List ℕ
 takeWhile p [] = []
 takeWhile p (b ∷ bs) = elim (p b) [ true ↦ b ∷ takeWhile p bs | false ↦ [] ]
@@ -132,7 +139,7 @@ unfoldable pub signIn : List Spelling → List ℕ → Option Lexed
 signIn [] text = none
 signIn (s ∷ ss) text = elim (begins (s .text) text) [ true ↦ some (s .token, length (s .text)) | false ↦ signIn ss text ]
 
--- "at most 10" digits
+-- how many digits a number may have
 abbrev pub mostDigits : ℕ
 mostDigits = 10
 
@@ -170,7 +177,7 @@ abbrev pub andThen : Option Lexed → (ℕ → Option (List Token)) → Option (
 andThen none behind = none
 andThen (some x) behind = Option·map (λ ts. x .0 ∷ ts) (behind (pred (x .1)))
 
--- the tokens of a text, of whose first bytes n belong to a token found already; none: "no such token"
+-- the tokens of a text, of whose first bytes n belong to a token found already; none: refusal 4
 unfoldable pub tokensAfter : ℕ → List ℕ → Option (List Token)
 tokensAfter n [] = some []
 tokensAfter (suc n) (b ∷ bs) = tokensAfter n bs
@@ -179,14 +186,14 @@ tokensAfter zero (b ∷ bs) = elim (isGap b) [ true ↦ tokensAfter 0 bs | false
 unfoldable pub tokensOf : List ℕ → Option (List Token)
 tokensOf text = tokensAfter 0 text
 
--- ---- 5: "over 32 more ( than ) up to some token"
+-- ---- refusal 5: more than 32 brackets open after some token
 
 abbrev pub mostOpen : ℤ
 mostOpen = pos 32
 
 -- what a token adds to the count of ( less that of )
 abbrev pub bracketStep : Token → ℤ
-bracketStep (Fixed k) = elim (eqb k 13) [ true ↦ pos 1 | false ↦ elim (eqb k 14) [ true ↦ negsuc 0 | false ↦ pos 0 ] ]
+bracketStep (Fixed k) = elim (isFixed Open k) [ true ↦ pos 1 | false ↦ elim (isFixed Close k) [ true ↦ negsuc 0 | false ↦ pos 0 ] ]
 bracketStep (Compares c) = pos 0
 bracketStep (Letter b) = pos 0
 bracketStep (Number n) = pos 0

@@ -1,14 +1,13 @@
 -- Laws of the lowest refusal, and of calls that lend a buffer.
-use mathlib.Core.Path.{_≡_, refl, ap, _∙_}
+use mathlib.Core.Path.{_≡_, refl, _∙_}
 use mathlib.Core.Bool.{Bool, true, false}
 use mathlib.Core.List.{List, [], _∷_, _++_}
-use mathlib.Core.Option.{Option, none, some}
+use mathlib.Core.Option.{Option, none}
 use Prim.Native.Nat.{ℕ, _<_, _≤_}
 use native.Mathlib.Omega.{arith}
 use borrow.Author.Tests.{lt-ltb, le-ltb}
-use lib.Dec.{ltb}
 use lib.ListN.{length}
-use Rattle.tables.specs.Refusals.{Refusal, _if_, firstApplying, Answer, Given, unless, Lent, refusedWith, filledWith, shortRefusal, lendUnless, lend}
+use Rattle.tables.specs.Refusals.{Refusal, _if_, firstApplying, Given, unless, refusedWith, filledWith, shortRefusal, lend}
 
 pub first-nil : firstApplying [] ≡ none
 unfolding firstApplying

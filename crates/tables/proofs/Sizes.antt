@@ -1,15 +1,14 @@
 -- What the sizes of a file that is not refused say of its columns; and that two files with the same columns have one list of columns.
 use mathlib.Core.Path.{_≡_, refl, ap, ap₂, _∙_}
-use mathlib.Core.Bool.{Bool, true, false, _&&_}
+use mathlib.Core.Bool.{_&&_}
 use mathlib.Core.List.{List, [], _∷_, map}
-use Prim.Native.Nat.{ℕ, zero, suc, _+_, _*_, _≤_}
-use native.Mathlib.Omega.{arith}
+use Prim.Native.Nat.{ℕ, zero, suc}
 use lib.Dec.{T, eqb, leb, eqb→eq, eqb-refl}
 use lib.Ieee.Fits.{and-l, and-r, and-i}
 use lib.ListN.{length, length-map}
 use Rattle.tables.specs.Lists.{tabulate, all, same}
 use Rattle.tables.specs.Bytes.{between}
-use Rattle.tables.specs.Tables.{mostTables, mostColumns, mostRows, mostCells, Size, tableCount, sizeAt, sizes, columnsOf, cellCount, sizeFits, sizesFit, sameColumns}
+use Rattle.tables.specs.Tables.{mostTables, mostColumns, mostRows, Size, tableCount, sizeAt, sizes, columnsOf, sizeFits, sizesFit, sameColumns}
 
 pub tabulate-length : {A : Type 0} (n : ℕ) (f : ℕ → A) → length (tabulate n f) ≡ n
 tabulate-length zero f = refl

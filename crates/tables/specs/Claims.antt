@@ -18,7 +18,7 @@ SizesClaim = map (λ e. sizesFit (e .sized)) sizeEdges ≡ map (λ e. e .fits) s
 abbrev pub EdgesClaim : Type 0
 EdgesClaim = map refusalAt edges ≡ map (λ e. e .refusal) edges
 
--- the rows that a test picks: "exactly the rows where" a test holds, "each once, rising"
+-- the rows that a test picks: exactly those of which it holds, each once, rising
 pub record RowsClaim : Type 0 where
   pub exactly : (file : List ℕ) (p : ℕ → Bool) (row : ℕ) → List·Memᴰ row (rowsWhere file p) ↔ ((row < rowCount file 1) × (p row ≡ true))
   pub rising : (file : List ℕ) (p : ℕ → Bool) → IsChain _<_ (rowsWhere file p)

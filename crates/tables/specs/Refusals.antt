@@ -1,4 +1,4 @@
--- Document 01, 'Gate says why not': "The lowest applying number is given, and none where no row applies."
+-- Document 01, 'Gate says why not', the sentences under the table: which of the refusals that apply is given.
 -- A call lists its refusals in the order in which they win; a later refusal is put into that list at its place.
 use mathlib.Core.Bool.{Bool, true, false, not}
 use mathlib.Core.List.{List, [], _∷_, _++_}
@@ -22,7 +22,7 @@ unfoldable pub firstApplying : List Refusal → Option ℕ
 firstApplying [] = none
 firstApplying (r ∷ rs) = elim (r .applies) [ true ↦ some (r .number) | false ↦ firstApplying rs ]
 
--- what a call answers: "A refusal is its number and nothing else"
+-- what a call answers: a refusal's number and nothing else, or the answer
 pub data Answer (A : Type 0) : Type 0 where
   Refused : ℕ → Answer A
   Given : A → Answer A
@@ -40,15 +40,15 @@ pub record Lent (A : Type 0) : Type 0 where
   pub buffer : List A
 
 module _ {A : Type 0} where
-  -- a refusal: "each lent buffer then holds what it held before"
+  -- a refusal leaves the buffer as it was
   abbrev pub refusedWith : ℕ → List A → Lent A
   refusedWith n buffer = record { result = Refused n; buffer = buffer }
 
-  -- an answer, from the buffer's start: "After a success the buffer past the answer is untouched."
+  -- an answer stands at the buffer's start, and what lies past it is as it was
   abbrev pub filledWith : List A → List A → Lent A
   filledWith answer buffer = record { result = Given (length answer); buffer = answer ++ drop (length answer) buffer }
 
-  -- 12: "output buffer shorter than the whole answer"
+  -- refusal 12: the buffer has fewer elements than the whole answer
   abbrev pub shortRefusal : List A → List A → Refusal
   shortRefusal answer buffer = 12 if ltb (length buffer) (length answer)
 
@@ -66,6 +66,6 @@ module _ {A : Type 0} where
 unfoldable pub tablesRefusals : List ℕ → List Refusal
 tablesRefusals file = (1 if not (sizesFit file)) ∷ (2 if not (marksFit file)) ∷ []
 
--- 11: "row not in table 1"
+-- refusal 11: table 1 has no such row
 unfoldable pub rowRefusal : List ℕ → ℕ → Refusal
 rowRefusal file row = 11 if not (ltb row (rowCount file 1))

@@ -1,9 +1,8 @@
 -- Document 01, Tables: the bytes of a tables file, and what they say.
-use mathlib.Core.Path.{_≡_}
-use mathlib.Core.Bool.{Bool, not, _&&_}
-use mathlib.Core.List.{List, [], _∷_, map}
+use mathlib.Core.Bool.{Bool, _&&_}
+use mathlib.Core.List.{List, [], map}
 use Prim.Native.Nat.{ℕ, zero, suc, _+_, _*_}
-use lib.Dec.{leb, ltb, eqb}
+use lib.Dec.{leb, eqb}
 use lib.IntN.{ℤ}
 use lib.ListN.{length, take}
 use Rattle.tables.specs.Lists.{tabulate, numbered, all, keep, total, same}
@@ -20,11 +19,11 @@ mostColumns = 16
 abbrev pub mostRows : ℕ
 mostRows = 1000
 
--- "At most 8,192 cells over all."
+-- over all tables
 abbrev pub mostCells : ℕ
 mostCells = 8192
 
--- "0 present, 1 blank": the highest mark
+-- the highest mark; 0 is present, 1 is blank
 abbrev pub highestMark : ℕ
 highestMark = 1
 
@@ -34,11 +33,11 @@ pub record Size : Type 0 where
   pub columns : ℕ
   pub rows : ℕ
 
--- "Byte 0: number of tables T."
+-- T, the number of tables, is byte 0
 abbrev pub tableCount : List ℕ → ℕ
 tableCount bs = byteAt bs 0
 
--- "Per table: columns (1 byte), rows (2 bytes)." Here j counts the tables from 0.
+-- a table's sizes: a byte for its columns, two for its rows; here j counts the tables from 0
 abbrev pub sizeAt : List ℕ → ℕ → Size
 sizeAt bs j = record { columns = byteAt bs (1 + 3 * j); rows = word16 bs (2 + 3 * j) }
 
@@ -49,7 +48,7 @@ sizes bs = tabulate (tableCount bs) (sizeAt bs)
 unfoldable pub columnsOf : List ℕ → List ℕ
 columnsOf bs = map (λ s. s .columns) (sizes bs)
 
--- "Tables .. are numbered from 1": the rows of table t
+-- the rows of table t, where tables are numbered from 1
 unfoldable pub rowCount : List ℕ → ℕ → ℕ
 rowCount bs t = numbered (map (λ s. s .rows) (sizes bs)) t 0
 
@@ -64,7 +63,7 @@ cellsBefore bs j = total (map cellsIn (take j (sizes bs)))
 unfoldable pub cellCount : List ℕ → ℕ
 cellCount bs = total (map cellsIn (sizes bs))
 
--- "Sizes first, then two parallel arrays": where the values start, and the marks
+-- where the array of values starts, behind the sizes, and the array of marks behind it
 abbrev pub valuesAt : List ℕ → ℕ
 valuesAt bs = 1 + 3 * tableCount bs
 
@@ -83,7 +82,7 @@ markOf bs k = byteAt bs (marksAt bs + k)
 abbrev pub sizeFits : Size → Bool
 sizeFits s = between 1 mostColumns (s .columns) && leb (s .rows) mostRows
 
--- refusal 1 does not apply: T from 1 to 8, each table's sizes, at most 8,192 cells, and "the length fits exactly"
+-- refusal 1 does not apply: the number of tables, each table's sizes and all cells are within the limits, and the file ends with the last mark
 unfoldable pub sizesFit : List ℕ → Bool
 sizesFit bs =
     between 1 mostTables (tableCount bs)
@@ -102,7 +101,7 @@ pub data Cell : Type 0 where
   Blank : Cell
   Present : ℤ → Cell
 
--- "0 present, 1 blank"; the value bits of a blank cell are dropped here, so that they affect no answer
+-- a cell from its mark and its bits; the bits of a blank cell are dropped here, so that they affect no answer
 abbrev pub cellFrom : ℕ → ℕ → Cell
 cellFrom zero raw = Present (signed raw)
 cellFrom (suc mark) raw = Blank
@@ -119,7 +118,7 @@ Table = List Row
 abbrev pub Tables : Type 0
 Tables = List Table
 
--- the cells from number k on, as rows of c cells each: "by table, row, column"
+-- the cells from number k on, row by row
 unfoldable pub tableFrom : List ℕ → ℕ → Size → Table
 tableFrom bs k s = tabulate (s .rows) (λ r. tabulate (s .columns) (λ c. cellAt bs (k + r * s .columns + c)))
 
@@ -137,7 +136,7 @@ cellIn row c = numbered row c Blank
 
 -- ---- later tables
 
--- What demand 3 compares: "the same T and the same columns per table" (T is the length of the list of columns)
+-- What demand 3 compares: as many tables, with the same columns each (T is the length of the list of columns)
 unfoldable pub sameColumns : List ℕ → List ℕ → Bool
 sameColumns bs cs = same (columnsOf bs) (columnsOf cs)
 

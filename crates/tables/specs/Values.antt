@@ -13,11 +13,11 @@ pub data Value : Type 0 where
   Constant : ℤ → Value
   Column : ℕ → ℕ → Value
 
--- "a tag (255 constant, else level 0 to 3)"
+-- a value's tag in a record: this for a constant, else the level
 abbrev pub constantTag : ℕ
 constantTag = 255
 
--- comparison "(1 =, 2 <>, 3 <, 4 <=, 5 >, 6 >=)"
+-- the six comparisons, and their numbers in a record
 pub data Comparison : Type 0 where
   Eq Ne Lt Le Gt Ge : Comparison
 
@@ -75,12 +75,12 @@ infixl 60 _▸_
 abbrev pub _▸_ : Env → Row → Env
 env ▸ row = env ++ (row ∷ [])
 
--- "a number is never blank"
+-- a constant is a cell that is never blank
 abbrev pub cellOf : Env → Value → Cell
 cellOf env (Constant k) = Present k
 cellOf env (Column level c) = cellIn (getD env level []) c
 
--- a comparison of two cells: by their numbers, unless one of them is blank, "blank with blank too"
+-- a comparison of two cells: by their numbers, unless one of them is blank, or both
 abbrev pub byNumbers : {A : Type 0} → A → (ℤ → ℤ → A) → Cell → Cell → A
 byNumbers blank compare Blank y = blank
 byNumbers blank compare (Present x) Blank = blank

@@ -1,37 +1,35 @@
 -- Demand 3, over the definitions of the calls.
-use mathlib.Core.Path.{_≡_, refl, sym, ap, ap₂, subst, fun-ext, _∙_}
-use mathlib.Core.Bool.{Bool, true, false, not, _&&_}
+use mathlib.Core.Path.{_≡_, refl, ap, ap₂, fun-ext, _∙_}
+use mathlib.Core.Bool.{Bool, true, false, not}
 use mathlib.Core.List.{List, [], _∷_, _++_}
-use mathlib.Core.Option.{Option, none, some}
-use Prim.Native.Nat.{ℕ, _+_, _-_, _*_, _<_, _≤_}
+use mathlib.Core.Option.{Option, none}
+use Prim.Native.Nat.{ℕ, _≤_}
 use native.Mathlib.Omega.{arith}
-use borrow.Author.Tests.{lt-ltb, le-leb, eq-eqb}
-use lib.Dec.{T, ltb, leb, eqb, le→leb}
+use borrow.Author.Tests.{lt-ltb}
+use lib.Dec.{T, ltb, leb, le→leb}
 use lib.Ieee.Fits.{and-i}
 use lib.ListN.{length, drop}
-use Rattle.tables.specs.Lists.{same}
 use Rattle.tables.specs.Bytes.{between}
-use Rattle.tables.specs.Tables.{tableCount, columnsOf, rowCount, tablesOf, sizesFit, sameColumns, rowsWhere}
+use Rattle.tables.specs.Tables.{columnsOf, rowCount, tablesOf, rowsWhere}
 use Rattle.tables.specs.Values.{judgedLevels, judgedRow}
-use Rattle.tables.specs.Refusals.{_if_, Given, firstApplying, unless, lend, refusedWith, filledWith, tablesRefusals, rowRefusal}
+use Rattle.tables.specs.Refusals.{Given, firstApplying, lend, tablesRefusals, rowRefusal}
 use Rattle.tables.proofs.Refusals.{first-nil, first-none, first-append, lend-short, lend-long, unless-none}
 use Rattle.tables.proofs.Sizes.{columns-count, columns-fit, same-refl, same-columns-is}
-use Rattle.card.specs.Card.{AsNo, Card, LeafEntry, PairEntry, RowEntry, answer, entries, cardFits}
-use Rattle.card.specs.Layout.{cardBytes, cardLength, tablesIn, columnsIn, cardFrom}
+use Rattle.card.specs.Card.{AsNo, Card, LeafEntry, PairEntry, RowEntry, entries}
+use Rattle.card.specs.Layout.{cardLength, columnsIn}
 use Rattle.card.specs.Sound.{mostEntries, sound, Sound}
 use Rattle.card.specs.Calls.{cardSays, saysYes, checkRefusals, fitsTables, gateRefusals, runRefusals, runCall, listCall}
 use Rattle.card.proofs.Claims.{sound-claim, length-claim}
-use Rattle.card.proofs.Walk.{tables-back}
-use Rattle.rule.specs.Condition.{Atom, Join, Not, Exists, Listed, Rule, parts, nots, lists, fromsDeep}
+use Rattle.rule.specs.Condition.{Atom, Join, Not, Exists, Listed, Rule, parts, lists}
 use Rattle.rule.specs.Names.{mostParts}
-use Rattle.rule.specs.Meaning.{isTrue, meaning, judged}
-use Rattle.rule.specs.Calls.{ruleOf, readingRefusals, Accepted, withRule}
+use Rattle.rule.specs.Meaning.{judged}
+use Rattle.rule.specs.Calls.{readingRefusals, Accepted, withRule}
 use Rattle.rule.specs.Claims.{AcceptedAs}
 use Rattle.rule.proofs.Accepted.{accepted-allowed, parts-claim}
-use Rattle.translation.specs.Translation.{ruleCard, entrySum}
+use Rattle.translation.specs.Translation.{ruleCard}
 use Rattle.translation.specs.Calls.{ruleBytes, cardCall}
 use Rattle.translation.specs.Claims.{Demand3Claim}
-use Rattle.translation.specs.Demand3.{Later, trueAt, publishedLength, CardClaim, RunClaim, trueRows, ListClaim, Demand3For}
+use Rattle.translation.specs.Demand3.{Later, trueAt, publishedLength, CardClaim, RunClaim, trueRows, ListClaim}
 use Rattle.translation.proofs.Sums.{sum-claim, card-sum}
 use Rattle.translation.proofs.Says.{translation-claim}
 use Rattle.translation.proofs.Fits.{card-fits}

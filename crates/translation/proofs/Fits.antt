@@ -1,16 +1,15 @@
 -- The card of a rule that fits its columns fits them too.
 use mathlib.Core.Path.{_≡_, refl, ap₂}
-use mathlib.Core.Bool.{Bool, _&&_}
+use mathlib.Core.Bool.{_&&_}
 use mathlib.Core.List.{List, [], _∷_, _++_}
-use Prim.Native.Nat.{ℕ, _+_, _<_, _≤_, max}
+use Prim.Native.Nat.{ℕ, _+_, _<_, _≤_}
 use native.Mathlib.Omega.{arith}
-use lib.Dec.{T, ltb, leb, lt→ltb, le→leb}
-use lib.Ieee.Fits.{and-l, and-r, and-i}
-use lib.ListN.{length, getD, length-append, List·getD-append}
-use Rattle.tables.specs.Lists.{numbered}
-use Rattle.tables.specs.Bytes.{between, inRange}
+use lib.Dec.{T, ltb, lt→ltb, le→leb}
+use lib.Ieee.Fits.{and-i}
+use lib.ListN.{length, length-append, List·getD-append}
+use Rattle.tables.specs.Bytes.{between}
 use Rattle.tables.specs.Values.{Value, Constant, Column, Some, All}
-use Rattle.card.specs.Card.{mostRowEntries, Interpretation, AsNo, Leaf, CompareLeaf, BlankLeaf, NotBlankLeaf, Card, LeafEntry, PairEntry, RowEntry, valueFits, leafFits, rowsFit, cardFits}
+use Rattle.card.specs.Card.{mostRowEntries, Interpretation, AsNo, CompareLeaf, BlankLeaf, NotBlankLeaf, Card, LeafEntry, PairEntry, RowEntry, valueFits, rowsFit, cardFits}
 use Rattle.rule.specs.Condition.{Compare, IsNull, IsNotNull, Atom, Join, Not, Exists, Listed, Rule, fromsDeep}
 use Rattle.rule.specs.Names.{ValueFits, TableFits, Fits}
 use Rattle.translation.specs.Translation.{other, negated, cardOf}

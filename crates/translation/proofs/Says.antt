@@ -1,21 +1,20 @@
 -- The translation theorem: the card of a rule says what the rule means, in both interpretations, for every rule, tables and rows.
-use mathlib.Core.Path.{_≡_, refl, sym, ap, _∙_}
-use mathlib.Core.Bool.{Bool, true, false, not, _&&_, _||_, Bool·not-not}
-use mathlib.Core.List.{List, [], _∷_, _++_, map}
-use Prim.Native.Nat.{ℕ, suc, _+_, _<_}
+use mathlib.Core.Path.{_≡_, refl, sym, ap}
+use mathlib.Core.Bool.{not, Bool·not-not}
+use mathlib.Core.List.{[], _∷_}
+use Prim.Native.Nat.{ℕ, suc}
 use native.Mathlib.Omega.{arith}
 use lib.Arith.{le→nltb}
-use lib.Dec.{T, leb, ltb, leb→le, nltb→le, le→leb}
+use lib.Dec.{leb, ltb, leb→le, nltb→le, le→leb}
 use lib.IntN.{ℤ, pos, negsuc}
-use lib.ListN.{length, getD, length-append, List·getD-append}
+use lib.ListN.{length, length-append, List·getD-append}
 use lib.Signed.{ltZ, leZ}
-use Rattle.tables.specs.Lists.{any, all, keep}
-use Rattle.tables.specs.Tables.{Cell, Blank, Present, Row, Tables, rowsOf}
+use Rattle.tables.specs.Tables.{Cell, Blank, Present, Row, Tables}
 use Rattle.tables.specs.Values.{Value, Constant, Column, Comparison, Eq, Ne, Lt, Le, Gt, Ge, holds, Quantifier, Some, All, Env, _▸_, cellOf}
 use Rattle.card.specs.Card.{Interpretation, AsNo, AsYes, unknownSays, Leaf, CompareLeaf, BlankLeaf, NotBlankLeaf, Card, LeafEntry, PairEntry, RowEntry, compares, leafSays, answer}
 use Rattle.rule.specs.Condition.{Test, Compare, IsNull, IsNotNull, Atom, Join, Not, Exists, Listed, Rule}
 use Rattle.rule.specs.Names.{ValueScoped, Scoped}
-use Rattle.rule.specs.Meaning.{Truth, Unknown, truth, isTrue, isFalse, compare3, test3, meaning}
+use Rattle.rule.specs.Meaning.{compare3, test3, meaning}
 use Rattle.translation.specs.Translation.{other, otherComparison, otherLeaf, negated, leafOf, cardOf}
 use Rattle.translation.specs.Claims.{TranslationClaim}
 use Rattle.translation.proofs.Logic.{says, same-test, not-joined, not-over, says-join, says-not, says-truth, isTrue-says, isFalse-says, says-some, says-all}

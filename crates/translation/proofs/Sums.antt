@@ -1,6 +1,6 @@
 -- The number of a card's entries is the published sum: parts − (parts of kind 3) + 2 × (parts of kinds 8 and 9).
 use mathlib.Core.Path.{_≡_, refl}
-use Prim.Native.Nat.{ℕ, _+_, _-_, _*_, _≤_}
+use Prim.Native.Nat.{_+_, _*_, _≤_}
 use native.Mathlib.Omega.{arith}
 use Rattle.tables.specs.Values.{Some, All}
 use Rattle.card.specs.Card.{Interpretation, AsNo, Card, LeafEntry, PairEntry, RowEntry, entries}

@@ -1,5 +1,5 @@
 -- CARD (document 01, What the product holds): which refusal, or which card bytes, for any text, tables and room.
-use mathlib.Core.List.{List, [], _∷_, _++_}
+use mathlib.Core.List.{List, []}
 use Prim.Native.Nat.{ℕ}
 use Rattle.tables.specs.Tables.{columnsOf}
 use Rattle.tables.specs.Refusals.{Lent, lend}
@@ -12,6 +12,6 @@ use Rattle.translation.specs.Translation.{ruleCard}
 unfoldable pub ruleBytes : List ℕ → Rule → List ℕ
 ruleBytes file r = cardBytes (columnsOf file) (ruleCard r)
 
--- CARD: "text and tables to card bytes", in a lent buffer
+-- CARD writes the rule's card into a lent buffer, and answers how many bytes it has
 unfoldable pub cardCall : List ℕ → List ℕ → List ℕ → Lent ℕ
 cardCall text file buffer = lend (readingRefusals text file) (withRule (ruleOf text (columnsOf file)) [] (ruleBytes file)) buffer

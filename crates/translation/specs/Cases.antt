@@ -12,7 +12,7 @@ use Rattle.card.specs.Cases.{workedCard}
 use Rattle.rule.specs.Cases.{caseTables, chained}
 use Rattle.translation.specs.Calls.{cardCall}
 
--- ---- the worked card: "For one table of 3 columns, NOT m.2 < 5 gives, in hexadecimal, .."
+-- ---- the text and the tables of the worked card
 
 abbrev pub workedTables : List ℕ
 workedTables = 1 ∷ 3 ∷ 0 ∷ 0 ∷ []

@@ -1,6 +1,6 @@
 -- What proofs/ shows of these definitions.
 use mathlib.Core.Path.{_≡_}
-use mathlib.Core.Bool.{Bool, true, false, not}
+use mathlib.Core.Bool.{true, false, not}
 use mathlib.Core.List.{List, [], _∷_, _++_, map}
 use Prim.Native.Nat.{ℕ}
 use lib.ListN.{length, replicate}
@@ -27,7 +27,7 @@ pub record TranslationClaim : Type 0 where
   pub no-is-false : (ts : Tables) (env : Env) (r : Rule) → Scoped (length env) r → not (answer ts env (cardOf AsYes r)) ≡ isFalse (meaning ts env r)
   pub negates : (ts : Tables) (env : Env) (c : Card) → answer ts env (negated c) ≡ not (answer ts env c)
 
--- "n = parts − (parts of kind 3) + 2 × (parts of kinds 8 and 9)"
+-- the length sum of the section Card
 abbrev pub SumClaim : Type 0
 SumClaim = (r : Rule) → entries (ruleCard r) ≡ entrySum r
 
@@ -50,6 +50,6 @@ pub record GateCaseClaim : Type 0 where
 abbrev pub RefusalsClaim : Type 0
 RefusalsClaim = refusalExamples ≡ refusalNumbers
 
--- What demand 3 compares: "This is one claim over all rules, files, rows and lent buffers."
+-- what demand 3 compares, whole: one claim over all rules, files, rows and lent buffers
 abbrev pub Demand3Claim : Type 0
 Demand3Claim = (text file : List ℕ) → Accepted text file → Demand3For text file

@@ -2,7 +2,7 @@
 use mathlib.Core.Path.{_≡_}
 use mathlib.Core.Bool.{Bool, true}
 use mathlib.Core.List.{List, _++_}
-use mathlib.Core.Option.{Option, none, some}
+use mathlib.Core.Option.{none, some}
 use Prim.Native.Nat.{ℕ, _≤_, _<_}
 use lib.ListN.{length, drop}
 use Rattle.tables.specs.Tables.{tableCount, columnsOf, rowCount, tablesOf, sameColumns, rowsWhere}
@@ -15,12 +15,12 @@ use Rattle.rule.specs.Calls.{ruleOf}
 use Rattle.translation.specs.Translation.{entrySum}
 use Rattle.translation.specs.Calls.{ruleBytes, cardCall}
 
--- "The tables it was accepted for, later, are any file with no refusal 1 or 2, the same T and the same columns per table"
+-- tables that come later: no refusal 1 or 2, and the columns of the file that the rule was accepted with; rows, values and marks are free
 pub record Later (file later : List ℕ) : Type 0 where
   pub no-refusal : firstApplying (tablesRefusals later) ≡ none
   pub same-columns : sameColumns file later ≡ true
 
--- "A rule is true .. on a row by Meaning, with level 0 at that row of that later file, and by nothing in the card."
+-- true on a row of a later file, by Meaning alone
 abbrev pub trueAt : List ℕ → Rule → ℕ → Bool
 trueAt later r row = isTrue (judged (tablesOf later) row r)
 
@@ -28,15 +28,14 @@ trueAt later r row = isTrue (judged (tablesOf later) row r)
 abbrev pub publishedLength : List ℕ → Rule → ℕ
 publishedLength file r = cardLength (tableCount file) (entrySum r)
 
--- "CARD refuses only with 12, exactly when its buffer is shorter than the length in bytes under Card. Its card is the translation under
--- Card, that many bytes from the buffer's start."
+-- CARD: refusal 12 exactly when the buffer is shorter than the published length, and no other; else the translation's bytes at its start
 pub record CardClaim (text file : List ℕ) (r : Rule) (buffer : List ℕ) : Type 0 where
   pub length-is : length (ruleBytes file r) ≡ publishedLength file r
   pub short : length buffer < publishedLength file r → cardCall text file buffer ≡ record { result = Refused 12; buffer = buffer }
   pub long : publishedLength file r ≤ length buffer
       → cardCall text file buffer ≡ record { result = Given (publishedLength file r); buffer = ruleBytes file r ++ drop (publishedLength file r) buffer }
 
--- "With any later file, RUN refuses no row of table 1 and says yes exactly where the rule is true, else no."
+-- RUN with a later file: every row of table 1 is answered, with yes exactly where the rule is true
 abbrev pub RunClaim : List ℕ → List ℕ → Rule → ℕ → Type 0
 RunClaim card later r row = row < rowCount later 1 → runCall card later row ≡ Given (trueAt later r row)
 
@@ -44,8 +43,8 @@ RunClaim card later r row = row < rowCount later 1 → runCall card later row �
 abbrev pub trueRows : List ℕ → Rule → List ℕ
 trueRows later r = rowsWhere later (trueAt later r)
 
--- "LIST refuses only with 12, exactly when the lent list has fewer elements than there are rows where the rule is true. Otherwise it gives
--- the numbers of those rows from the list's start, each once, rising, and its count is how many they are."
+-- LIST with a later file: refusal 12 exactly when the list has fewer elements than the rule has true rows, and no other; else their numbers at
+-- its start, and how many they are
 pub record ListClaim (card later : List ℕ) (r : Rule) (buffer : List ℕ) : Type 0 where
   pub short : length buffer < length (trueRows later r) → listCall card later buffer ≡ record { result = Refused 12; buffer = buffer }
   pub long : length (trueRows later r) ≤ length buffer

@@ -2,7 +2,7 @@
 use Prim.Native.Nat.{ℕ, _+_, _-_, _*_}
 use Rattle.tables.specs.Values.{Comparison, Eq, Ne, Lt, Le, Gt, Ge, Value, Connective, And, Or, Quantifier, Some, All}
 use Rattle.card.specs.Card.{Interpretation, AsNo, AsYes, Leaf, CompareLeaf, BlankLeaf, NotBlankLeaf, Card, LeafEntry, PairEntry, RowEntry}
-use Rattle.rule.specs.Condition.{Test, Compare, IsNull, IsNotNull, Condition, Atom, Join, Not, Exists, Listed, Rule, parts, nots, lists}
+use Rattle.rule.specs.Condition.{Test, Compare, IsNull, IsNotNull, Atom, Join, Not, Exists, Listed, Rule, parts, nots, lists}
 
 -- ---- the two interpretations
 
@@ -10,7 +10,7 @@ abbrev pub other : Interpretation → Interpretation
 other AsNo = AsYes
 other AsYes = AsNo
 
--- ---- "Negating swaps, all the way in, and/or, some/every row, kinds 5/6, 7/8, and comparisons 1/2, 3/6, 4/5."
+-- ---- negating: what is swapped, all the way in
 
 abbrev pub otherConnective : Connective → Connective
 otherConnective And = Or
@@ -45,13 +45,13 @@ leafOf i (Compare op l r) = CompareLeaf i op l r
 leafOf i (IsNull l) = BlankLeaf l
 leafOf i (IsNotNull l) = NotBlankLeaf l
 
--- "SOME gives some row, and, WHERE, comparison; ALL gives every row, or, negated WHERE, comparison."
+-- a list: SOME asks for a row on which WHERE and comparison hold, ALL for every row that WHERE fails on or the comparison holds on
 abbrev pub listCard : Quantifier → ℕ → Card → Card → Card
 listCard Some t w c = RowEntry Some t (PairEntry And w c)
 listCard All t w c = RowEntry All t (PairEntry Or (negated w) c)
 
--- "NOT P false-interpreted is the negation of P true-interpreted, and the reverse." "EXISTS gives some row over its WHERE."
--- Every WHERE starts false-interpreted, before any negating.
+-- NOT takes the other interpretation of what stands under it and negates that; EXISTS asks for a row of its WHERE. Every WHERE is
+-- false-interpreted, whatever is around it, before any negating.
 unfoldable pub cardOf : Interpretation → Rule → Card
 cardOf i (Atom x) = LeafEntry (leafOf i x)
 cardOf i (Join j a b) = PairEntry j (cardOf i a) (cardOf i b)
@@ -59,10 +59,10 @@ cardOf i (Not a) = negated (cardOf (other i) a)
 cardOf i (Exists t w) = RowEntry Some t (cardOf AsNo w)
 cardOf i (Listed q op l s t w) = listCard q t (cardOf AsNo w) (LeafEntry (CompareLeaf i op l s))
 
--- "A rule starts false-interpreted."
+-- a whole rule is false-interpreted
 abbrev pub ruleCard : Rule → Card
 ruleCard r = cardOf AsNo r
 
--- ---- "n = parts − (parts of kind 3) + 2 × (parts of kinds 8 and 9)"
+-- ---- the published number of entries: NOTs have none, and a list has two more
 abbrev pub entrySum : Rule → ℕ
 entrySum r = parts r - nots r + 2 * lists r
