@@ -18,7 +18,7 @@ use Rattle.rule.specs.Tokens.{tokensOf, opensFit}
 use Rattle.rule.specs.Condition.{WrittenCondition, parts, fromsDeep}
 use Rattle.rule.specs.Reader.{readAll}
 use Rattle.rule.specs.Names.{mostParts, mostFroms, limitsFit, outermost, ruleIn}
-use Rattle.rule.specs.Calls.{mostBytes, fails, isThere, textOf, ruleOf, readingRefusals, Accepted}
+use Rattle.rule.specs.Calls.{mostBytes, fails, isThere, conditionOf, ruleOf, readingRefusals, Accepted}
 use Rattle.rule.specs.Claims.{Allowed, AcceptedClaim, PartsClaim}
 use Rattle.rule.proofs.Reading.{read-sound, read-complete}
 use Rattle.rule.proofs.Constants.{tokens-fit, reading-constants}
@@ -41,8 +41,8 @@ record Unrefused (text file : List ℕ) : Type 0 where
   no-4 : isMissing (tokensOf text) ≡ false
   no-5 : fails (opensFit (pos 0)) (tokensOf text) ≡ false
   no-6 : fails (λ ts. isThere (readAll ts)) (tokensOf text) ≡ false
-  no-7 : fails limitsFit (textOf text) ≡ false
-  no-8 : fails (λ a. isThere (ruleIn (columnsOf file) outermost a)) (textOf text) ≡ false
+  no-7 : fails limitsFit (conditionOf text) ≡ false
+  no-8 : fails (λ a. isThere (ruleIn (columnsOf file) outermost a)) (conditionOf text) ≡ false
 
 accepted-unrefused : (text file : List ℕ) → Accepted text file → Unrefused text file
 unfolding readingRefusals tablesRefusals
@@ -53,8 +53,8 @@ accepted-unrefused text file e =
     let e4 = none-first 4 (isMissing (tokensOf text)) _ (e3 .1) in
     let e5 = none-first 5 (fails (opensFit (pos 0)) (tokensOf text)) _ (e4 .1) in
     let e6 = none-first 6 (fails (λ ts. isThere (readAll ts)) (tokensOf text)) _ (e5 .1) in
-    let e7 = none-first 7 (fails limitsFit (textOf text)) _ (e6 .1) in
-    let e8 = none-first 8 (fails (λ a. isThere (ruleIn (columnsOf file) outermost a)) (textOf text)) _ (e7 .1) in
+    let e7 = none-first 7 (fails limitsFit (conditionOf text)) _ (e6 .1) in
+    let e8 = none-first 8 (fails (λ a. isThere (ruleIn (columnsOf file) outermost a)) (conditionOf text)) _ (e7 .1) in
     record { no-1 = e1 .0; no-2 = e2 .0; no-3 = e3 .0; no-4 = e4 .0; no-5 = e5 .0; no-6 = e6 .0; no-7 = e7 .0; no-8 = e8 .0 }
 
 unrefused-accepted : (text file : List ℕ) → Unrefused text file → Accepted text file
@@ -77,12 +77,12 @@ unfolding limitsFit
 limits-of a p q = rw (le-leb (parts a) mostParts p, le-leb (fromsDeep a) mostFroms q)
 
 pub accepted-allowed : (text file : List ℕ) → Accepted text file → Allowed text file
-unfolding textOf
+unfolding conditionOf
 accepted-allowed text file e =
     let u = accepted-unrefused text file e in
     let t = there (tokensOf text) (u .no-4) in
     let a = there (readAll (t .0)) (not-true _ (passed (λ ts. isThere (readAll ts)) (t .0) (rw (t .1) at (u .no-6)))) in
-    let is : textOf text ≡ some (a .0) = ap (_>>= readAll) (t .1) ∙ a .1 in
+    let is : conditionOf text ≡ some (a .0) = ap (_>>= readAll) (t .1) ∙ a .1 in
     let r = there (ruleIn (columnsOf file) outermost (a .0)) (not-true _ (passed (λ x. isThere (ruleIn (columnsOf file) outermost x)) (a .0) (rw is at (u .no-8)))) in
     let l = limits-are (a .0) (passed limitsFit (a .0) (rw is at (u .no-7))) in
     record {
@@ -101,10 +101,10 @@ accepted-allowed text file e =
     }
 
 allowed-accepted : (text file : List ℕ) → Allowed text file → Accepted text file
-unfolding textOf
+unfolding conditionOf
 allowed-accepted text file w =
     let read : readAll (w .tokens) ≡ some (w .condition) = read-complete (w .tokens) (w .condition) (w .reads) in
-    let is : textOf text ≡ some (w .condition) = ap (_>>= readAll) (w .are-tokens) ∙ read in
+    let is : conditionOf text ≡ some (w .condition) = ap (_>>= readAll) (w .are-tokens) ∙ read in
     unrefused-accepted text file record {
       no-1 = ap not (w .tables-sized);
       no-2 = ap not (w .tables-marked);
@@ -122,10 +122,10 @@ accepted-claim text file = (accepted-allowed text file, allowed-accepted text fi
 -- ---- the rule of an accepted text
 
 pub parts-claim : PartsClaim
-unfolding ruleOf textOf
+unfolding ruleOf conditionOf
 parts-claim text file e =
     let w = accepted-allowed text file e in
-    let read : textOf text ≡ some (w .condition) = ap (_>>= readAll) (w .are-tokens) ∙ read-complete (w .tokens) (w .condition) (w .reads) in
+    let read : conditionOf text ≡ some (w .condition) = ap (_>>= readAll) (w .are-tokens) ∙ read-complete (w .tokens) (w .condition) (w .reads) in
     let constants = reading-constants (w .reads) (tokens-fit text (w .are-tokens)) in
     let resolved = names-fit (columnsOf file) (w .condition) constants (w .names) in
     let scoped = fits-scoped (columnsOf file) 1 judgedLevels refl (w .rule) (resolved .fits) in

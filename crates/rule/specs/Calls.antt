@@ -30,11 +30,11 @@ abbrev pub isThere : {A : Type 0} → Option A → Bool
 isThere x = not (isMissing x)
 
 -- the condition that a text reads as, and the rule that it is with these columns
-unfoldable pub textOf : List ℕ → Option WrittenCondition
-textOf text = tokensOf text >>= readAll
+unfoldable pub conditionOf : List ℕ → Option WrittenCondition
+conditionOf text = tokensOf text >>= readAll
 
 unfoldable pub ruleOf : List ℕ → List ℕ → Option Rule
-ruleOf text columns = textOf text >>= ruleIn columns outermost
+ruleOf text columns = conditionOf text >>= ruleIn columns outermost
 
 -- ---- the refusals of reading, in the order in which they win: 1 to 8
 unfoldable pub readingRefusals : List ℕ → List ℕ → List Refusal
@@ -44,8 +44,8 @@ readingRefusals text file =
     ∷ (4 if isMissing (tokensOf text))
     ∷ (5 if fails (opensFit (pos 0)) (tokensOf text))
     ∷ (6 if fails (λ ts. isThere (readAll ts)) (tokensOf text))
-    ∷ (7 if fails limitsFit (textOf text))
-    ∷ (8 if fails (λ a. isThere (ruleIn (columnsOf file) outermost a)) (textOf text))
+    ∷ (7 if fails limitsFit (conditionOf text))
+    ∷ (8 if fails (λ a. isThere (ruleIn (columnsOf file) outermost a)) (conditionOf text))
     ∷ [])
 
 -- What demand 3 compares, first sentence: accepted with a tables file

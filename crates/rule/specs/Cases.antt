@@ -1,11 +1,12 @@
 -- Document 01, Proved cases: the texts and the tables' bytes, and what JUDGE is to answer; and texts at the edges of the refusals of reading.
 use mathlib.Core.List.{List, [], _∷_, _++_, map}
-use mathlib.Core.Option.{Option, none, some}
+use mathlib.Core.Option.{Option}
 use Prim.Native.Nat.{ℕ, zero, suc}
 use lib.IntN.{ℤ, pos, negsuc}
 use lib.ListN.{length, replicate}
 use Prim.Native.String.{String}
 use Rattle.tables.specs.Bytes.{bytes32}
+use Rattle.tables.specs.Cases.{Edge, _refused_, accepted}
 use Rattle.tables.specs.Refusals.{Answer, Given, firstApplying, Lent}
 use Rattle.rule.specs.Tokens.{bytes}
 use Rattle.rule.specs.Parts.{TaggedValue, unused, Part, partWith}
@@ -136,17 +137,6 @@ partsGiven c = record { result = Given (length (c .parts)); buffer = c .parts ++
 
 -- ---- texts at the edges of the refusals, with the tables above
 
-pub record Edge : Type 0 where
-  pub text : List ℕ
-  pub refusal : Option ℕ
-
-infix 10 _refused_
-abbrev _refused_ : List ℕ → ℕ → Edge
-t refused n = record { text = t; refusal = some n }
-
-abbrev accepted : List ℕ → Edge
-accepted t = record { text = t; refusal = none }
-
 -- "1 = 1" n + 1 times, joined by OR: 2n + 1 parts
 unfoldable pub chained : ℕ → List ℕ
 chained zero = bytes "1 = 1"
@@ -176,4 +166,4 @@ edges =
     ∷ accepted (bytes "NOT NOT 1 = 1") ∷ (bytes "NOT" refused 6) ∷ (bytes "(1 = 1" refused 6) ∷ []
 
 abbrev pub refusalAt : Edge → Option ℕ
-refusalAt e = firstApplying (readingRefusals (e .text) caseTables)
+refusalAt e = firstApplying (readingRefusals (e .input) caseTables)

@@ -34,7 +34,7 @@ pub record Binding : Type 0 where
 abbrev pub Scope : Type 0
 Scope = List Binding
 
--- around a whole rule, m alone is bound: the judged row, level 0
+-- around a whole rule, m alone (byte 109) is bound: the judged row, level 0
 abbrev pub outermost : Scope
 outermost = record { letter = 109; level = 0; table = 1 } ∷ []
 

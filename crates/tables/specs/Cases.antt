@@ -23,17 +23,17 @@ sampleTables =
     ∷ ((Blank ∷ []) ∷ [])
     ∷ []
 
--- a file, and the refusal that it gets
+-- some bytes, and the refusal that they get
 pub record Edge : Type 0 where
-  pub file : List ℕ
+  pub input : List ℕ
   pub refusal : Option ℕ
 
 infix 10 _refused_
-abbrev _refused_ : List ℕ → ℕ → Edge
-f refused n = record { file = f; refusal = some n }
+abbrev pub _refused_ : List ℕ → ℕ → Edge
+bs refused n = record { input = bs; refusal = some n }
 
-abbrev accepted : List ℕ → Edge
-accepted f = record { file = f; refusal = none }
+abbrev pub accepted : List ℕ → Edge
+accepted bs = record { input = bs; refusal = none }
 
 -- t tables of one column and no rows
 abbrev empties : ℕ → List ℕ
@@ -64,4 +64,4 @@ sizeEdges =
     ∷ []
 
 abbrev pub refusalAt : Edge → Option ℕ
-refusalAt e = firstApplying (tablesRefusals (e .file))
+refusalAt e = firstApplying (tablesRefusals (e .input))
