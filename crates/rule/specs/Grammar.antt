@@ -10,43 +10,70 @@ use Rattle.rule.specs.Condition.{Compare, IsNull, IsNotNull, Atom, Join,
 abbrev pub Tokens : Type 0
 Tokens = List Token
 
--- value: a number, or a column as letter, point, number
+-- value: a number, or a column
 pub data IsValue : Tokens → WrittenValue → Tokens → Type 0 where
+  -- number
   number : {n : ℤ} {rest : Tokens} → IsValue (Number n ∷ rest) (Plain n) rest
+  -- letter . number
   column : {x : ℕ} {n : ℤ} {rest : Tokens} → IsValue (Letter x ∷ Point ∷ Number n ∷ rest) (Named x n) rest
 
 mutual
   -- condition: conjunctions with OR between them; what stands left of the last OR is one condition
   pub data IsCondition : Tokens → WrittenCondition → Tokens → Type 0 where
+    -- conjunction
     one-conjunction : {ts rest : Tokens} {a : WrittenCondition} → IsConjunction ts a rest → IsCondition ts a rest
-    joined-by-or : {ts us rest : Tokens} {a b : WrittenCondition} → IsCondition ts a (OR ∷ us) → IsConjunction us b rest → IsCondition ts (Join Or a b) rest
+    -- condition OR conjunction
+    joined-by-or : {ts us rest : Tokens} {a b : WrittenCondition}
+        → IsCondition ts a (OR ∷ us) → IsConjunction us b rest → IsCondition ts (Join Or a b) rest
 
   -- conjunction: factors with AND between them; what stands left of the last AND is one conjunction
   pub data IsConjunction : Tokens → WrittenCondition → Tokens → Type 0 where
+    -- factor
     one-factor : {ts rest : Tokens} {a : WrittenCondition} → IsFactor ts a rest → IsConjunction ts a rest
-    joined-by-and : {ts us rest : Tokens} {a b : WrittenCondition} → IsConjunction ts a (AND ∷ us) → IsFactor us b rest → IsConjunction ts (Join And a b) rest
+    -- conjunction AND factor
+    joined-by-and : {ts us rest : Tokens} {a b : WrittenCondition}
+        → IsConjunction ts a (AND ∷ us) → IsFactor us b rest → IsConjunction ts (Join And a b) rest
 
   -- factor: a test, after any number of NOTs
   pub data IsFactor : Tokens → WrittenCondition → Tokens → Type 0 where
+    -- NOT factor
     not-factor : {ts rest : Tokens} {a : WrittenCondition} → IsFactor ts a rest → IsFactor (NOT ∷ ts) (Not a) rest
+    -- test
     one-test : {ts rest : Tokens} {a : WrittenCondition} → IsTest ts a rest → IsFactor ts a rest
 
   -- test: its nine forms, in the paper's order; IN is SOME with =, NOT IN is ALL with <>
   pub data IsTest : Tokens → WrittenCondition → Tokens → Type 0 where
+    -- ( condition )
     bracketed : {ts rest : Tokens} {a : WrittenCondition} → IsCondition ts a (Close ∷ rest) → IsTest (Open ∷ ts) a rest
-    exists : {n : ℤ} {x : ℕ} {ts rest : Tokens} {w : WrittenCondition} → IsCondition ts w (Close ∷ rest) → IsTest (EXISTS ∷ Open ∷ FROM ∷ Number n ∷ Letter x ∷ WHERE ∷ ts) (Exists (Over n x) w) rest
+    -- EXISTS ( FROM number letter WHERE condition )
+    exists : {n : ℤ} {x : ℕ} {ts rest : Tokens} {w : WrittenCondition} → IsCondition ts w (Close ∷ rest)
+        → IsTest (EXISTS ∷ Open ∷ FROM ∷ Number n ∷ Letter x ∷ WHERE ∷ ts) (Exists (Over n x) w) rest
+    -- value IS NULL
     is-null : {ts rest : Tokens} {l : WrittenValue} → IsValue ts l (IS ∷ NULL ∷ rest) → IsTest ts (Atom (IsNull l)) rest
+    -- value IS NOT NULL
     is-not-null : {ts rest : Tokens} {l : WrittenValue} → IsValue ts l (IS ∷ NOT ∷ NULL ∷ rest) → IsTest ts (Atom (IsNotNull l)) rest
-    compared : {ts us rest : Tokens} {op : Comparison} {l r : WrittenValue} → IsValue ts l (Compares op ∷ us) → IsValue us r rest → IsTest ts (Atom (Compare op l r)) rest
-    some-of : {ts us rest : Tokens} {op : Comparison} {l : WrittenValue} {s : WrittenValue} {f : From} {w : WrittenCondition} → IsValue ts l (Compares op ∷ SOME ∷ us) → IsList us s f w rest → IsTest ts (Listed Some op l s f w) rest
-    all-of : {ts us rest : Tokens} {op : Comparison} {l : WrittenValue} {s : WrittenValue} {f : From} {w : WrittenCondition} → IsValue ts l (Compares op ∷ ALL ∷ us) → IsList us s f w rest → IsTest ts (Listed All op l s f w) rest
-    is-in : {ts us rest : Tokens} {l : WrittenValue} {s : WrittenValue} {f : From} {w : WrittenCondition} → IsValue ts l (IN ∷ us) → IsList us s f w rest → IsTest ts (Listed Some Eq l s f w) rest
-    not-in : {ts us rest : Tokens} {l : WrittenValue} {s : WrittenValue} {f : From} {w : WrittenCondition} → IsValue ts l (NOT ∷ IN ∷ us) → IsList us s f w rest → IsTest ts (Listed All Ne l s f w) rest
+    -- value comparison value
+    compared : {ts us rest : Tokens} {op : Comparison} {l r : WrittenValue}
+        → IsValue ts l (Compares op ∷ us) → IsValue us r rest → IsTest ts (Atom (Compare op l r)) rest
+    -- value comparison SOME list
+    some-of : {ts us rest : Tokens} {op : Comparison} {l s : WrittenValue} {f : From} {w : WrittenCondition}
+        → IsValue ts l (Compares op ∷ SOME ∷ us) → IsList us s f w rest → IsTest ts (Listed Some op l s f w) rest
+    -- value comparison ALL list
+    all-of : {ts us rest : Tokens} {op : Comparison} {l s : WrittenValue} {f : From} {w : WrittenCondition}
+        → IsValue ts l (Compares op ∷ ALL ∷ us) → IsList us s f w rest → IsTest ts (Listed All op l s f w) rest
+    -- value IN list
+    is-in : {ts us rest : Tokens} {l s : WrittenValue} {f : From} {w : WrittenCondition}
+        → IsValue ts l (IN ∷ us) → IsList us s f w rest → IsTest ts (Listed Some Eq l s f w) rest
+    -- value NOT IN list
+    not-in : {ts us rest : Tokens} {l s : WrittenValue} {f : From} {w : WrittenCondition}
+        → IsValue ts l (NOT ∷ IN ∷ us) → IsList us s f w rest → IsTest ts (Listed All Ne l s f w) rest
 
   -- list: a selected value, a table under a letter, and a condition, in brackets.
   -- `IsList ts s f w rest`: the list selects s, its FROM is f and its WHERE is w.
   pub data IsList : Tokens → WrittenValue → From → WrittenCondition → Tokens → Type 0 where
-    list : {n : ℤ} {x : ℕ} {ts us rest : Tokens} {v : WrittenValue} {w : WrittenCondition} → IsValue ts v (FROM ∷ Number n ∷ Letter x ∷ WHERE ∷ us) → IsCondition us w (Close ∷ rest) → IsList (Open ∷ SELECT ∷ ts) v (Over n x) w rest
+    -- ( SELECT value FROM number letter WHERE condition )
+    list : {n : ℤ} {x : ℕ} {ts us rest : Tokens} {v : WrittenValue} {w : WrittenCondition}
+        → IsValue ts v (FROM ∷ Number n ∷ Letter x ∷ WHERE ∷ us) → IsCondition us w (Close ∷ rest) → IsList (Open ∷ SELECT ∷ ts) v (Over n x) w rest
 
 -- the whole of some tokens is a condition
 abbrev pub Reads : Tokens → WrittenCondition → Type 0
