@@ -64,7 +64,7 @@ edges =
     ∷ bad (set three 10 1) ∷ bad (set three 11 1) ∷ bad (set three 12 1) ∷ bad (set three 21 1) ∷ bad (set three 24 1) ∷ bad (set three 25 1) ∷ bad (set three 31 1) ∷ bad (set three 35 1)
     ∷ good rows ∷ bad (set rows 10 1) ∷ bad (set rows 11 1) ∷ bad (set rows 20 1) ∷ good (set rows 9 1) ∷ bad (set rows 9 0) ∷ bad (set rows 9 3) ∷ bad (set rows 5 1)
     ∷ bad (over (LeafEntry (NotBlankLeaf (Column 0 4)))) ∷ good (over (RowEntry All 2 (RowEntry Some 1 (RowEntry All 2 (null 3 2))))) ∷ bad (over (RowEntry All 2 (RowEntry All 1 (RowEntry All 2 (RowEntry All 1 (null 3 2))))))
-    -- 8 and 9 tables; 191 and 193 entries
+    -- 8 and 9 tables; 191, 192 and 193 entries
     ∷ good (cardBytes (1 ∷ 1 ∷ 1 ∷ 1 ∷ 1 ∷ 1 ∷ 1 ∷ 1 ∷ []) (null 0 1)) ∷ bad (cardBytes (1 ∷ 1 ∷ 1 ∷ 1 ∷ 1 ∷ 1 ∷ 1 ∷ 1 ∷ 1 ∷ []) (null 0 1))
     ∷ good (over (chained 95)) ∷ good (over (RowEntry Some 1 (chained 95))) ∷ bad (over (chained 96))
     ∷ bad (over (RowEntry All 0 (null 0 1))) ∷ bad (over (RowEntry All 3 (null 0 1))) ∷ good (over (PairEntry Or (null 0 1) (RowEntry All 1 (null 1 3)))) ∷ bad (over (PairEntry Or (RowEntry All 1 (null 1 3)) (null 1 1)))
