@@ -1,8 +1,15 @@
 -- The claims of specs/Claims.antt.
 use mathlib.Core.Path.{refl, ap, _∙_}
+use borrow.Author.Tests.{lt-ltb, le-ltb}
+use Rattle.tables.specs.Tables.{rowCount}
+use Rattle.tables.specs.Refusals.{rowRefusal}
+use Rattle.tables.proofs.Refusals.{first-nil, first-one, first-none, first-append, first-found, unless-none, unless-some, lend-refused}
+use Rattle.card.specs.Calls.{checkRefusals, gateRefusals, runRefusals, checkCall, runCall, listCall}
+use mathlib.Core.Bool.{not}
+use mathlib.Core.List.{[]}
 use Rattle.card.specs.Layout.{columnsIn}
-use Rattle.card.specs.Cases.{nested, chained, edges}
-use Rattle.card.specs.Claims.{SoundClaim, LengthClaim, OrderClaim, EdgesClaim}
+use Rattle.card.specs.Cases.{nested, chained, edges, gateEdges}
+use Rattle.card.specs.Claims.{SoundClaim, LengthClaim, CallsClaim, OrderClaim, GateEdgesClaim, EdgesClaim}
 use Rattle.card.proofs.Opened.{opened}
 use Rattle.card.proofs.Walk.{card-length, columns-back}
 use Rattle.card.proofs.Back.{sound-true, sound-holds}
@@ -26,3 +33,18 @@ edges-claim = refl
 pub order-claim : OrderClaim
 unfolding opened
 order-claim = record { running = λ card file row. refl; listing = λ card file. refl }
+
+pub gate-edges-claim : GateEdgesClaim
+unfolding opened gateEdges
+gate-edges-claim = refl
+
+pub calls-claim : CallsClaim
+unfolding checkCall checkRefusals runCall runRefusals rowRefusal listCall
+calls-claim = record {
+  check-sound = λ card e. unless-none _ _ (first-none 9 _ [] (ap not e) first-nil);
+  check-unsound = λ card e. unless-some _ _ (first-one 9 _ [] (ap not e));
+  run-refused = λ card file row n e. unless-some _ _ (first-found (gateRefusals card file) _ e);
+  run-no-row = λ card file row e h. unless-some _ _ (first-append (gateRefusals card file) _ e ∙ first-one 11 _ [] (ap not (le-ltb row (rowCount file 1) h)));
+  run-given = λ card file row e h. unless-none _ _ (first-append (gateRefusals card file) _ e ∙ first-none 11 _ [] (ap not (lt-ltb row (rowCount file 1) h)) first-nil);
+  list-refused = λ card file buffer n e. lend-refused (gateRefusals card file) _ buffer e;
+}

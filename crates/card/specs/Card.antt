@@ -1,4 +1,4 @@
--- Document 01, Card: a card's entries as a tree, and what they answer. A card knows yes and no alone.
+-- Document 01, Card: a card's entries as a tree, and what they answer: yes or no, never unknown.
 use mathlib.Core.Bool.{Bool, true, false, not, _&&_, _||_}
 use mathlib.Core.List.{List, [], _∷_, _++_}
 use Prim.Native.Nat.{ℕ, _+_}

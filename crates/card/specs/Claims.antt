@@ -1,17 +1,20 @@
 -- What proofs/ shows of these definitions.
 use mathlib.Core.Path.{_≡_}
-use mathlib.Core.Bool.{true}
+use mathlib.Core.Bool.{true, false}
 use mathlib.Core.List.{List, [], _∷_, map}
-use mathlib.Core.Option.{some}
-use Prim.Native.Nat.{ℕ, _<_}
+use mathlib.Core.Option.{none, some}
+use Prim.Native.Nat.{ℕ, _<_, _≤_}
 use lib.ListN.{length, getD}
+use Rattle.tables.specs.Tables.{rowCount}
+use Rattle.tables.specs.Refusals.{firstApplying, Refused, Given}
 use Rattle.card.specs.Card.{Card, entries}
 use Rattle.card.specs.Layout.{cardBytes, cardLength, columnsIn, cardFrom}
 use Rattle.card.specs.Sound.{sound, Sound}
-use Rattle.card.specs.Calls.{gateRefusals, runRefusals}
-use Rattle.card.specs.Cases.{edges}
+use Rattle.card.specs.Calls.{saysYes, gateRefusals, runRefusals, checkCall, runCall, listCall}
+use Rattle.card.specs.Cases.{edges, gateEdges, gateAnswers, gateExpected}
 
--- the test of a sound card passes just those bytes that are the bytes of a fitting card, and reads that card and its columns from them
+-- the test of a sound card passes just those bytes that are the bytes of a fitting card, and reads that card and its columns from them; what
+-- fits, and the limits, are the same definitions on both sides (EdgesClaim tries them)
 pub record SoundClaim : Type 0 where
   pub passes : (bs : List ℕ) → Sound bs → sound bs ≡ true
   pub passes-only : (bs : List ℕ) → ((i : ℕ) → getD bs i 0 < 256) → sound bs ≡ true → Sound bs
@@ -22,10 +25,26 @@ pub record SoundClaim : Type 0 where
 abbrev pub LengthClaim : Type 0
 LengthClaim = (columns : List ℕ) (c : Card) → length (cardBytes columns c) ≡ cardLength (length columns) (entries c)
 
--- the refusals of RUN, and of LIST but for 12, in the order in which they win
+-- CHECK, RUN and LIST by cases: CHECK passes just the sound cards; what RUN and LIST look at first is passed up unchanged, with the buffer as it
+-- was; then RUN gives the card's answer unless table 1 has no such row, and LIST the rows unless the buffer has fewer elements
+pub record CallsClaim : Type 0 where
+  pub check-sound : (card : List ℕ) → sound card ≡ true → checkCall card ≡ Given tt
+  pub check-unsound : (card : List ℕ) → sound card ≡ false → checkCall card ≡ Refused 9
+  pub run-refused : (card file : List ℕ) (row n : ℕ) → firstApplying (gateRefusals card file) ≡ some n → runCall card file row ≡ Refused n
+  pub run-no-row : (card file : List ℕ) (row : ℕ) → firstApplying (gateRefusals card file) ≡ none → rowCount file 1 ≤ row → runCall card file row ≡ Refused 11
+  pub run-given : (card file : List ℕ) (row : ℕ) → firstApplying (gateRefusals card file) ≡ none → row < rowCount file 1
+      → runCall card file row ≡ Given (saysYes card file row)
+  pub list-refused : (card file buffer : List ℕ) (n : ℕ) → firstApplying (gateRefusals card file) ≡ some n
+      → listCall card file buffer ≡ record { result = Refused n; buffer = buffer }
+
+-- the numbers of the refusals of RUN, and of LIST but for 12, in the order in which they are tried
 pub record OrderClaim : Type 0 where
   pub running : (card file : List ℕ) (row : ℕ) → map (λ r. r .number) (runRefusals card file row) ≡ 1 ∷ 2 ∷ 9 ∷ 10 ∷ 11 ∷ []
   pub listing : (card file : List ℕ) → map (λ r. r .number) (gateRefusals card file) ≡ 1 ∷ 2 ∷ 9 ∷ 10 ∷ []
+
+-- RUN and LIST on cards and files of which several may be wrong, together
+abbrev pub GateEdgesClaim : Type 0
+GateEdgesClaim = map gateAnswers gateEdges ≡ map gateExpected gateEdges
 
 -- the cards at the edges of soundness, together
 abbrev pub EdgesClaim : Type 0

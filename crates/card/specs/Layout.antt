@@ -108,7 +108,7 @@ module _ (bs : List ℕ) where
   abbrev pub endAt : ℕ → ℕ
   endAt i = word16 (recordAt i) 0
 
--- a value's tag and number, and its five bytes
+-- the value of a tag and a number; and of five bytes from place i
 abbrev pub valueOf : ℕ → ℕ → Value
 valueOf tag n = cond (eqb tag constantTag) (Constant (signed n)) (Column tag n)
 
@@ -119,27 +119,28 @@ valueFrom r i = valueOf (byteAt r i) (word32 r (i + 1))
 unfoldable pub zeros : List ℕ → ℕ → ℕ → Bool
 zeros r i j = all (λ k. eqb (byteAt r (i + k)) 0) (tabulate (j - i) (λ k. k))
 
--- what an entry of this kind with this record says: none, if there is no such kind or comparison, or if an unused byte is not 0
+-- what an entry of this kind with this record says: none, if there is no such kind or comparison, or if an unused byte is not 0. usesEnd: all
+-- bytes behind the end are 0; usesTable, usesComparison, usesLeft: all bytes but those of the end and of the fields used are 0
 unfoldable pub headFrom : ℕ → List ℕ → Option Head
 headFrom kind r =
     let table = byteAt r tablePlace in
     let comparison = byteAt r comparisonPlace in
     let left = valueFrom r leftPlace in
     let right = valueFrom r rightPlace in
-    let twoInner = zeros r tablePlace recordSize in
-    let oneInner = zeros r comparisonPlace recordSize in
-    let compared = zeros r tablePlace comparisonPlace && between 1 6 comparison in
-    let tested = zeros r tablePlace leftPlace && zeros r rightPlace recordSize in
+    let usesEnd = zeros r tablePlace recordSize in
+    let usesTable = zeros r comparisonPlace recordSize in
+    let usesComparison = zeros r tablePlace comparisonPlace && between 1 6 comparison in
+    let usesLeft = zeros r tablePlace leftPlace && zeros r rightPlace recordSize in
     let op = comparisonOf comparison in
     numbered
-    (only twoInner (PairHead And)
-    ∷ only twoInner (PairHead Or)
-    ∷ only oneInner (RowHead Some table)
-    ∷ only oneInner (RowHead All table)
-    ∷ only compared (LeafHead (CompareLeaf AsNo op left right))
-    ∷ only compared (LeafHead (CompareLeaf AsYes op left right))
-    ∷ only tested (LeafHead (BlankLeaf left))
-    ∷ only tested (LeafHead (NotBlankLeaf left))
+    (only usesEnd (PairHead And)
+    ∷ only usesEnd (PairHead Or)
+    ∷ only usesTable (RowHead Some table)
+    ∷ only usesTable (RowHead All table)
+    ∷ only usesComparison (LeafHead (CompareLeaf AsNo op left right))
+    ∷ only usesComparison (LeafHead (CompareLeaf AsYes op left right))
+    ∷ only usesLeft (LeafHead (BlankLeaf left))
+    ∷ only usesLeft (LeafHead (NotBlankLeaf left))
     ∷ [])
     kind
     none

@@ -1,4 +1,4 @@
--- Document 01, Card, the paragraph on sound cards: the layout with nothing to spare, ends and entry 0 as they should be, tables, columns and
+-- Document 01, Card, the paragraph on sound cards: the layout without spare bytes, ends that fit, entry 0 around all others, tables, columns and
 -- levels that exist, and a bound on row entries around one another.
 use mathlib.Core.Path.{_≡_}
 use mathlib.Core.Bool.{Bool, false, _&&_}
@@ -22,7 +22,7 @@ mostEntries = 192
 abbrev pub columnsFit : List ℕ → Bool
 columnsFit columns = between 1 mostTables (length columns) && all (between 1 mostColumns) columns
 
--- the entries hold a card for these columns
+-- there is a card, and it fits these columns
 abbrev pub holdsFitting : List ℕ → Option Card → Bool
 holdsFitting columns none = false
 holdsFitting columns (some c) = cardFits columns judgedLevels c
@@ -35,7 +35,7 @@ sound bs =
     && (eqb (length bs) (cardLength (tablesIn bs) (entryCount bs))
     && holdsFitting (columnsIn bs) (cardFrom bs)))
 
--- the same, said without a test: the bytes of a card of at most 192 entries that fits its columns
+-- the same, said without a test: the bytes of a card with as many entries, tables and columns as there may be, which fits them
 pub record Sound (bs : List ℕ) : Type 0 where
   pub columns : List ℕ
   pub card : Card

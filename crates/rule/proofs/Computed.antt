@@ -1,7 +1,7 @@
 -- The proved cases of document 01 and the texts at the edges of the refusals, each as one computed fact.
 use mathlib.Core.Path.{refl}
-use Rattle.rule.specs.Cases.{judgedAt, partsRead, chained, edges}
-use Rattle.rule.specs.Claims.{CasesClaim, PartsCasesClaim, TestsClaim, OrderClaim, EdgesClaim}
+use Rattle.rule.specs.Cases.{judgedAt, partsRead, everyWord, chained, edges}
+use Rattle.rule.specs.Claims.{CasesClaim, PartsCasesClaim, TestsClaim, OrderClaim, WordsClaim, EdgesClaim}
 use Rattle.rule.proofs.Opened.{opened}
 
 -- "Cases 1 to 12 are proved together, as one tabulated fact over the definitions": from texts and bytes, through what JUDGE answers
@@ -12,6 +12,10 @@ cases-claim = refl
 pub parts-cases-claim : PartsCasesClaim
 unfolding opened partsRead
 parts-cases-claim = refl
+
+pub words-claim : WordsClaim
+unfolding opened everyWord
+words-claim = refl
 
 pub tests-claim : TestsClaim
 unfolding opened judgedAt

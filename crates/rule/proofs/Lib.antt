@@ -7,3 +7,4 @@ pub mod Constants
 pub mod Fits
 pub mod Parts
 pub mod Accepted
+pub mod Calls

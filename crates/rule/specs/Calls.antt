@@ -21,7 +21,7 @@ use Rattle.rule.specs.Meaning.{Truth, Unknown, judged}
 abbrev pub mostBytes : ℕ
 mostBytes = 4096
 
--- a test that fails of something; where that is missing, an earlier refusal says so
+-- it is there and fails the test; where it is missing, a lower refusal applies already
 abbrev pub fails : {A : Type 0} → (A → Bool) → Option A → Bool
 fails p none = false
 fails p (some x) = not (p x)
@@ -36,7 +36,7 @@ conditionOf text = tokensOf text >>= readAll
 unfoldable pub ruleOf : List ℕ → List ℕ → Option Rule
 ruleOf text columns = conditionOf text >>= ruleIn columns outermost
 
--- ---- the refusals of reading, in the order in which they win: 1 to 8
+-- ---- the refusals of reading, in the order in which they are tried: 1 to 8
 unfoldable pub readingRefusals : List ℕ → List ℕ → List Refusal
 readingRefusals text file =
     tablesRefusals file

@@ -8,7 +8,8 @@ use Prim.Native.String.{String}
 use Rattle.tables.specs.Bytes.{bytes32}
 use Rattle.tables.specs.Cases.{Edge, _refused_, accepted}
 use Rattle.tables.specs.Refusals.{Answer, Given, firstApplying, Lent}
-use Rattle.rule.specs.Tokens.{bytes}
+use Rattle.tables.specs.Values.{Eq, Ne, Lt, Le, Gt, Ge}
+use Rattle.rule.specs.Tokens.{bytes, Token, Fixed, Compares, Letter, Number}
 use Rattle.rule.specs.Parts.{TaggedValue, unused, Part, partWith}
 use Rattle.rule.specs.Meaning.{Truth, False, Unknown, True}
 use Rattle.rule.specs.Calls.{readingRefusals, readCall, judgeCall}
@@ -61,7 +62,7 @@ judgedAt c = map (judgeCall (bytes (c .text)) caseTables) (0 ∷ 1 ∷ 2 ∷ [])
 abbrev pub expectedAt : Case → List (Answer Truth)
 expectedAt c = map Given (c .values)
 
--- each comparison at less, equal and greater; IS NOT NULL; blank with blank
+-- each comparison at less, equal and greater, with negative numbers; IS NOT NULL; blank with blank; AND before OR
 abbrev pub testCases : List Case
 testCases =
     ("m.1 = 2" gives (F ∷ T ∷ F ∷ []))
@@ -70,6 +71,10 @@ testCases =
     ∷ ("m.1 <= 2" gives (T ∷ T ∷ F ∷ []))
     ∷ ("m.1 > 2" gives (F ∷ F ∷ T ∷ []))
     ∷ ("m.1 >= 2" gives (F ∷ T ∷ T ∷ []))
+    ∷ ("-3 = -3" gives (T ∷ T ∷ T ∷ []))
+    ∷ ("-3 = -4" gives (F ∷ F ∷ F ∷ []))
+    ∷ ("3 = -3" gives (F ∷ F ∷ F ∷ []))
+    ∷ ("-3 <> 2" gives (T ∷ T ∷ T ∷ []))
     ∷ ("-3 < m.1" gives (T ∷ T ∷ T ∷ []))
     ∷ ("-3 <= -4" gives (F ∷ F ∷ F ∷ []))
     ∷ ("m.2 IS NOT NULL" gives (T ∷ F ∷ T ∷ []))
@@ -135,6 +140,17 @@ partsRead c = readCall (bytes (c .text)) caseTables (map (λ _. filler) (c .part
 abbrev pub partsGiven : PartsCase → Lent Part
 partsGiven c = record { result = Given (length (c .parts)); buffer = c .parts ++ (filler ∷ filler ∷ []) }
 
+-- ---- every word and every sign, once
+
+unfoldable pub everyWord : List ℕ
+everyWord = bytes "AND OR NOT EXISTS IN SOME ALL IS NULL SELECT FROM WHERE ( ) . = <> < <= > >= a z 0 -1"
+
+abbrev pub everyToken : List Token
+everyToken =
+    Fixed 1 ∷ Fixed 2 ∷ Fixed 3 ∷ Fixed 4 ∷ Fixed 5 ∷ Fixed 6 ∷ Fixed 7 ∷ Fixed 8 ∷ Fixed 9 ∷ Fixed 10 ∷ Fixed 11 ∷ Fixed 12
+    ∷ Fixed 13 ∷ Fixed 14 ∷ Fixed 15 ∷ Compares Eq ∷ Compares Ne ∷ Compares Lt ∷ Compares Le ∷ Compares Gt ∷ Compares Ge
+    ∷ Letter 97 ∷ Letter 122 ∷ Number (pos 0) ∷ Number (negsuc 0) ∷ []
+
 -- ---- texts at the edges of the refusals, with the tables above
 
 -- "1 = 1" n + 1 times, joined by OR: 2n + 1 parts
@@ -147,10 +163,14 @@ edges =
     -- tokens: two letters, no word, two numbers, 10 and 11 digits, the ends of the range, a lone minus, another byte, signs of two bytes
     (bytes "ab" refused 6) ∷ (bytes "1 = 1 ANDOR 1 = 1" refused 4) ∷ (bytes "1-2" refused 6) ∷ accepted (bytes "0000000001=-1") ∷ (bytes "00000000001 = 1" refused 4)
     ∷ accepted (bytes "2147483647 > -2147483648") ∷ (bytes "1 = -2147483649" refused 4) ∷ (bytes "1 = -" refused 4) ∷ (bytes "1 =\t1" refused 4) ∷ accepted (bytes "m.1<=m.2 AND m.1>=1 AND m.1<>m.2")
+    -- gaps, and the bytes around letters, digits and capitals; a word cut short
+    ∷ accepted (bytes "\n1 =\n1\n") ∷ (bytes "1 =\r1" refused 4) ∷ (bytes "1 = 1:" refused 4) ∷ (bytes "1 = 1/" refused 4) ∷ (bytes "{" refused 4)
+    ∷ (bytes "`" refused 4) ∷ (bytes "@" refused 4) ∷ (bytes "[" refused 4) ∷ accepted (bytes "EXISTS (FROM 1 z WHERE z.1 = 1)") ∷ (bytes "NO 1 = 1" refused 4)
     -- a bad token at the end comes before brackets at the start
     ∷ ((replicate 33 40 ++ bytes "!") refused 4)
     -- brackets: 32 open may pass, a ) before them counts, and grammar comes after them
     ∷ accepted (replicate 32 40 ++ bytes "1 = 1" ++ replicate 32 41) ∷ ((bytes ")" ++ replicate 33 40) refused 6) ∷ ((bytes ")" ++ replicate 34 40) refused 5)
+    ∷ ((replicate 33 40 ++ bytes "1 = 1" ++ replicate 33 41) refused 5)
     -- 4,096 bytes are read
     ∷ (replicate 4096 32 refused 6) ∷ (replicate 4097 33 refused 3)
     -- grammar comes before limits, and limits before names
@@ -158,6 +178,7 @@ edges =
     -- limits: 64 parts and three FROMs may pass
     ∷ accepted (bytes "NOT " ++ chained 31) ∷ (chained 32 refused 7)
     ∷ accepted (bytes "EXISTS (FROM 1 a WHERE EXISTS (FROM 1 b WHERE EXISTS (FROM 1 c WHERE a.1 = b.2)))")
+    ∷ accepted (bytes "EXISTS (FROM 1 a WHERE 1 = 1) AND EXISTS (FROM 1 b WHERE 1 = 1) OR EXISTS (FROM 1 c WHERE 1 = 1) OR EXISTS (FROM 1 d WHERE 1 = 1)")
     ∷ (bytes "EXISTS (FROM 1 a WHERE EXISTS (FROM 1 b WHERE EXISTS (FROM 1 c WHERE EXISTS (FROM 1 d WHERE 1 = 1))))" refused 7)
     -- names: a negative column, an absent table or column, a letter outside its FROM, the selected value inside it
     ∷ (bytes "m.-1 = 1" refused 8) ∷ (bytes "m.3 = 1" refused 8) ∷ (bytes "m.0 = 1" refused 8) ∷ (bytes "EXISTS (FROM 4 v WHERE 1 = 1)" refused 8)

@@ -1,13 +1,14 @@
 -- What proofs/ shows of these definitions.
 use mathlib.Core.Path.{_≡_}
 use mathlib.Core.Bool.{true}
-use mathlib.Core.List.{List, [], _∷_, map}
+use mathlib.Core.List.{List, [], _∷_, _++_, map}
 use mathlib.Core.Logic.{_↔_}
 use mathlib.Core.Option.{none, some}
-use Prim.Native.Nat.{ℕ, _+_, _≤_}
+use Prim.Native.Nat.{ℕ, _+_, _≤_, _<_}
 use lib.IntN.{pos}
-use lib.ListN.{length, getD}
-use Rattle.tables.specs.Tables.{sizesFit, marksFit, columnsOf}
+use lib.ListN.{length, getD, drop}
+use Rattle.tables.specs.Tables.{sizesFit, marksFit, columnsOf, rowCount, tablesOf}
+use Rattle.tables.specs.Refusals.{Refused, Given, firstApplying}
 use Rattle.tables.specs.Values.{judgedLevels}
 use Rattle.rule.specs.Tokens.{tokensOf, opensFit}
 use Rattle.rule.specs.Condition.{WrittenCondition, Rule, parts, fromsDeep}
@@ -15,8 +16,9 @@ use Rattle.rule.specs.Grammar.{Tokens, Reads}
 use Rattle.rule.specs.Reader.{readAll}
 use Rattle.rule.specs.Names.{mostParts, mostFroms, outermost, ruleIn, Fits, Scoped}
 use Rattle.rule.specs.Parts.{Part, partsFrom, partsOf, ruleOfParts}
-use Rattle.rule.specs.Calls.{mostBytes, ruleOf, readingRefusals, Accepted, judgeRefusals}
-use Rattle.rule.specs.Cases.{cases, judgedAt, expectedAt, testCases, partsCases, partsRead, partsGiven, edges, refusalAt}
+use Rattle.rule.specs.Meaning.{judged}
+use Rattle.rule.specs.Calls.{mostBytes, ruleOf, readingRefusals, Accepted, readCall, judgeRefusals, judgeCall}
+use Rattle.rule.specs.Cases.{cases, judgedAt, expectedAt, testCases, partsCases, partsRead, partsGiven, everyWord, everyToken, edges, refusalAt}
 
 -- the reader finds a reading exactly when the grammar has one, and no tokens have two
 pub record ReadingClaim : Type 0 where
@@ -57,11 +59,26 @@ pub record AcceptedAs (text file : List ℕ) : Type 0 where
 abbrev pub PartsClaim : Type 0
 PartsClaim = (text file : List ℕ) → Accepted text file → AcceptedAs text file
 
--- a part's end is the number of the first part behind its inner parts; inner parts are the parts of inner rules, so this covers each of them
+-- the end of a rule's first part, which has the number k, is the number of the first part behind all of them; by the definition of
+-- `partsFrom` inner parts are the parts of inner rules, numbered on from k + 1
 abbrev pub EndsClaim : Type 0
 EndsClaim = (r : Rule) (k : ℕ) (d : Part) → getD (partsFrom k r) 0 d .end ≡ k + length (partsFrom k r)
 
--- the refusals of READ and CARD but for 12, and those of JUDGE, in the order in which they win
+-- READ and JUDGE by cases: a refusal of reading is passed up unchanged, with the buffer as it was; of an accepted text, READ gives the parts
+-- unless the buffer has fewer elements, and JUDGE the value unless table 1 has no such row
+pub record CallsClaim : Type 0 where
+  pub read-refused : (text file : List ℕ) (buffer : List Part) (n : ℕ) → firstApplying (readingRefusals text file) ≡ some n
+      → readCall text file buffer ≡ record { result = Refused n; buffer = buffer }
+  pub read-short : (text file : List ℕ) (buffer : List Part) → Accepted text file → (r : Rule) → ruleOf text (columnsOf file) ≡ some r
+      → length buffer < parts r → readCall text file buffer ≡ record { result = Refused 12; buffer = buffer }
+  pub read-given : (text file : List ℕ) (buffer : List Part) → Accepted text file → (r : Rule) → ruleOf text (columnsOf file) ≡ some r
+      → parts r ≤ length buffer → readCall text file buffer ≡ record { result = Given (parts r); buffer = partsOf r ++ drop (parts r) buffer }
+  pub judge-refused : (text file : List ℕ) (row n : ℕ) → firstApplying (readingRefusals text file) ≡ some n → judgeCall text file row ≡ Refused n
+  pub judge-no-row : (text file : List ℕ) (row : ℕ) → Accepted text file → rowCount file 1 ≤ row → judgeCall text file row ≡ Refused 11
+  pub judge-given : (text file : List ℕ) (row : ℕ) → Accepted text file → (r : Rule) → ruleOf text (columnsOf file) ≡ some r
+      → row < rowCount file 1 → judgeCall text file row ≡ Given (judged (tablesOf file) row r)
+
+-- the numbers of the refusals of READ and CARD but for 12, and of JUDGE, in the order in which they are tried
 pub record OrderClaim : Type 0 where
   pub reading : (text file : List ℕ) → map (λ r. r .number) (readingRefusals text file) ≡ 1 ∷ 2 ∷ 3 ∷ 4 ∷ 5 ∷ 6 ∷ 7 ∷ 8 ∷ []
   pub judging : (text file : List ℕ) (row : ℕ) → map (λ r. r .number) (judgeRefusals text file row) ≡ 1 ∷ 2 ∷ 3 ∷ 4 ∷ 5 ∷ 6 ∷ 7 ∷ 8 ∷ 11 ∷ []
@@ -74,9 +91,13 @@ CasesClaim = map judgedAt cases ≡ map expectedAt cases
 abbrev pub PartsCasesClaim : Type 0
 PartsCasesClaim = map partsRead partsCases ≡ map partsGiven partsCases
 
--- comparisons at less, equal and greater, and blanks
+-- comparisons at less, equal and greater, negative numbers, blanks, and precedence
 abbrev pub TestsClaim : Type 0
 TestsClaim = map judgedAt testCases ≡ map expectedAt testCases
+
+-- the words and signs, as they are numbered
+abbrev pub WordsClaim : Type 0
+WordsClaim = tokensOf everyWord ≡ some everyToken
 
 -- the texts at the edges of the refusals, together
 abbrev pub EdgesClaim : Type 0

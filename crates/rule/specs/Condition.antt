@@ -1,4 +1,4 @@
--- Document 01, Rule text: a condition as a tree. Brackets are gone, and OR and AND join two conditions each.
+-- Document 01, Rule text: a condition as a tree. It has no brackets, and OR and AND join two conditions each.
 use Prim.Native.Nat.{ℕ, _+_, max}
 use lib.IntN.{ℤ}
 use Rattle.tables.specs.Values.{Value, Comparison, Connective, Quantifier}

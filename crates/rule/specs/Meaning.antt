@@ -1,4 +1,4 @@
--- Document 01, Meaning: the value of a rule with each level at a row: true, false or unknown. Nothing here knows of cards.
+-- Document 01, Meaning: the value of a rule with each level at a row: true, false or unknown. Cards are not mentioned here.
 use mathlib.Core.Bool.{Bool, true, false, not, cond}
 use mathlib.Core.List.{List, map}
 use Prim.Native.Nat.{ℕ}
@@ -72,8 +72,8 @@ test3 env (IsNotNull l) = truth (not (isBlank (cellOf env l)))
 -- ---- subqueries
 
 -- the values that a comparison takes over the retained rows, as one.
--- SOME looks for a true one, then for an unknown one, and is false without either; ALL looks for a false one, then for an unknown one, and is
--- true without either. So over no rows SOME is false and ALL is true.
+-- SOME: true if one is true, else unknown if one is unknown, else false. ALL: false if one is false, else unknown if one is unknown, else
+-- true. So over no rows SOME is false and ALL is true.
 abbrev pub over3 : Quantifier → List Truth → Truth
 over3 Some vs = cond (any isTrue vs) True (cond (any isUnknown vs) Unknown False)
 over3 All vs = cond (any isFalse vs) False (cond (any isUnknown vs) Unknown True)

@@ -99,7 +99,7 @@ headOf p =
     (p .kind)
     NotHead
 
--- the rules that start at a part and behind it, where rs are those that start behind it; a part whose inner parts are missing ends it
+-- the rules that a run of parts makes up, one after the other: this part put before those behind it; none, if its inner parts are missing
 abbrev pub onto : Head → List Rule → List Rule
 onto (AtomHead x) rs = Atom x ∷ rs
 onto (JoinHead j) [] = []

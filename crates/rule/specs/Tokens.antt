@@ -177,7 +177,7 @@ abbrev pub andThen : Option Lexed → (ℕ → Option (List Token)) → Option (
 andThen none behind = none
 andThen (some x) behind = Option·map (λ ts. x .0 ∷ ts) (behind (pred (x .1)))
 
--- the tokens of a text, of whose first bytes n belong to a token found already; none: refusal 4
+-- the tokens of a text, of whose bytes the first n belong to a token found already; none: refusal 4
 unfoldable pub tokensAfter : ℕ → List ℕ → Option (List Token)
 tokensAfter n [] = some []
 tokensAfter (suc n) (b ∷ bs) = tokensAfter n bs
@@ -186,7 +186,7 @@ tokensAfter zero (b ∷ bs) = elim (isGap b) [ true ↦ tokensAfter 0 bs | false
 unfoldable pub tokensOf : List ℕ → Option (List Token)
 tokensOf text = tokensAfter 0 text
 
--- ---- refusal 5: more than 32 brackets open after some token
+-- ---- refusal 5: how many more ( than ) there may be up to a token
 
 abbrev pub mostOpen : ℤ
 mostOpen = pos 32

@@ -1,7 +1,7 @@
 -- The sample file, and the files at the edges of the refusals, each as one computed fact.
 use mathlib.Core.Path.{refl}
 use Rattle.tables.specs.Cases.{edges, sizeEdges}
-use Rattle.tables.specs.Claims.{SampleClaim, SizesClaim, EdgesClaim}
+use Rattle.tables.specs.Claims.{SampleClaim, ComparisonsClaim, SizesClaim, EdgesClaim}
 use Rattle.tables.proofs.Opened.{opened}
 
 pub sample-claim : SampleClaim
@@ -15,3 +15,6 @@ edges-claim = refl
 pub sizes-claim : SizesClaim
 unfolding opened sizeEdges
 sizes-claim = refl
+
+pub comparisons-claim : ComparisonsClaim
+comparisons-claim = refl

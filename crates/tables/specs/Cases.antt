@@ -1,11 +1,12 @@
 -- A tables file and what it holds, and files at the edges of refusals 1 and 2.
 use mathlib.Core.Bool.{Bool, true, false}
-use mathlib.Core.List.{List, [], _∷_, _++_}
+use mathlib.Core.List.{List, [], _∷_, _++_, map}
 use mathlib.Core.Option.{Option, none, some}
 use Prim.Native.Nat.{ℕ, zero, suc}
-use lib.IntN.{pos, negsuc}
+use lib.IntN.{ℤ, pos, negsuc}
 use lib.ListN.{replicate}
 use Rattle.tables.specs.Tables.{Blank, Present, Tables}
+use Rattle.tables.specs.Values.{comparisonOf, holds}
 use Rattle.tables.specs.Refusals.{firstApplying, tablesRefusals}
 
 -- table 1 of two columns and two rows, table 2 of one column and no rows, table 3 of one column and one row
@@ -46,7 +47,8 @@ edges =
     ([] refused 1) ∷ ((0 ∷ []) refused 1) ∷ accepted (8 ∷ empties 8) ∷ ((9 ∷ empties 9) refused 1)
     ∷ ((1 ∷ 0 ∷ 0 ∷ 0 ∷ []) refused 1) ∷ accepted (1 ∷ 16 ∷ 0 ∷ 0 ∷ []) ∷ ((1 ∷ 17 ∷ 0 ∷ 0 ∷ []) refused 1)
     ∷ ((1 ∷ 1 ∷ 1 ∷ 0 ∷ replicate 4 0) refused 1) ∷ accepted (1 ∷ 1 ∷ 1 ∷ 0 ∷ replicate 5 0) ∷ ((1 ∷ 1 ∷ 1 ∷ 0 ∷ replicate 6 0) refused 1)
-    ∷ accepted (1 ∷ 1 ∷ 1 ∷ 0 ∷ replicate 5 1) ∷ ((1 ∷ 1 ∷ 1 ∷ 0 ∷ replicate 5 2) refused 2) ∷ ((1 ∷ 1 ∷ 1 ∷ 0 ∷ replicate 6 2) refused 1) ∷ []
+    ∷ accepted (1 ∷ 1 ∷ 1 ∷ 0 ∷ replicate 5 1) ∷ ((1 ∷ 1 ∷ 1 ∷ 0 ∷ replicate 5 2) refused 2) ∷ ((1 ∷ 1 ∷ 1 ∷ 0 ∷ replicate 6 2) refused 1)
+    ∷ accepted ((1 ∷ 2 ∷ 1 ∷ 0 ∷ replicate 8 9) ++ (0 ∷ 1 ∷ [])) ∷ (((1 ∷ 2 ∷ 1 ∷ 0 ∷ replicate 8 9) ++ (0 ∷ 2 ∷ [])) refused 2) ∷ []
 
 -- ---- sizes alone, on files that are long: whether refusal 1 applies
 
@@ -54,14 +56,44 @@ pub record SizeEdge : Type 0 where
   pub sized : List ℕ
   pub fits : Bool
 
--- 1,000 rows and 1,001; 8,192 cells and 8,193: a table of 1,000 rows and 8 columns and one of a column and 192 or 193 rows
+-- 1,000 rows and 1,001, in table 1 and in table 2; 8,192 cells and 8,193: a table of 1,000 rows and 8 columns and one of a column and 192 or 193 rows
 unfoldable pub sizeEdges : List SizeEdge
 sizeEdges =
     record { sized = (1 ∷ 1 ∷ 232 ∷ 3 ∷ []) ++ replicate 5000 0; fits = true }
     ∷ record { sized = (1 ∷ 1 ∷ 233 ∷ 3 ∷ []) ++ replicate 5005 0; fits = false }
+    ∷ record { sized = (2 ∷ 1 ∷ 0 ∷ 0 ∷ 1 ∷ 233 ∷ 3 ∷ []) ++ replicate 5005 0; fits = false }
     ∷ record { sized = (2 ∷ 8 ∷ 232 ∷ 3 ∷ 1 ∷ 192 ∷ 0 ∷ []) ++ replicate 40960 0; fits = true }
     ∷ record { sized = (2 ∷ 8 ∷ 232 ∷ 3 ∷ 1 ∷ 193 ∷ 0 ∷ []) ++ replicate 40965 0; fits = false }
     ∷ []
 
 abbrev pub refusalAt : Edge → Option ℕ
 refusalAt e = firstApplying (tablesRefusals (e .input))
+
+-- ---- two numbers, and what = <> < <= > >= say of them
+
+pub record Compared : Type 0 where
+  pub left : ℤ
+  pub right : ℤ
+  pub says : List Bool
+
+abbrev than : ℤ → ℤ → List Bool → Compared
+than x y bs = record { left = x; right = y; says = bs }
+
+abbrev equal : List Bool
+equal = true ∷ false ∷ false ∷ true ∷ false ∷ true ∷ []
+
+abbrev less : List Bool
+less = false ∷ true ∷ true ∷ true ∷ false ∷ false ∷ []
+
+abbrev greater : List Bool
+greater = false ∷ true ∷ false ∷ false ∷ true ∷ true ∷ []
+
+abbrev pub comparisons : List Compared
+comparisons =
+    than (pos 3) (pos 3) equal ∷ than (pos 2) (pos 3) less ∷ than (pos 3) (pos 2) greater
+    ∷ than (negsuc 2) (negsuc 2) equal ∷ than (negsuc 3) (negsuc 2) less ∷ than (negsuc 2) (negsuc 3) greater
+    ∷ than (negsuc 2) (pos 2) less ∷ than (pos 2) (negsuc 2) greater ∷ than (negsuc 0) (pos 0) less ∷ than (pos 0) (negsuc 0) greater
+    ∷ than (negsuc 2147483647) (pos 2147483647) less ∷ []
+
+abbrev pub comparedSays : Compared → List Bool
+comparedSays c = map (λ n. holds (comparisonOf n) (c .left) (c .right)) (1 ∷ 2 ∷ 3 ∷ 4 ∷ 5 ∷ 6 ∷ [])

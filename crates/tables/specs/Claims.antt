@@ -5,12 +5,17 @@ use mathlib.Core.List.{List, map, List·Memᴰ, IsChain}
 use mathlib.Core.Logic.{_↔_}
 use Prim.Native.Nat.{ℕ, _<_}
 use Rattle.tables.specs.Tables.{rowCount, sizesFit, tablesOf, rowsWhere}
-use Rattle.tables.specs.Cases.{sampleFile, sampleTables, edges, sizeEdges, refusalAt}
+use Rattle.tables.specs.Cases.{sampleFile, sampleTables, edges, sizeEdges, refusalAt, comparisons, comparedSays}
 
 -- the sample file holds the sample tables
 abbrev pub SampleClaim : Type 0
 SampleClaim = tablesOf sampleFile ≡ sampleTables
 
+-- the six comparisons, by their numbers, of less, equal and greater numbers of either sign
+abbrev pub ComparisonsClaim : Type 0
+ComparisonsClaim = map comparedSays comparisons ≡ map (λ c. c .says) comparisons
+
+-- long files at the edges of refusal 1, together
 abbrev pub SizesClaim : Type 0
 SizesClaim = map (λ e. sizesFit (e .sized)) sizeEdges ≡ map (λ e. e .fits) sizeEdges
 

@@ -1,5 +1,5 @@
 -- Document 01, 'Gate says why not', the sentences under the table: which of the refusals that apply is given.
--- A call lists its refusals in the order in which they win; a later refusal is put into that list at its place.
+-- A call lists its refusals in the order in which they are tried; a refusal that is added later is put into that list at its place.
 use mathlib.Core.Bool.{Bool, true, false, not}
 use mathlib.Core.List.{List, [], _∷_, _++_}
 use mathlib.Core.Option.{Option, none, some}

@@ -63,10 +63,11 @@ holds Ge x y = leZ y x
 abbrev pub Env : Type 0
 Env = List Row
 
--- level 0 stands at the judged row of table 1: the tables of the levels, and their rows
+-- the table of each level around a whole rule: level 0 has table 1
 abbrev pub judgedLevels : List ℕ
 judgedLevels = 1 ∷ []
 
+-- the row of each level there: the judged row
 abbrev pub judgedRow : Tables → ℕ → Env
 judgedRow ts row = getD (rowsOf ts 1) row [] ∷ []
 

@@ -6,7 +6,7 @@ use Rattle.rule.specs.Cases.{chained}
 use Rattle.translation.specs.Translation.{negated, cardOf}
 use Rattle.translation.specs.Calls.{ruleBytes, cardCall}
 use Rattle.translation.specs.Cases.{workedText, fullText, thirdCard, readRefusal, refusalExamples}
-use Rattle.translation.specs.Claims.{WorkedCardClaim, FullCardClaim, GateCaseClaim, RefusalsClaim}
+use Rattle.translation.specs.Claims.{WorkedCardClaim, FullCardClaim, LaterCaseClaim, GateCaseClaim, RefusalsClaim}
 
 pub worked-card-claim : WorkedCardClaim
 unfolding card-opened rule-opened negated cardOf ruleBytes cardCall workedText
@@ -15,6 +15,10 @@ worked-card-claim = refl
 pub full-card-claim : FullCardClaim
 unfolding card-opened rule-opened negated cardOf ruleBytes cardCall fullText
 full-card-claim = refl
+
+pub later-case-claim : LaterCaseClaim
+unfolding card-opened rule-opened
+later-case-claim = record { no-refusal = refl; same-columns = refl }
 
 pub gate-case-claim : GateCaseClaim
 unfolding card-opened rule-opened negated cardOf ruleBytes cardCall thirdCard

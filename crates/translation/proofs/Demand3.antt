@@ -13,7 +13,7 @@ use Rattle.tables.specs.Bytes.{between}
 use Rattle.tables.specs.Tables.{columnsOf, rowCount, tablesOf, rowsWhere}
 use Rattle.tables.specs.Values.{judgedLevels, judgedRow}
 use Rattle.tables.specs.Refusals.{Given, firstApplying, lend, tablesRefusals, rowRefusal}
-use Rattle.tables.proofs.Refusals.{first-nil, first-none, first-append, lend-short, lend-long, unless-none}
+use Rattle.tables.proofs.Refusals.{first-nil, first-none, first-append, lend-short, lend-long, lend-refused, unless-none}
 use Rattle.tables.proofs.Sizes.{columns-count, columns-fit, same-refl, same-columns-is}
 use Rattle.card.specs.Card.{AsNo, Card, LeafEntry, PairEntry, RowEntry, entries}
 use Rattle.card.specs.Layout.{cardLength, columnsIn}
@@ -28,7 +28,7 @@ use Rattle.rule.specs.Claims.{AcceptedAs}
 use Rattle.rule.proofs.Accepted.{accepted-allowed, parts-claim}
 use Rattle.translation.specs.Translation.{ruleCard}
 use Rattle.translation.specs.Calls.{ruleBytes, cardCall}
-use Rattle.translation.specs.Claims.{Demand3Claim}
+use Rattle.translation.specs.Claims.{CardRefusedClaim, Demand3Claim}
 use Rattle.translation.specs.Demand3.{Later, trueAt, publishedLength, CardClaim, RunClaim, trueRows, ListClaim}
 use Rattle.translation.proofs.Sums.{sum-claim, card-sum}
 use Rattle.translation.proofs.Says.{translation-claim}
@@ -141,3 +141,7 @@ demand-3-claim text file e = record {
   runs = runs text file e;
   listings = listing text file e;
 }
+
+pub card-refused-claim : CardRefusedClaim
+unfolding cardCall
+card-refused-claim text file buffer n e = lend-refused (readingRefusals text file) _ buffer e

@@ -3,6 +3,7 @@ use mathlib.Core.List.{List, [], _∷_, _++_, map}
 use mathlib.Core.Option.{Option, none, some}
 use Prim.Native.Nat.{ℕ}
 use lib.ListN.{replicate}
+use Rattle.tables.specs.Bytes.{bytes32}
 use Rattle.tables.specs.Refusals.{Answer, Refused, Given}
 use Rattle.card.specs.Calls.{checkCall, runCall}
 use Rattle.rule.specs.Tokens.{bytes}
@@ -49,6 +50,14 @@ fullCard =
     ∷ 15 ∷ 0 ∷ 0 ∷ 3 ∷ 1 ∷ 1 ∷ 0 ∷ 0 ∷ 0 ∷ 2 ∷ 1 ∷ 0 ∷ 0 ∷ 0
     ∷ 16 ∷ 0 ∷ 0 ∷ 1 ∷ 0 ∷ 2 ∷ 0 ∷ 0 ∷ 0 ∷ 1 ∷ 1 ∷ 0 ∷ 0 ∷ 0
     ∷ []
+
+-- ---- a later file for the tables of the proved cases
+
+abbrev pub laterTables : List ℕ
+laterTables =
+    (3 ∷ 2 ∷ 1 ∷ 0 ∷ 1 ∷ 0 ∷ 0 ∷ 1 ∷ 2 ∷ 0 ∷ [])
+    ++ (bytes32 4000000000 ++ bytes32 0 ++ bytes32 17 ++ bytes32 18)
+    ++ (1 ∷ 0 ∷ 0 ∷ 1 ∷ [])
 
 -- ---- RUN and LIST on the card of case 3, which is true on rows 0 and 2
 

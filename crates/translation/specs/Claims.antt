@@ -2,23 +2,24 @@
 use mathlib.Core.Path.{_≡_}
 use mathlib.Core.Bool.{true, false, not}
 use mathlib.Core.List.{List, [], _∷_, _++_, map}
+use mathlib.Core.Option.{some}
 use Prim.Native.Nat.{ℕ}
 use lib.ListN.{length, replicate}
 use Rattle.tables.specs.Tables.{Tables}
 use Rattle.tables.specs.Values.{Env}
-use Rattle.tables.specs.Refusals.{Refused, Given}
+use Rattle.tables.specs.Refusals.{Refused, Given, firstApplying}
 use Rattle.card.specs.Card.{AsNo, AsYes, Card, answer, entries}
 use Rattle.card.specs.Calls.{runCall, listCall}
 use Rattle.card.specs.Cases.{workedCard}
 use Rattle.rule.specs.Cases.{caseTables}
 use Rattle.rule.specs.Condition.{Rule}
 use Rattle.rule.specs.Names.{Scoped}
-use Rattle.rule.specs.Calls.{Accepted}
+use Rattle.rule.specs.Calls.{readingRefusals, Accepted}
 use Rattle.rule.specs.Meaning.{isTrue, isFalse, meaning}
 use Rattle.translation.specs.Translation.{negated, cardOf, ruleCard, entrySum}
 use Rattle.translation.specs.Calls.{cardCall}
-use Rattle.translation.specs.Demand3.{Demand3For}
-use Rattle.translation.specs.Cases.{workedText, workedTables, fullText, fullCard, thirdCard, refusalExamples, refusalNumbers}
+use Rattle.translation.specs.Demand3.{Later, Demand3For}
+use Rattle.translation.specs.Cases.{workedText, workedTables, fullText, fullCard, laterTables, thirdCard, refusalExamples, refusalNumbers}
 
 -- for every rule whose levels exist, all tables and rows: false-interpreted, the card says yes exactly where the rule is true;
 -- true-interpreted, it says no exactly where the rule is false; and negating any card negates its answer
@@ -49,6 +50,15 @@ pub record GateCaseClaim : Type 0 where
 -- the examples of the refusal table, together
 abbrev pub RefusalsClaim : Type 0
 RefusalsClaim = refusalExamples ≡ refusalNumbers
+
+-- CARD passes a refusal of reading up unchanged, with the buffer as it was
+abbrev pub CardRefusedClaim : Type 0
+CardRefusedClaim = (text file buffer : List ℕ) (n : ℕ) → firstApplying (readingRefusals text file) ≡ some n
+    → cardCall text file buffer ≡ record { result = Refused n; buffer = buffer }
+
+-- other row counts, values and marks make a later file: the tables of the proved cases, and three with one, no and two rows
+abbrev pub LaterCaseClaim : Type 0
+LaterCaseClaim = Later caseTables laterTables
 
 -- what demand 3 compares, whole: one claim over all rules, files, rows and lent buffers
 abbrev pub Demand3Claim : Type 0

@@ -24,7 +24,7 @@ pub record Later (file later : List ℕ) : Type 0 where
 abbrev pub trueAt : List ℕ → Rule → ℕ → Bool
 trueAt later r row = isTrue (judged (tablesOf later) row r)
 
--- the bytes that a card takes
+-- how many bytes the rule's card takes: 3 + T + 15n
 abbrev pub publishedLength : List ℕ → Rule → ℕ
 publishedLength file r = cardLength (tableCount file) (entrySum r)
 
