@@ -1,0 +1,469 @@
+"""Cases of the six calls, with the model's answers: random draws, and targeted cases at the limits of document 01."""
+import itertools
+from dataclasses import dataclass
+
+import generate
+import model
+
+CALLS = ("READ", "JUDGE", "CARD", "CHECK", "RUN", "LIST")
+READING_CALLS = ("READ", "JUDGE", "CARD")
+LENDING_CALLS = ("READ", "CARD", "LIST")
+AMPLE_ROOM = 10000
+UNTOUCHED_PART = model.Part(77, 66, 55, 44, model.TaggedValue(33, -5), model.TaggedValue(22, 11))
+UNTOUCHED_NUMBER = 99
+
+
+@dataclass(frozen=True)
+class Case:
+    """One call. `source` is the text of READ, JUDGE and CARD, and the card of CHECK, RUN and LIST.
+
+    JUDGE and RUN have a row; READ, CARD and LIST have a lent buffer, as it is before the call.
+    """
+    call: str
+    source: bytes
+    file: bytes = b""
+    row: int = 0
+    buffer: tuple = ()
+
+
+@dataclass(frozen=True)
+class Expected:
+    """What a call answers, and what its buffer holds afterwards. An answer in a buffer is its number of elements."""
+    result: object
+    buffer: tuple = ()
+
+
+def answer_of(case):
+    """The model's answer."""
+    room = len(case.buffer)
+    if case.call == "READ":
+        return model.read(case.source, case.file, room)
+    if case.call == "JUDGE":
+        return model.judge(case.source, case.file, case.row)
+    if case.call == "CARD":
+        return model.card(case.source, case.file, room)
+    if case.call == "CHECK":
+        return model.check(case.source)
+    if case.call == "RUN":
+        return model.run(case.source, case.file, case.row)
+    return model.list_rows(case.source, case.file, room)
+
+
+def expected(case):
+    """The model's answer, with the whole buffer: a refusal leaves it, and so does an answer past its end."""
+    answer = answer_of(case)
+    if case.call not in LENDING_CALLS:
+        return Expected(answer)
+    if isinstance(answer, model.Refused):
+        return Expected(answer, case.buffer)
+    return Expected(len(answer), tuple(answer) + case.buffer[len(answer):])
+
+
+def outcome(case):
+    """A short name for the sort of answer."""
+    result = expected(case).result
+    if isinstance(result, model.Refused):
+        return f"refused {result.number}"
+    return "given" if case.call in LENDING_CALLS else f"given {result}"
+
+
+# ---- building cases
+
+def lent(call, room):
+    """A buffer of a call, with content that no answer has."""
+    return (UNTOUCHED_PART if call == "READ" else UNTOUCHED_NUMBER,) * room
+
+
+def answer_length(call, source, file):
+    """The elements that a lending call's answer has; 0 for a refusal."""
+    answer = answer_of(Case(call, source, file, buffer=lent(call, AMPLE_ROOM)))
+    return 0 if isinstance(answer, model.Refused) else len(answer)
+
+
+def fitting(call, source, file, more=0):
+    """A case of a lending call whose buffer has as many elements as the answer, and `more` (or fewer, below 0).
+
+    A refusal and an empty answer get a buffer too, which has to stay as it is.
+    """
+    length = answer_length(call, source, file)
+    room = max(0, length + more) if length > 0 else 2
+    return Case(call, source, file, buffer=lent(call, room))
+
+
+def row_count(file):
+    """The rows of table 1 of a right tables file."""
+    return len(model.tables_of(file).rows_of(1))
+
+
+# ---- random draws
+
+def drawn_text(random, call, columns):
+    """A text for READ, JUDGE or CARD: more often a right one for the calls that answer more."""
+    if random.random() < .01:
+        return bytes([random.choice(b" \n(@")]) * random.choice([4096, 4097, 5000])
+    if random.random() < {"READ": .45, "JUDGE": .8, "CARD": .75}[call]:
+        return generate.short_rule(random, columns, [1, 1, 2, 2, 3, 4, 5], 140, wild=random.choice([0, 0, 0, .05, .15]))
+    return generate.damaged_text(random, columns)
+
+
+def drawn_room(random, call, source, file):
+    """The change to the fitting number of elements."""
+    if random.random() < .88:
+        return random.choice([0, 0, 1, 3])
+    return -random.randint(1, max(1, answer_length(call, source, file)))
+
+
+def drawn_reading(random, call):
+    """A case of READ, JUDGE or CARD."""
+    file = generate.random_tables(random)
+    text = drawn_text(random, call, model.tables_of(file).columns)
+    row = row_count(file) + random.choice([0, 1, 1000, 70000])
+    if random.random() < .93 and row_count(file) > 0:
+        row = random.randrange(row_count(file))
+    if random.random() < .05:
+        file = generate.damaged_tables(random, file)
+    if call == "JUDGE":
+        return Case(call, text, file, row=row)
+    return fitting(call, text, file, drawn_room(random, call, text, file))
+
+
+def drawn_card(random, columns, bad):
+    """A card of a rule, or one that is drawn by itself."""
+    if random.random() < .5:
+        return generate.random_card(random, columns, bad)
+    file = generate.tables_file([(count, []) for count in columns])
+    while True:
+        text = generate.short_rule(random, columns, [1, 1, 2, 3, 4], 140)
+        sheet = model.card(text, file, 250)
+        if not isinstance(sheet, model.Refused):
+            return sheet
+
+
+def drawn_check(random):
+    """A case of CHECK."""
+    if random.random() < .05:
+        return Case("CHECK", bytes(random.randrange(6) for _ in range(random.randint(0, 40))))
+    columns = model.tables_of(generate.random_tables(random)).columns
+    sheet = drawn_card(random, columns, random.choice([0, .05, .1]))
+    if random.random() < .65:
+        sheet = generate.damaged_card(random, sheet)
+    return Case("CHECK", sheet)
+
+
+def drawn_running(random, call):
+    """A case of RUN or LIST, mostly with a later file."""
+    columns = model.tables_of(generate.random_tables(random)).columns
+    sheet = drawn_card(random, columns, random.choice([0, 0, .05]))
+    if random.random() < .08:
+        sheet = generate.damaged_card(random, sheet)
+    file = generate.later_tables(random, columns)
+    if random.random() < .06:
+        file = generate.random_tables(random)
+    row = row_count(file) + random.choice([0, 0, 5, 999])
+    if random.random() < .9 and row_count(file) > 0:
+        row = random.randrange(row_count(file))
+    if random.random() < .05:
+        file = generate.damaged_tables(random, file)
+    if call == "RUN":
+        return Case(call, sheet, file, row=row)
+    return fitting(call, sheet, file, drawn_room(random, call, sheet, file))
+
+
+def drawn(random, call):
+    """A random case of a call."""
+    if call == "CHECK":
+        return drawn_check(random)
+    return drawn_reading(random, call) if call in READING_CALLS else drawn_running(random, call)
+
+
+def drawn_truths(random, count):
+    """Cases of JUDGE on tables with many blanks, `count` for each truth value."""
+    cases = []
+    missing = {model.TRUE: count, model.FALSE: count, model.UNKNOWN: count}
+    while any(missing.values()):
+        cells = [0, 1, -1, None, None]
+        tables = []
+        for _ in range(3):
+            columns = random.choice([1, 2, 3])
+            rows = [[random.choice(cells) for _ in range(columns)] for _ in range(random.choice([1, 2, 3]))]
+            tables.append((columns, rows))
+        text = generate.short_rule(random, [columns for columns, _ in tables], [1, 2, 3, 5], 250)
+        case = Case("JUDGE", text, generate.tables_file(tables), row=random.randrange(len(tables[0][1])))
+        truth = expected(case).result
+        if missing.get(truth, 0) > 0:
+            missing[truth] -= 1
+            cases.append(case)
+    return cases
+
+
+# ---- targeted cases: texts
+
+SOME_TABLES = generate.tables_file([(2, [[1, None], [-2, 2], [None, 0]]), (1, [[1], [None]]), (3, [])])
+
+TRAP_TEXTS = (
+    # tokens
+    b"", b" \n ", b"ab", b"ANDOR", b"1-2", b"1 = 1-2", b"1=1 AND1=1", b"1=1AND 1=1OR NOT2=2", b"1 = 00000000001",
+    b"1 = 0000000001", b"1 = -2147483648", b"1 = -2147483649", b"1=2147483648", b"1=2147483647", b"1=--1", b"- 1=1", b"-",
+    b"99999999999", b"0=-0", b"1=1 @", b"1=1\r\nAND 1=1", b"1=1\tAND 1=1", b"1=1;", b"M.1=1", b"m.1 = 1 and 1=1", b"m,1=1",
+    b"\x80", b"\xc3\xa4=1", b"m.1 ISNULL", b"m.1IN(SELECTm.1FROM1mWHERE1=1)", b"m.1IN(SELECT m.1FROM1mWHERE1=1)",
+    b"m.1IN(SELECT 1FROM-1mWHERE-1=-1)",
+    # comparisons
+    b"m.1<>1", b"m.1< >1", b"m.1<=1", b"m.1< =1", b"m.1=<1", b"m.1==1", b"m.1>=1", b"m.1> =1", b"m.1><1", b"1=m.1",
+    b"1 <> ALL (SELECT 1 FROM 1 m WHERE 1=1)", b"1 < > ALL (SELECT 1 FROM 1 m WHERE 1=1)",
+    # brackets
+    b")" + b"(" * 33, b"(" * 33, b"(" * 32, b"(" * 33 + b"@", b"1 = 1 OR (", b"1 = 1)", b"(1=1", b"((1=1)", b"()", b"(1)=1",
+    # values and names
+    b"k.1=1", b"k.1=", b"m.-1 = 1", b"m.0=1", b"m.1 =", b"m . 1 = 1", b"m.1.1=1", b"m.2=1", b"m.3=1", b"m.16=1", b"m.17=1",
+    b"m.2147483647=1", b"m.-2147483648=1", b"m.m=1", b"m.=1", b".1=1", b"m1=1", b"m.1=m",
+    # tests
+    b"m.1 IS NULL", b"m.1 IS NOT NULL", b"1 IS NULL", b"NOT 1 IS NOT NULL", b"1 IS NOT NOT NULL", b"m.1 = 1 IS NULL",
+    b"m.1 NOT IN(SELECT 1 FROM 1 v WHERE 1=1)", b"NOT m.1 IN (SELECT m.1 FROM 1 m WHERE m.1=1)",
+    b"1 NOT NOT IN (SELECT 1 FROM 1 m WHERE 1=1)", b"1 = SOME (SELECT 1 FROM 1 m WHERE 1=1)",
+    b"1 = ANY (SELECT 1 FROM 1 m WHERE 1=1)", b"m.1 = (SELECT 1 FROM 1 m WHERE 1=1)",
+    b"EXISTS (SELECT 1 FROM 1 m WHERE 1=1)", b"EXISTS (FROM 1 m)", b"EXISTS (FROM m WHERE 1=1)",
+    b"EXISTS (FROM 1 mm WHERE 1=1)", b"EXISTS (FROM -1 m WHERE 1=1)", b"EXISTS (FROM 9 v WHERE v.1=1)",
+    # scopes
+    b"EXISTS (FROM 1 v WHERE 1=1) AND v.1=1", b"v.1 IN (SELECT v.1 FROM 1 v WHERE 1=1)",
+    b"1 IN (SELECT v.1 FROM 1 w WHERE 1=1)", b"EXISTS(FROM 1 m WHERE k.1=1) @",
+    # grouping
+    b"1=1 OR", b"OR 1=1", b"1=1 1=1", b"1 OR 1", b"NOT", b"NOT NOT 1=1", b"1=1 OR 1=1 OR 1=1", b"1=1 OR (1=1 OR 1=1)",
+    b"1=1 AND 2=2 AND 3=3", b"1=1 AND 2=2 OR 3=3 AND 4=4 OR 5=5", b"1 = 1 AND (2 = 2 OR NOT (3 = 3))", b"1=1 WHERE",
+    b"1=1 OR x",
+)
+
+
+def trap_cases():
+    """Texts that a reader easily takes wrongly: READ, and where they are rules, JUDGE and CARD too."""
+    cases = []
+    for text in TRAP_TEXTS:
+        read = fitting("READ", text, SOME_TABLES, 1)
+        cases.append(read)
+        if outcome(read) == "given":
+            cases.append(fitting("READ", text, SOME_TABLES, -1))
+            cases.append(Case("JUDGE", text, SOME_TABLES, row=1))
+            cases.append(fitting("CARD", text, SOME_TABLES, 2))
+    return cases
+
+
+def bracket_cases():
+    """Opening less closing brackets around 32, also where the difference was below 0 before."""
+    texts = []
+    for before, opened in itertools.product((0, 1, 5), (32, 33)):
+        nested = b"(" * opened + b"1=1" + b")" * opened
+        texts += [
+            b")" * before + b"(" * (opened + before),
+            b")" * before + nested,
+            nested + b"@" * before,
+            b"1=1 OR" + b"(" * opened + b"1=1" + b")" * before + b"(" * before + b")" * opened,
+            b"EXISTS(FROM 1 v WHERE " + b"(" * (opened - 1) + b"1=1" + b")" * opened + b")" * before,
+            b"1 IN(SELECT 1 FROM 1 v WHERE " + b"(" * (opened - 1) + b"1=1" + b")" * opened + b")" * before,
+        ]
+    return [fitting("READ", text, SOME_TABLES) for text in texts]
+
+
+def part_limit_cases():
+    """Rules around 64 parts, with an error of another number beside."""
+    texts = []
+    for count, word in itertools.product((32, 33), (b" OR ", b" AND ")):
+        chain = word.join([b"1=1"] * count)
+        texts += [chain + tail for tail in (b"", b" OR", b" @", b")", b" OR k.1=1", b" OR NOT 1=1")]
+    for count in (62, 63, 64, 200):
+        texts += [b"NOT " * count + tail for tail in (b"1=1", b"", b"k.1=1", b"m.1 IS NOT NULL")]
+    cases = [fitting("READ", text, SOME_TABLES) for text in texts]
+    cases += [fitting("CARD", b"NOT " * count + b"m.2 < 5", SOME_TABLES) for count in (62, 63, 64)]
+    cases += [fitting("CARD", b" OR ".join([b"1=1"] * count), SOME_TABLES) for count in (32, 33)]
+    return cases
+
+
+def text_length_cases():
+    """Texts around 4,096 bytes, and long numbers."""
+    texts = (
+        b"1=1" + b" " * 4093, b"1=1" + b" " * 4094, b" " * 4093 + b"1=1", b"\n" * 4094 + b"1=1", b" " * 4096, b" " * 4097,
+        b"@" * 4096, b"@" * 4097, b"(" * 4096, b"1=1" + b" " * 4092 + b"@", b"0" * 10 + b"=" + b"0" * 10, b"0" * 11 + b"=1",
+        b"1=" + b"9" * 4094, b"A" * 4096, b"a" * 4096)
+    return [fitting("READ", text, SOME_TABLES) for text in texts]
+
+
+# ---- targeted cases: tables
+
+def zero_tables(sizes, first_mark=0, more=0):
+    """A file whose cells are all 0, with the first mark given, and `more` bytes than fit (or fewer, below 0)."""
+    cells = sum(columns * rows for columns, rows in sizes)
+    head = bytes([len(sizes)])
+    for columns, rows in sizes:
+        head += bytes([columns]) + rows.to_bytes(2, "little")
+    body = bytearray(5 * cells)
+    if cells:
+        body[4 * cells] = first_mark
+    return (head + bytes(body) + bytes(max(0, more)))[:len(head) + len(body) + more]
+
+
+def table_limit_cases():
+    """Cells around 8,192, rows around 1,000, tables around 8 and columns around 16, with sizes that fit or not."""
+    cases = []
+    for sizes in ([(16, 512), (1, 1)], [(16, 512), (1, 0)], [(1, 1000)], [(1, 1001)], [(16, 513)], [(1, 1000)] * 8, [(1, 256)]):
+        for more in (-1, 0, 1):
+            case = Case("JUDGE", b"m.1=0", zero_tables(sizes, 2, more))
+            cells = sum(columns * rows for columns, rows in sizes)
+            if cells <= 1000 or outcome(case) == "refused 1":
+                cases.append(case)
+    file = zero_tables([(1, 257)])
+    cases += [Case("JUDGE", b"m.1=0", file, row=row) for row in (256, 257)]
+    for count in (0, 1, 7, 8, 9, 255):
+        file = bytes([count]) + bytes([1, 0, 0]) * count
+        cases += [fitting("READ", b"1=1", changed) for changed in (file, file + b"\0", file[:-1], file[:1])]
+        cases += [fitting("CARD", b"EXISTS(FROM %d v WHERE v.1=1)" % table, file) for table in (8, 9)]
+    for columns in (0, 1, 16, 17, 255):
+        for column in (columns - 1, columns, columns + 1):
+            cases.append(fitting("READ", b"m.%d=1" % column, bytes([1, columns, 0, 0])))
+            cases.append(fitting("READ", b"EXISTS(FROM 2 v WHERE v.%d IS NULL)" % column, bytes([2, 3, 0, 0, columns, 0, 0])))
+    return cases
+
+
+# ---- targeted cases: cards
+
+def card_byte_cases():
+    """Every byte of one small card changed to several values; every shorter card, and some longer ones."""
+    file = generate.tables_file([(3, []), (2, [])])
+    sheet = model.card(b"EXISTS (FROM 2 v WHERE v.1 = m.3)", file, AMPLE_ROOM)
+    changed = [sheet]
+    for place, byte in enumerate(sheet):
+        for value in sorted({0, 1, 2, 255, (byte + 1) % 256, (byte - 1) % 256} - {byte}):
+            changed.append(sheet[:place] + bytes([value]) + sheet[place + 1:])
+    changed += [sheet[:length] for length in range(len(sheet))]
+    changed += [sheet + more for more in (b"\0", b"\1", bytes(14), bytes(15), bytes(16), sheet)]
+    return [Case("CHECK", one) for one in changed]
+
+
+LEAF = model.comparison_entry(5, 1, model.TaggedValue(0, 1), model.TaggedValue(255, -7))
+
+
+def chained_entry(leaves, to_the_left):
+    """Leaves under pairs, each of which has a leaf on one side."""
+    entry = LEAF
+    for number in range(leaves - 1):
+        sides = (entry, LEAF) if to_the_left else (LEAF, entry)
+        entry = model.pair_entry(1 + number % 2, *sides)
+    return entry
+
+
+def nested_rows(count, entry):
+    """Row entries around one another, over tables 1 and 2 by turns."""
+    for number in range(count):
+        entry = model.row_entry(3 + number % 2, 1 + number % 2, entry)
+    return entry
+
+
+def card_limit_cases():
+    """Entries around 192, row entries around three, levels, columns, tables and comparisons around theirs."""
+    sheets = []
+    for leaves, to_the_left in itertools.product((96, 97), (False, True)):
+        chain = chained_entry(leaves, to_the_left)
+        sheets += [model.card_bytes(chain, [1]), model.card_bytes(model.row_entry(3, 1, chain), [16] * 8)]
+    for rows, level, column in itertools.product(range(5), range(6), (0, 1, 2, 3)):
+        if abs(level - rows) <= 1:
+            blank = model.blank_entry(7, model.TaggedValue(level, column))
+            sheets.append(model.card_bytes(nested_rows(rows, blank), [2, 1]))
+    for rows in (3, 4):
+        nested = nested_rows(rows, LEAF)
+        sheets += [model.card_bytes(model.pair_entry(1, nested, LEAF), [1, 1])]
+        sheets += [model.card_bytes(model.pair_entry(2, LEAF, nested), [1, 1])]
+    for columns in ([], [1] * 8, [1] * 9, [0], [16], [17], [1, 0], [1, 17]):
+        sheets.append(model.card_bytes(model.blank_entry(8, model.TaggedValue(255, 0)), columns))
+    for comparison in (0, 1, 6, 7):
+        sheets.append(model.card_bytes(model.comparison_entry(6, comparison, LEAF.left, LEAF.right), [1]))
+    for number in (0, 1, 2, 257, 65537, 2**24 + 1, -1, -2**31):
+        sheets.append(model.card_bytes(model.blank_entry(8, model.TaggedValue(0, number)), [1]))
+    return [Case("CHECK", sheet) for sheet in sheets]
+
+
+def row_number_cases():
+    """Rows above 255, for RUN and for LIST with just room enough."""
+    file = generate.tables_file([(1, [[0]] * 256 + [[1], [0]])])
+    sheet = model.card(b"m.1 = 1", file, AMPLE_ROOM)
+    return [Case("RUN", sheet, file, row=row) for row in (256, 257, 258, 65536)] + [fitting("LIST", sheet, file)]
+
+
+def columns_cases():
+    """Cards against tables with other numbers of tables or columns."""
+    shapes = ([1], [2], [1, 1], [1, 2], [2, 1])
+    cases = []
+    for of_card, of_tables in itertools.product(shapes, shapes):
+        sheet = model.card_bytes(LEAF, of_card)
+        file = generate.tables_file([(count, [[-7] * count] * 2) for count in of_tables])
+        cases += [Case("RUN", sheet, file, row=1), fitting("LIST", sheet, file, 1)]
+    return cases
+
+
+# ---- targeted cases: several refusals at once
+
+def text_refused_with(refusals):
+    """A text to which these of the refusals 3 to 8 apply."""
+    text = b"k.1=1" if 8 in refusals else b"1=1"
+    if 7 in refusals:
+        text += b" OR 1=1" * 32
+    if 6 in refusals:
+        text += b" OR"
+    if 5 in refusals:
+        text = b"(" * 33 + text + b")" * 33
+    if 4 in refusals:
+        text += b" @"
+    if 3 in refusals:
+        text += b" " * (4097 - len(text))
+    return text
+
+
+def file_refused_with(refusals):
+    """A tables file with two rows in table 1, to which these of the refusals 1 and 2 apply."""
+    file = bytearray(generate.tables_file([(1, [[1], [1]]), (2, [])]))
+    if 2 in refusals:
+        file[-1] = 2
+    if 1 in refusals:
+        file.append(0)
+    return bytes(file)
+
+
+def card_refused_with(refusals):
+    """A card that admits every row, to which these of the refusals 9 and 10 apply."""
+    always = model.comparison_entry(5, 1, model.TaggedValue(255, 1), model.TaggedValue(255, 1))
+    sheet = model.card_bytes(always, [2 if 10 in refusals else 1, 2])
+    return sheet + b"\0" if 9 in refusals else sheet
+
+
+def refusal_set_case(call, refusals):
+    """A case of a call to which exactly these refusals apply, as far as they can apply together."""
+    file = file_refused_with(refusals)
+    source = text_refused_with(refusals) if call in READING_CALLS else card_refused_with(refusals)
+    if call in ("JUDGE", "RUN"):
+        return Case(call, source, file, row=2 if 11 in refusals else 1)
+    room = {"READ": 1, "CARD": 20, "LIST": 2}[call] - (12 in refusals)
+    return Case(call, source, file, buffer=lent(call, room))
+
+
+REFUSALS_OF = {
+    "READ": (1, 2, 3, 4, 5, 6, 7, 8, 12),
+    "JUDGE": (1, 2, 3, 4, 5, 6, 7, 8, 11),
+    "CARD": (1, 2, 3, 4, 5, 6, 7, 8, 12),
+    "CHECK": (9,),
+    "RUN": (1, 2, 9, 10, 11),
+    "LIST": (1, 2, 9, 10, 12),
+}
+
+
+def refusal_set_cases(random):
+    """For each call: no refusal, each alone, each with all that come after it, and a draw of other sets."""
+    cases = []
+    for call in ("READ", "JUDGE", "CARD", "RUN", "LIST"):
+        refusals = REFUSALS_OF[call]
+        chosen = [()]
+        chosen += [(refusal,) for refusal in refusals]
+        chosen += [refusals[place:] for place in range(len(refusals) - 1)]
+        chosen += [random.sample(refusals, random.randint(2, 3)) for _ in range(8)]
+        cases += [refusal_set_case(call, applying) for applying in chosen]
+    return cases
+
+
+def targeted(random):
+    """All targeted cases."""
+    return (trap_cases() + bracket_cases() + part_limit_cases() + text_length_cases() + table_limit_cases()
+            + card_byte_cases() + card_limit_cases() + row_number_cases() + columns_cases() + refusal_set_cases(random))

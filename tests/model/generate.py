@@ -1,0 +1,488 @@
+"""Random rules, tables and cards, right and damaged, over the grammar and the layouts of document 01.
+
+Every function takes a random.Random first, so that a seed fixes what is drawn. Rules are drawn as lists of written tokens,
+and `spaced` makes a text of them.
+"""
+import model
+
+SMALL_NUMBERS = (-3, 3)
+SIGNS = tuple(model.COMPARISONS)
+EDGE_NUMBERS = ("-2147483648", "2147483647", "0000000001", "-0", "-0000000002", "007", "-2147483647")
+EDGE_CELLS = (-2**31, 2**31 - 1, 2**31 - 2, 255, 256, 65536, -256)
+LOOSE_TOKENS = tuple(sorted(model.WORDS)) + SIGNS + (
+    "(", ")", ".", "m", "v", "1", "2", "-1", "m", "1", "(", ")")
+NO_TOKENS = (
+    "AN", "NOTNOT", "ANDOR", "ISNULL", "A", "@", "\t", "\r", "\x00", "\xff", "-", "--1", "2147483648", "-2147483649",
+    "00000000001", "12345678901", "==", "!=", ",", "+1", "[", "Z", "`", "{", "/", ":", "'")
+TEXT_BYTES = b"ANDORTISEXULFMW mv.12-0()<>=\n 19"
+
+
+def chance(random, probability):
+    """True with a probability."""
+    return random.random() < probability
+
+
+def number_token(random):
+    """A number as it is written."""
+    draw = random.random()
+    if draw < .8:
+        return str(random.randint(*SMALL_NUMBERS))
+    if draw < .88:
+        return random.choice(EDGE_NUMBERS)
+    return str(random.randint(-2**31, 2**31 - 1))
+
+
+# ---- rules
+
+class RuleMaker:
+    """Draws rules as tokens, for tables with given columns.
+
+    `quantified`: whether SOME and ALL are drawn beside IN and NOT IN. `wild`: how often a name is drawn that may be absent.
+    A scope is a list of letters and the tables that they range over, the innermost last.
+    """
+
+    def __init__(self, random, columns, quantified=True, wild=0.0, deepest=3):
+        self.random = random
+        self.columns = columns
+        self.quantified = quantified
+        self.wild = wild
+        self.deepest = deepest
+
+    def rule(self, size):
+        return self.condition([("m", 1)], size, self.deepest)
+
+    def shares(self, size):
+        """A size cut into one to three sizes."""
+        count = min(self.random.choice([1, 1, 2, 2, 3]), size)
+        sizes = [1] * count
+        for _ in range(size - count):
+            sizes[self.random.randrange(count)] += 1
+        return sizes
+
+    def joined(self, word, make, scope, size, froms):
+        tokens = []
+        for number, share in enumerate(self.shares(size)):
+            if number > 0:
+                tokens.append(word)
+            tokens += make(scope, share, froms)
+        return tokens
+
+    def condition(self, scope, size, froms):
+        return self.joined("OR", self.conjunction, scope, size, froms)
+
+    def conjunction(self, scope, size, froms):
+        return self.joined("AND", self.factor, scope, size, froms)
+
+    def factor(self, scope, size, froms):
+        if chance(self.random, .25):
+            return ["NOT"] + self.factor(scope, size, froms)
+        if size <= 1 and chance(self.random, .1):
+            return ["("] + self.test(scope, size, froms) + [")"]
+        return self.test(scope, size, froms)
+
+    def test(self, scope, size, froms):
+        draw = self.random.random()
+        if size > 1 and draw < .25:
+            return ["("] + self.condition(scope, size, froms) + [")"]
+        if froms > 0 and draw < .45:
+            source, inner_scope = self.row_source(scope)
+            return ["EXISTS", "("] + source + self.condition(inner_scope, max(1, size - 1), froms - 1) + [")"]
+        if froms > 0 and draw < .72:
+            return self.value(scope) + self.before_list() + self.listed(scope, max(1, size - 1), froms)
+        if draw < .82:
+            return self.value(scope) + ["IS", "NULL"]
+        if draw < .87:
+            return self.value(scope) + ["IS", "NOT", "NULL"]
+        return self.value(scope) + [self.random.choice(SIGNS)] + self.value(scope)
+
+    def before_list(self):
+        """What stands between the left value and a list."""
+        forms = [["IN"], ["NOT", "IN"]]
+        if self.quantified:
+            sign = self.random.choice(SIGNS)
+            forms += [[sign, "SOME"], [sign, "ALL"]]
+        return self.random.choice(forms)
+
+    def listed(self, scope, size, froms):
+        source, inner_scope = self.row_source(scope)
+        where = self.condition(inner_scope, size, froms - 1)
+        return ["(", "SELECT"] + self.value(inner_scope) + source + where + [")"]
+
+    def row_source(self, scope):
+        """FROM number letter WHERE, and the scope inside."""
+        table = self.random.randint(1, len(self.columns))
+        written = table
+        if chance(self.random, self.wild):
+            written = self.random.choice([0, -1, 9, len(self.columns) + 1, 1])
+            table = written if 1 <= written <= len(self.columns) else 1
+        letter = self.random.choice("mmvvwxaz")
+        return ["FROM", str(written), letter, "WHERE"], scope + [(letter, table)]
+
+    def value(self, scope):
+        if chance(self.random, .3):
+            return [number_token(self.random)]
+        if chance(self.random, self.wild):
+            return [self.random.choice("abcmvwxyz"), ".", self.random.choice(["0", "1", "-1", "17", "2", "99"])]
+        nearest = dict(scope)
+        letter = self.random.choice(list(nearest)) if chance(self.random, .5) else scope[-1][0]
+        column = self.random.randint(1, self.columns[nearest[letter] - 1])
+        return [letter, ".", str(column)]
+
+
+def needs_gap(before, after):
+    """Whether two tokens would read as something else without a gap between them."""
+    if before[0].isupper() and after[0].isupper():
+        return True
+    if before[-1].isdigit() and after[0].isdigit():
+        return True
+    return before in ("<", ">") and after[0] in "=>"
+
+
+def spaced(random, tokens, gaps=None):
+    """The text of tokens, with a gap where one is needed, and with other gaps at random."""
+    if gaps is None:
+        gaps = random.choice([0, 0, .3, 1])
+    text = ""
+    before = None
+    for token in tokens:
+        needed = before is not None and needs_gap(before, token)
+        if needed or chance(random, gaps):
+            text += random.choice([" ", " ", " ", "\n", "  ", " \n"])
+        text += token
+        before = token
+    if chance(random, gaps * .3):
+        text += random.choice([" ", "\n"])
+    return text.encode("latin1")
+
+
+def short_rule(random, columns, sizes, longest, wild=0.0):
+    """The text of a rule that is not longer than `longest` bytes."""
+    maker = RuleMaker(random, columns, wild=wild)
+    while True:
+        text = spaced(random, maker.rule(random.choice(sizes)))
+        if len(text) <= longest:
+            return text
+
+
+# ---- damaged texts
+
+def random_tokens(random):
+    """Any tokens, in any order."""
+    return [random.choice(LOOSE_TOKENS) for _ in range(random.randint(0, 12))]
+
+
+def random_bytes(random):
+    """Any bytes, or any of those that rules are made of."""
+    length = random.randint(0, 14)
+    if chance(random, .5):
+        return bytes(random.randrange(256) for _ in range(length))
+    return bytes(random.choice(TEXT_BYTES) for _ in range(length))
+
+
+def loosely_spaced(random, tokens):
+    """The text of tokens, with gaps between most of them, needed or not."""
+    text = ""
+    for number, token in enumerate(tokens):
+        if number > 0 and chance(random, .85):
+            text += " "
+        text += token
+    return text.encode("latin1")
+
+
+def damage_once(random, tokens):
+    """Changes one place of a token list that is not empty."""
+    draw = random.random()
+    place = random.randrange(len(tokens))
+    if draw < .25:
+        del tokens[place]
+    elif draw < .4:
+        tokens.insert(place, tokens[place])
+    elif draw < .6:
+        tokens[place] = random.choice(LOOSE_TOKENS)
+    elif draw < .75:
+        tokens.insert(random.randint(0, len(tokens)), random.choice(LOOSE_TOKENS))
+    elif draw < .85:
+        other = random.randrange(len(tokens))
+        tokens[place], tokens[other] = tokens[other], tokens[place]
+    elif draw < .95:
+        tokens.insert(random.choice([0, len(tokens), place]), random.choice(NO_TOKENS))
+    else:
+        del tokens[place:]
+
+
+def damaged_tokens(random, tokens):
+    """A token list with one to three changes."""
+    changed = list(tokens)
+    for _ in range(random.choice([1, 1, 1, 2, 3])):
+        if changed:
+            damage_once(random, changed)
+    return changed
+
+
+def damaged_bytes(random, text):
+    """A text with one change."""
+    changed = bytearray(text)
+    if not changed:
+        return bytes(changed)
+    draw = random.random()
+    place = random.randrange(len(changed))
+    if draw < .3:
+        del changed[place]
+    elif draw < .45:
+        changed[place] = random.randrange(256)
+    elif draw < .6:
+        changed[place] = random.choice(TEXT_BYTES)
+    elif draw < .8:
+        changed.insert(place, random.choice(TEXT_BYTES))
+    else:
+        del changed[place:]
+    return bytes(changed)
+
+
+# ---- texts near a limit
+
+def long_chain(random):
+    """Tests joined by AND or OR, near 64 parts."""
+    only_word = random.choice(["OR", "AND", None])
+    text = ""
+    for number in range(random.choice([30, 31, 32, 32, 33, 33, 34])):
+        if number > 0:
+            text += " " + (only_word or random.choice(["OR", "AND"])) + " "
+        if chance(random, .02):
+            text += "NOT "
+        text += random.choice(["1=1", "m.1=1", "2>1", "m.1<0"])
+    if chance(random, .2):
+        text += random.choice([" OR", " AND 1", ")", " OR 1=1 1", " @", " OR k.1=1"])
+    if chance(random, .2):
+        text = random.choice(["NOT ", "NOT NOT ", "EXISTS(FROM 1 m WHERE ", "k.1=1 OR ", "("]) + text
+    return text.encode()
+
+
+def many_nots(random):
+    """A test under NOTs, near 64 parts."""
+    count = random.choice([61, 62, 63, 63, 64, 65])
+    return b"NOT " * count + random.choice([b"1=1", b"k.1=1", b"m.1 IS NULL", b"1", b"m.1 IS NOT"])
+
+
+def many_brackets(random):
+    """Brackets around something, near 32 of them, and some before."""
+    count = random.choice([30, 31, 32, 32, 33, 33, 34])
+    core = random.choice([
+        b"1=1", b"m.1=1", b"k.1=1", b"1=", b"", b"1=1 @", b"1=1)", b"NOT 1=1",
+        b"EXISTS(FROM 1 v WHERE 1=1)", b"1 IN(SELECT 1 FROM 1 m WHERE 1=1)"])
+    before = random.choice([b"", b"", b")", b") ", b"()", b"(1=1)OR", b"))", b")("])
+    closing = random.choice([count, count, count, count - 1, count + 1, 0])
+    return before + b"(" * count + core + b")" * closing
+
+
+def deep_froms(random):
+    """FROMs around one another, near three of them."""
+    text = "1=1"
+    if chance(random, .4):
+        text = random.choice(["m.1=v.1", "a.1 IS NULL", "b.1=m.1", "1=", "q.1=1"])
+    for _ in range(random.choice([2, 3, 3, 4, 4, 5])):
+        letter = random.choice("mvab")
+        table = random.choice([1, 1, 1, 2, 9, 0])
+        if chance(random, .5):
+            text = f"EXISTS(FROM {table} {letter} WHERE {text})"
+        else:
+            form = random.choice(["=SOME", "<ALL", " IN", " NOT IN"])
+            selected = random.choice([letter + ".1", "1", "m.1"])
+            text = f"m.1{form}(SELECT {selected} FROM {table} {letter} WHERE {text})"
+        if chance(random, .2):
+            text = "NOT " + text
+        if chance(random, .2):
+            text = "1=1 AND " + text
+    return text.encode()
+
+
+def damaged_text(random, columns):
+    """A text that is probably no accepted rule."""
+    maker = RuleMaker(random, columns)
+    draw = random.random()
+    if draw < .12:
+        return loosely_spaced(random, random_tokens(random))
+    if draw < .24:
+        return random_bytes(random)
+    if draw < .5:
+        return loosely_spaced(random, damaged_tokens(random, maker.rule(random.choice([1, 2, 3]))))[:150]
+    if draw < .66:
+        return damaged_bytes(random, spaced(random, maker.rule(random.choice([1, 2, 3]))))[:150]
+    if draw < .72:
+        return long_chain(random)
+    if draw < .77:
+        return many_nots(random)
+    if draw < .87:
+        return many_brackets(random)
+    return deep_froms(random)
+
+
+# ---- tables
+
+def tables_file(tables):
+    """The file of tables that are given as (columns, rows), where a row is a list of numbers, and of None for a blank."""
+    sizes = bytes([len(tables)])
+    values = b""
+    marks = b""
+    for columns, rows in tables:
+        sizes += bytes([columns]) + len(rows).to_bytes(2, "little")
+        for cell in (cell for row in rows for cell in row):
+            values += ((77 if cell is None else cell) % 2**32).to_bytes(4, "little")
+            marks += bytes([cell is None])
+    return sizes + values + marks
+
+
+def cell_value(random):
+    """The value of a cell that is not blank."""
+    if chance(random, .85):
+        return random.randint(-2, 2)
+    return random.choice(EDGE_CELLS + (random.randint(-2**31, 2**31 - 1),))
+
+
+def filled_tables(random, sizes):
+    """A file with the given (columns, row count) of each table. The value bytes of blank cells are random."""
+    head = bytes([len(sizes)])
+    values = b""
+    marks = b""
+    blanks = random.choice([0, .2, .4, .4, .6, 1])
+    for columns, row_count in sizes:
+        head += bytes([columns]) + row_count.to_bytes(2, "little")
+        for _ in range(columns * row_count):
+            blank = chance(random, blanks)
+            value = random.getrandbits(32) if blank else cell_value(random)
+            values += (value % 2**32).to_bytes(4, "little")
+            marks += bytes([blank])
+    return head + values + marks
+
+
+def random_tables(random, counts=(1, 2, 2, 3, 3, 4, 8)):
+    """A file of small tables, as many as one of the counts says."""
+    sizes = []
+    for number in range(random.choice(counts)):
+        columns = random.choice([1, 1, 2, 2, 3]) if chance(random, .95) else random.choice([15, 16])
+        row_count = random.choice([0, 1, 2, 2, 3, 3, 4]) if columns < 15 else random.choice([0, 1])
+        if number == 0 and row_count == 0 and chance(random, .7):
+            row_count = 2
+        sizes.append((columns, row_count))
+    return filled_tables(random, sizes)
+
+
+def later_tables(random, columns):
+    """A file with the same columns, and rows, values and marks of its own."""
+    return filled_tables(random, [(count, random.choice([0, 1, 2, 3, 4])) for count in columns])
+
+
+def damaged_tables(random, file):
+    """A tables file with one change."""
+    changed = bytearray(file)
+    draw = random.random()
+    sizes_end = 1 + 3 * changed[0]
+    if draw < .2:
+        del changed[random.randrange(len(changed)):]
+    elif draw < .3:
+        changed.append(random.choice([0, 1, 2]))
+    elif draw < .55:
+        changed[-random.randint(1, min(3, len(changed) - 1))] = random.choice([2, 3, 255, 1])
+    elif draw < .85:
+        changed[random.randrange(sizes_end)] = random.choice([0, 1, 2, 3, 8, 9, 16, 17, 255])
+    elif draw < .9:
+        return b""
+    elif draw < .95:
+        return bytes([random.choice([0, 9, 255, 8, 1])])
+    else:
+        changed[random.randrange(len(changed))] ^= 1 << random.randrange(8)
+    return bytes(changed)
+
+
+# ---- cards that are not made from a rule
+
+class CardMaker:
+    """Draws cards, for tables with given columns. `bad`: how often a field is drawn that may be out of place."""
+
+    def __init__(self, random, columns, bad=0.0):
+        self.random = random
+        self.columns = columns
+        self.bad = bad
+
+    def card(self, size):
+        return model.card_bytes(self.entry(size, [1]), self.columns)
+
+    def value(self, tables):
+        """A value, where the tables of the rows stand by level."""
+        if chance(self.random, .3):
+            return model.TaggedValue(model.CONSTANT_TAG, int(number_token(self.random)))
+        if chance(self.random, self.bad):
+            tag = self.random.choice([0, 1, 2, 3, 4, 5, 254])
+            return model.TaggedValue(tag, self.random.choice([0, 1, 2, 17, -1, 256, 65536]))
+        level = self.random.randrange(len(tables))
+        return model.TaggedValue(level, self.random.randint(1, self.columns[tables[level] - 1]))
+
+    def entry(self, size, tables):
+        draw = self.random.random()
+        if size > 1 and draw < .55:
+            first = self.random.randint(1, size - 1)
+            inner = (self.entry(first, tables), self.entry(size - first, tables))
+            return model.pair_entry(self.random.choice([1, 2]), *inner)
+        deepest = 1 + model.MOST_FROMS + chance(self.random, .2 if self.bad else 0)
+        if draw < .8 and len(tables) < deepest:
+            return self.row_entry(size, tables)
+        if draw < .93:
+            bad = chance(self.random, self.bad)
+            comparison = self.random.choice([0, 7, 255]) if bad else self.random.randint(1, 6)
+            kind = self.random.choice([5, 6])
+            return model.comparison_entry(kind, comparison, self.value(tables), self.value(tables))
+        return model.blank_entry(self.random.choice([7, 8]), self.value(tables))
+
+    def row_entry(self, size, tables):
+        table = self.random.randint(1, len(self.columns))
+        written = table
+        if chance(self.random, self.bad):
+            written = self.random.choice([0, len(self.columns) + 1, 9, 255])
+        inner = self.entry(size, tables + [table])
+        return model.row_entry(self.random.choice([3, 4]), written, inner)
+
+
+def random_card(random, columns, bad=0.0):
+    """A card of a few entries."""
+    return CardMaker(random, columns, bad).card(random.choice([1, 1, 2, 3, 4]))
+
+
+def with_entry_more(random, sheet, entry_count, table_count):
+    """A card with one entry more at its end, and its count with it."""
+    kinds_end = 3 + table_count + entry_count
+    changed = bytearray(sheet)
+    changed[0] = (entry_count + 1) % 256
+    record = bytes([(entry_count + 2) % 256]) + bytes(model.RECORD_BYTES - 1)
+    return bytes(changed[:kinds_end]) + bytes([random.randint(1, 8)]) + bytes(changed[kinds_end:]) + record
+
+
+def damaged_card(random, sheet):
+    """A card with one change."""
+    changed = bytearray(sheet)
+    entry_count, table_count = changed[0], changed[2]
+    kinds_at = 3 + table_count
+    record_at = kinds_at + entry_count + model.RECORD_BYTES * random.randrange(entry_count)
+    draw = random.random()
+    if draw < .45:
+        place = random.randrange(len(changed))
+        near = [(changed[place] + 1) % 256, (changed[place] - 1) % 256]
+        changed[place] = random.choice([0, 1, 2, 3, 4, 5, 6, 7, 8, 9, 16, 17, 255, random.randrange(256)] + near)
+    elif draw < .6:
+        changed[record_at + random.choice([0, 0, 1, 2, 3, 4, 9])] = random.choice([0, 1, 2, 3, 4, 5, 6, 7, 255])
+    elif draw < .68:
+        changed[kinds_at + random.randrange(entry_count)] = random.randrange(10)
+    elif draw < .76:
+        del changed[random.randrange(len(changed)):]
+    elif draw < .80:
+        changed += bytes([random.choice([0, 1])] * random.choice([1, 14, 15]))
+    elif draw < .84:
+        changed[0] = random.choice([0, entry_count + 1, entry_count - 1, 193, 192]) % 256
+    elif draw < .87:
+        changed[1] = 1
+    elif draw < .91:
+        changed[2] = random.choice([0, 9, table_count + 1, table_count - 1, 8])
+    elif draw < .95:
+        changed[3 + random.randrange(table_count)] = random.choice([0, 1, 16, 17, 255])
+    else:
+        return with_entry_more(random, sheet, entry_count, table_count)
+    return bytes(changed)
