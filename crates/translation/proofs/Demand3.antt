@@ -19,6 +19,7 @@ use Rattle.card.specs.Card.{AsNo, Card, LeafEntry, PairEntry, RowEntry, entries
 use Rattle.card.specs.Layout.{cardLength, columnsIn}
 use Rattle.card.specs.Sound.{mostEntries, sound, Sound}
 use Rattle.card.specs.Calls.{cardSays, saysYes, checkRefusals, fitsTables, gateRefusals, runRefusals, runCall, listCall}
+use Rattle.card.proofs.Places.{is-true}
 use Rattle.card.proofs.Claims.{sound-claim, length-claim}
 use Rattle.rule.specs.Condition.{Atom, Join, Not, Exists, Listed, Rule, parts, lists}
 use Rattle.rule.specs.Names.{mostParts}
@@ -36,13 +37,6 @@ use Rattle.translation.proofs.Fits.{card-fits}
 
 true-T : {t : Bool} → t ≡ true → T t
 true-T e = rw e tt
-
-T-true : {t : Bool} → T t → t ≡ true
-T-true {t} h = go t h
-  where
-    go : (b : Bool) → T b → b ≡ true
-    go true h = refl
-    go false h = absurd h
 
 -- at most 64 parts make at most 192 entries, and there is one at least
 few-lists : (r : Rule) → lists r ≤ parts r
@@ -104,7 +98,7 @@ module _ (text file : List ℕ) (accepted : Accepted text file) where
 
     fits-later : fitsTables card later ≡ true
     unfolding fitsTables
-    fits-later = rw columns-are (T-true (same-refl (columnsOf later)))
+    fits-later = rw columns-are (is-true _ (same-refl (columnsOf later)))
 
     no-refusal : firstApplying (gateRefusals card later) ≡ none
     unfolding gateRefusals checkRefusals
