@@ -113,13 +113,18 @@ def drawn_room(random, call, source, file):
     return -random.randint(1, max(1, answer_length(call, source, file)))
 
 
+def drawn_row(random, file, inside, beyond):
+    """A row number: mostly, with the share `inside`, one of table 1, else one past its end."""
+    if random.random() < inside and row_count(file) > 0:
+        return random.randrange(row_count(file))
+    return row_count(file) + random.choice(beyond)
+
+
 def drawn_reading(random, call):
     """A case of READ, JUDGE or CARD."""
     file = generate.random_tables(random)
     text = drawn_text(random, call, model.tables_of(file).columns)
-    row = row_count(file) + random.choice([0, 1, 1000, 70000])
-    if random.random() < .93 and row_count(file) > 0:
-        row = random.randrange(row_count(file))
+    row = drawn_row(random, file, .93, [0, 1, 1000, 70000])
     if random.random() < .05:
         file = generate.damaged_tables(random, file)
     if call == "JUDGE":
@@ -159,9 +164,7 @@ def drawn_running(random, call):
     file = generate.later_tables(random, columns)
     if random.random() < .06:
         file = generate.random_tables(random)
-    row = row_count(file) + random.choice([0, 0, 5, 999])
-    if random.random() < .9 and row_count(file) > 0:
-        row = random.randrange(row_count(file))
+    row = drawn_row(random, file, .9, [0, 0, 5, 999])
     if random.random() < .05:
         file = generate.damaged_tables(random, file)
     if call == "RUN":

@@ -1,6 +1,6 @@
 """Reference model of document 01, "Entry rules with blanks: text, tables, card".
 
-It is written from that document alone and shares nothing with the definitions and programs of crates/, so that each can be
+It is written from that document and shares nothing with the definitions and programs of crates/, so that each can be
 compared with the other. The six calls READ, JUDGE, CARD, CHECK, RUN and LIST are the functions read, judge, card, check, run
 and list_rows. Texts, tables files and cards are bytes; rows and rooms are numbers. A call returns Refused, with a number of
 the table "Gate says why not", or its answer.

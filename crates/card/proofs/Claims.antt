@@ -3,8 +3,8 @@ use mathlib.Core.Path.{refl, ap, _∙_}
 use borrow.Author.Tests.{lt-ltb, le-ltb}
 use Rattle.tables.specs.Tables.{rowCount}
 use Rattle.tables.specs.Refusals.{rowRefusal}
-use Rattle.tables.proofs.Refusals.{first-nil, first-one, first-none, first-append, first-found, unless-none, unless-some, lend-refused}
-use Rattle.card.specs.Calls.{checkRefusals, gateRefusals, runRefusals, checkCall, runCall, listCall}
+use Rattle.tables.proofs.Refusals.{first-nil, first-one, first-none, first-append, first-found, unless-none, unless-some, lend-short, lend-long, lend-refused}
+use Rattle.card.specs.Calls.{yesRows, checkRefusals, gateRefusals, runRefusals, checkCall, runCall, listCall}
 use mathlib.Core.Bool.{not}
 use mathlib.Core.List.{[]}
 use Rattle.card.specs.Layout.{columnsIn}
@@ -47,4 +47,6 @@ calls-claim = record {
   run-no-row = λ card file row e h. unless-some _ _ (first-append (gateRefusals card file) _ e ∙ first-one 11 _ [] (ap not (le-ltb row (rowCount file 1) h)));
   run-given = λ card file row e h. unless-none _ _ (first-append (gateRefusals card file) _ e ∙ first-none 11 _ [] (ap not (lt-ltb row (rowCount file 1) h)) first-nil);
   list-refused = λ card file buffer n e. lend-refused (gateRefusals card file) _ buffer e;
+  list-short = λ card file buffer e h. lend-short (gateRefusals card file) (yesRows card file) buffer e h;
+  list-given = λ card file buffer e h. lend-long (gateRefusals card file) (yesRows card file) buffer e h;
 }

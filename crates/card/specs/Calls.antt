@@ -19,6 +19,10 @@ cardSays file row (some c) = answer (tablesOf file) (judgedRow (tablesOf file) r
 unfoldable pub saysYes : List ℕ → List ℕ → ℕ → Bool
 saysYes card file row = cardSays file row (cardFrom card)
 
+-- the rows of table 1 that a card says yes to
+abbrev pub yesRows : List ℕ → List ℕ → List ℕ
+yesRows card file = rowsWhere file (saysYes card file)
+
 -- ---- the refusals
 
 -- 9: card not sound
@@ -48,4 +52,4 @@ runCall card file row = unless (firstApplying (runRefusals card file row)) (λ _
 
 -- LIST writes the numbers of the rows that the card says yes to into the lent list, one element each, and answers how many
 unfoldable pub listCall : List ℕ → List ℕ → List ℕ → Lent ℕ
-listCall card file buffer = lend (gateRefusals card file) (rowsWhere file (saysYes card file)) buffer
+listCall card file buffer = lend (gateRefusals card file) (yesRows card file) buffer

@@ -1,16 +1,16 @@
 -- What proofs/ shows of these definitions.
 use mathlib.Core.Path.{_≡_}
 use mathlib.Core.Bool.{true, false}
-use mathlib.Core.List.{List, [], _∷_, map}
+use mathlib.Core.List.{List, [], _∷_, _++_, map}
 use mathlib.Core.Option.{none, some}
 use Prim.Native.Nat.{ℕ, _<_, _≤_}
-use lib.ListN.{length, getD}
+use lib.ListN.{length, getD, drop}
 use Rattle.tables.specs.Tables.{rowCount}
 use Rattle.tables.specs.Refusals.{firstApplying, Refused, Given}
 use Rattle.card.specs.Card.{Card, entries}
 use Rattle.card.specs.Layout.{cardBytes, cardLength, columnsIn, cardFrom}
 use Rattle.card.specs.Sound.{sound, Sound}
-use Rattle.card.specs.Calls.{saysYes, gateRefusals, runRefusals, checkCall, runCall, listCall}
+use Rattle.card.specs.Calls.{saysYes, yesRows, gateRefusals, runRefusals, checkCall, runCall, listCall}
 use Rattle.card.specs.Cases.{edges, gateEdges, gateAnswers, gateExpected}
 
 -- the test of a sound card passes just those bytes that are the bytes of a fitting card, and reads that card and its columns from them; what
@@ -36,6 +36,10 @@ pub record CallsClaim : Type 0 where
       → runCall card file row ≡ Given (saysYes card file row)
   pub list-refused : (card file buffer : List ℕ) (n : ℕ) → firstApplying (gateRefusals card file) ≡ some n
       → listCall card file buffer ≡ record { result = Refused n; buffer = buffer }
+  pub list-short : (card file buffer : List ℕ) → firstApplying (gateRefusals card file) ≡ none → length buffer < length (yesRows card file)
+      → listCall card file buffer ≡ record { result = Refused 12; buffer = buffer }
+  pub list-given : (card file buffer : List ℕ) → firstApplying (gateRefusals card file) ≡ none → length (yesRows card file) ≤ length buffer
+      → listCall card file buffer ≡ record { result = Given (length (yesRows card file)); buffer = yesRows card file ++ drop (length (yesRows card file)) buffer }
 
 -- the numbers of the refusals of RUN, and of LIST but for 12, in the order in which they are tried
 pub record OrderClaim : Type 0 where
