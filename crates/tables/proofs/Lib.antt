@@ -4,3 +4,7 @@ pub mod Computed
 pub mod Refusals
 pub mod Sizes
 pub mod Rows
+pub mod Signed
+pub mod Cells
+pub mod Holding
+pub mod Valid

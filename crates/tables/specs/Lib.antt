@@ -5,3 +5,5 @@ pub mod Values
 pub mod Refusals
 pub mod Cases
 pub mod Claims
+pub mod Reasons
+pub mod Code
