@@ -34,14 +34,14 @@ take-bytes (suc n) (x ∷ xs) b (suc i) = take-bytes n xs (λ k. b (suc k)) i
 -- ---- what may be missing, and is there
 
 module _ {A : Type 0} where
-  none-some : {x : A} → none ≡ some x → ⊥
+  pub none-some : {x : A} → none ≡ some x → ⊥
   none-some e = let z : _≡_ {A = ℕ} 0 1 = cc in omega arith
 
-  only-some : (t : Bool) (x y : A) → only t x ≡ some y → T t × (x ≡ y)
+  pub only-some : (t : Bool) (x y : A) → only t x ≡ some y → T t × (x ≡ y)
   only-some true x y e = (tt, cc)
   only-some false x y e = absurd (none-some e)
 
-  bind-some : {B : Type 0} (o : Option B) (f : B → Option A) (y : A) → (o >>= f) ≡ some y → (x : B) × (o ≡ some x) × (f x ≡ some y)
+  pub bind-some : {B : Type 0} (o : Option B) (f : B → Option A) (y : A) → (o >>= f) ≡ some y → (x : B) × (o ≡ some x) × (f x ≡ some y)
   bind-some none f y e = absurd (none-some e)
   bind-some (some x) f y e = (x, refl, e)
 

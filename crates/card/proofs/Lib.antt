@@ -4,3 +4,6 @@ pub mod Back
 pub mod Exact
 pub mod Opened
 pub mod Claims
+pub mod Decoding
+pub mod Coded
+pub mod Checking
