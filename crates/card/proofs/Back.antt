@@ -18,7 +18,8 @@ use Rattle.card.specs.Card.{mostRowEntries, AsNo, AsYes, Leaf, CompareLe
 use Rattle.card.specs.Layout.{Head, LeafHead, PairHead, RowHead, kindOf, valueBytes, noValue, recordBytes, cardBytes, valueOf, valueFrom, zeros, headFrom, inside, entryFrom, cardFrom}
 use Rattle.card.specs.Sound.{mostEntries, columnsFit, sound, Sound}
 use Rattle.tables.proofs.Values.{comparison-back}
-use Rattle.card.proofs.Places.{at, at0, skip-to, both, bounds, is-true, from16, from32, bits-small, signed-bits}
+use Rattle.tables.proofs.Tests.{is-true, both, bounds}
+use Rattle.card.proofs.Places.{at, at0, skip-to, from16, from32, bits-small, signed-bits}
 use Rattle.card.proofs.Walk.{value-length, card-length, headOf, Stands, kind-there, record-there, stands-row, stands-left, stands-right, tables-back, columns-back, count-back, card-stands}
 
 -- ---- one entry

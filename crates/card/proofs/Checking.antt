@@ -5,7 +5,7 @@ use mathlib.Core.List.{List, [], _∷_, _++_}
 use mathlib.Core.Logic.{⊎-elim}
 use mathlib.Core.Option.{some}
 use Prim.Native.Nat.{ℕ, zero, suc, _+_, _-_, _*_, _≤_, _<_}
-use native.Mathlib.Nat.{eq-or-lt-of-le, le-of-suc-le-suc}
+use native.Mathlib.Nat.{eq-or-lt-of-le}
 use native.Mathlib.Numerals.{add-one}
 use native.Mathlib.Omega.{arith}
 use borrow.Author.Tests.{ltb-true, ltb-false, lt-ltb, le-ltb, lt-leb, ne-eqb, eq-eqb}
@@ -14,7 +14,7 @@ use lib.Ieee.Fits.{and-i}
 use lib.IntN.{pos, negsuc}
 use lib.ListN.{length, getD, set, take, length-set}
 use lib.Seq.{length-take-le, getD-take, getD-set-same, getD-set-other, take-suc-set}
-use Rattle.tables.specs.Lists.{tabulate, numbered}
+use Rattle.tables.specs.Lists.{numbered}
 use Rattle.tables.specs.Bytes.{between, byteAt, inRange}
 use Rattle.tables.specs.Values.{constantTag, judgedLevels, Connective, And, Or, Quantifier, Some, All}
 use Rattle.tables.specs.Code.{fromExcess}
@@ -22,24 +22,20 @@ use Rattle.card.specs.Card.{mostRowEntries, Leaf, Card, LeafEntry, PairE
 use Rattle.card.specs.Layout.{LeafHead, PairHead, RowHead, entryCount, tablesIn, columnsIn, kindAt, recordAt, endAt, headFrom, cardFrom}
 use Rattle.card.specs.Sound.{mostEntries, columnsFit, holdsFitting, sound}
 use Rattle.card.specs.Code.{laid, Laid, Decoded, valueIn, kindIn, endIn, tableIn, leftIn, rightIn, headIn, Coded, coded-leaf, coded-pair, coded-row, Fitting, Checks, LevelsIn, Checkable}
-use Rattle.card.proofs.Places.{is-true, both, bounds}
+use Rattle.tables.proofs.Tests.{is-true, both, bounds}
+use Rattle.tables.proofs.Tabulated.{tabulate-at}
 use Rattle.card.proofs.Coded.{head-1, head-2, head-3, head-4, head-5, head-6, head-7, head-8, kind-pair, kind-row, kind-leaf, coded-less, coded-end, pair-of, row-of, leaf-of, card-coded, coded-card}
 use Rattle.card.proofs.Exact.{sound-passed}
 use Rattle.card.proofs.Decoding.{columns-length, head-decoded, end-decoded}
 
 -- ---- the columns of a table
 
-tabulate-at : (n : ℕ) (f : ℕ → ℕ) (j : ℕ) → j < n → getD (tabulate n f) j 0 ≡ f j
-tabulate-at zero f j h = absurd (omega arith)
-tabulate-at (suc n) f zero h = refl
-tabulate-at (suc n) f (suc j) h = tabulate-at n (λ k. f (suc k)) j (le-of-suc-le-suc h)
-
 pub column-at : (card : List ℕ) (t : ℕ) → 1 ≤ t → t ≤ tablesIn card → numbered (columnsIn card) t 0 ≡ byteAt card (2 + t)
 unfolding columnsIn
 column-at card zero low high = absurd (omega arith)
 column-at card (suc j) low high =
     let next : 3 + j ≡ 2 + suc j = omega arith in
-    tabulate-at (tablesIn card) (λ j. byteAt card (3 + j)) j high ∙ ap (byteAt card) next
+    tabulate-at (tablesIn card) (λ j. byteAt card (3 + j)) j 0 high ∙ ap (byteAt card) next
 
 -- ---- a value
 

@@ -19,41 +19,13 @@ use Rattle.tables.specs.Values.{constantTag, Value, Constant, Column, compariso
 use Rattle.tables.specs.Code.{excess, fromExcess, Holds}
 use Rattle.tables.proofs.Holding.{holds-more, holds-same}
 use Rattle.tables.proofs.Signed.{signed-excess}
-use Rattle.tables.proofs.Sizes.{tabulate-length}
+use Rattle.tables.proofs.Tests.{is-true, is-so, refuted, both, bounds, between-yes, between-no}
+use Rattle.tables.proofs.Tabulated.{tabulate-length, all-each, all-of, all-no}
 use Rattle.card.specs.Card.{AsNo, AsYes, CompareLeaf, BlankLeaf, NotBlankLeaf}
 use Rattle.card.specs.Layout.{recordSize, tablePlace, comparisonPlace, leftPlace, rightPlace, Head, LeafHead, PairHead, RowHead, cardLength, entryCount, tablesIn, columnsIn, kindAt, recordAt, endAt, valueOf, valueFrom, zeros, headFrom}
 use Rattle.card.specs.Sound.{mostEntries, columnsFit, sound}
 use Rattle.card.specs.Code.{laid, Laid, recordFrom, fieldsFit, knownKind, numberIn, valueIn, numberFrom, fieldsOf, fieldOf, Decoded, kindIn, endIn, headIn}
-use Rattle.card.proofs.Places.{both, bounds, is-true, in-range, bits-small, signed-bits}
-
--- ---- tests
-
-holds-true : (t : Bool) → t ≡ true → T t
-holds-true t e = subst T (sym e) tt
-
-refuted : (t : Bool) → (T t → ⊥) → t ≡ false
-refuted true f = absurd (f tt)
-refuted false f = refl
-
-pub between-yes : (low high n : ℕ) → low ≤ n → n ≤ high → between low high n ≡ true
-between-yes low high n p q = rw (le-leb low n p, le-leb n high q)
-
-pub between-no : (low high n : ℕ) → (low ≤ n → n ≤ high → ⊥) → between low high n ≡ false
-between-no low high n f = refuted (between low high n) (λ t. let (p, q) = bounds low high n t in f p q)
-
--- a test of every element
-module _ {A : Type 0} (p : A → Bool) where
-  pub every-yes : (n : ℕ) (f : ℕ → A) → ((k : ℕ) → k < n → p (f k) ≡ true) → all p (tabulate n f) ≡ true
-  every-yes zero f h = refl
-  every-yes (suc n) f h = rw (h 0 (omega arith)) (every-yes n (λ k. f (suc k)) (λ k l. h (suc k) (omega arith)))
-
-  pub every-each : (n : ℕ) (f : ℕ → A) → T (all p (tabulate n f)) → (k : ℕ) → k < n → T (p (f k))
-  every-each zero f t k l = absurd (not-suc-le-zero l)
-  every-each (suc n) f t zero l = both (p (f 0)) _ t .0
-  every-each (suc n) f t (suc k) l = every-each n (λ j. f (suc j)) (both (p (f 0)) _ t .1) k (le-of-suc-le-suc l)
-
-  pub every-no : (n : ℕ) (f : ℕ → A) (k : ℕ) → k < n → p (f k) ≡ false → all p (tabulate n f) ≡ false
-  every-no n f k l e = refuted (all p (tabulate n f)) (λ t. subst T e (every-each n f t k l))
+use Rattle.card.proofs.Places.{in-range, bits-small, signed-bits}
 
 -- ---- the layout
 
@@ -62,7 +34,7 @@ module _ (card : List ℕ) (n j : ℕ) (tables : n ≡ tablesIn card) where
       → true ≡ all (between 1 mostColumns) (columnsIn card)
   unfolding columnsIn
   columns-yes l h =
-      sym (every-yes (between 1 mostColumns) (tablesIn card) (λ k. byteAt card (3 + k)) (λ k m.
+      sym (all-of (between 1 mostColumns) (tablesIn card) (λ k. byteAt card (3 + k)) (λ k m.
       let (p, q) = h k (omega arith) in
       between-yes 1 mostColumns (byteAt card (3 + k)) p q))
 
@@ -70,7 +42,7 @@ module _ (card : List ℕ) (n j : ℕ) (tables : n ≡ tablesIn card) where
   unfolding columnsIn
   columns-no l c e f =
       let no = between-no 1 mostColumns (byteAt card (3 + j)) (λ p q. f (omega arith) (omega arith)) in
-      sym (every-no (between 1 mostColumns) (tablesIn card) (λ k. byteAt card (3 + k)) j (omega arith) no)
+      sym (all-no (between 1 mostColumns) (tablesIn card) (λ k. byteAt card (3 + k)) j (omega arith) no)
 
 module _ (card : List ℕ) where
   pub columns-length : length (columnsIn card) ≡ tablesIn card
@@ -79,7 +51,7 @@ module _ (card : List ℕ) where
 
   columns-each : T (all (between 1 mostColumns) (columnsIn card)) → (j : ℕ) → j < tablesIn card → byteAt card (3 + j) ≤ mostColumns
   unfolding columnsIn
-  columns-each t j l = bounds 1 mostColumns (byteAt card (3 + j)) (every-each (between 1 mostColumns) (tablesIn card) (λ k. byteAt card (3 + k)) t j l) .1
+  columns-each t j l = bounds 1 mostColumns (byteAt card (3 + j)) (all-each (between 1 mostColumns) (tablesIn card) (λ k. byteAt card (3 + k)) t j l) .1
 
   laid-says : T (laid card) → Laid card
   unfolding laid
@@ -100,7 +72,7 @@ module _ (card : List ℕ) where
       }
 
   pub laid-is : laid card ≡ true → Laid card
-  laid-is e = laid-says (holds-true (laid card) e)
+  laid-is e = laid-says (is-so (laid card) e)
 
   pub laid-no : (Laid card → ⊥) → false ≡ laid card
   laid-no f = sym (refuted (laid card) (λ t. f (laid-says t)))
@@ -130,7 +102,7 @@ module _ (card : List ℕ) where
   sound-says t = first-three (between 1 mostEntries (entryCount card)) (columnsFit (columnsIn card)) _ _ t
 
   pub sound-laid : sound card ≡ true → laid card ≡ true
-  sound-laid e = is-true (laid card) (sound-says (holds-true (sound card) e))
+  sound-laid e = is-true (laid card) (sound-says (is-so (sound card) e))
 
   pub sound-not-laid : laid card ≡ false → sound card ≡ false
   sound-not-laid e = refuted (sound card) (λ t. subst T e (sound-says t))
@@ -160,7 +132,7 @@ module _ (card : List ℕ) (place : ℕ) where
     pub zeros-yes : ((q : ℕ) → q < j → i ≤ q → byteAt card (place + q) ≡ 0) → true ≡ zeros (recordFrom card place) i j
     unfolding zeros
     zeros-yes h =
-        sym (every-yes (λ k. eqb (byteAt (recordFrom card place) (i + k)) 0) (j - i) (λ k. k) (λ k l.
+        sym (all-of (λ k. eqb (byteAt (recordFrom card place) (i + k)) 0) (j - i) (λ k. k) (λ k l.
         eq-eqb _ 0 (record-byte (i + k) (place + (i + k)) (omega arith) refl ∙ h (i + k) (omega arith) (omega arith))))
 
     pub zeros-no : (q : ℕ) → i ≤ q → q < j → (byteAt card (place + q) ≡ 0 → ⊥) → false ≡ zeros (recordFrom card place) i j
@@ -168,7 +140,7 @@ module _ (card : List ℕ) (place : ℕ) where
     zeros-no q l m f =
         let z : i + (q - i) ≡ q = omega arith in
         let e = ap (byteAt (recordFrom card place)) z ∙ record-byte q (place + q) (omega arith) refl in
-        sym (every-no (λ k. eqb (byteAt (recordFrom card place) (i + k)) 0) (j - i) (λ k. k) (q - i) (omega arith) (ne-eqb _ 0 (λ y. f (sym e ∙ y))))
+        sym (all-no (λ k. eqb (byteAt (recordFrom card place) (i + k)) 0) (j - i) (λ k. k) (q - i) (omega arith) (ne-eqb _ 0 (λ y. f (sym e ∙ y))))
 
 -- ---- a value's number
 

@@ -15,7 +15,8 @@ use Rattle.tables.specs.Values.{constantTag, judgedLevels, Constant, Column, co
 use Rattle.card.specs.Card.{Interpretation, AsNo, AsYes, Leaf, CompareLeaf, BlankLeaf, NotBlankLeaf, Card, LeafEntry, PairEntry, RowEntry, entries, cardFits}
 use Rattle.card.specs.Layout.{recordSize, Head, LeafHead, PairHead, RowHead, kindOf, valueBytes, noValue, fieldBytes, recordBytes, kindBytes, recordsFrom, cardBytes, cardLength, entryCount, tablesIn, columnsIn, kindAt, recordAt, endAt, valueFrom, zeros, headFrom, Taken, inside, entryFrom, cardFrom}
 use Rattle.card.specs.Sound.{mostEntries, columnsFit, holdsFitting, sound, Sound}
-use Rattle.card.proofs.Places.{both, bounds, tabulated, to16, to32, in-range}
+use Rattle.tables.proofs.Tests.{both, bounds}
+use Rattle.card.proofs.Places.{tabulated, to16, to32, in-range}
 use Rattle.card.proofs.Walk.{kindPlace, recordPlace}
 
 -- each is below 256

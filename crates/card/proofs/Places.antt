@@ -1,18 +1,17 @@
 -- Lists from a place on, and numbers from their bytes and back.
 use mathlib.Core.Path.{_≡_, refl, sym, ap, ap₂, _∙_}
-use mathlib.Core.Bool.{Bool, true, false, cond, _&&_}
+use mathlib.Core.Bool.{Bool, true, false, cond}
 use mathlib.Core.List.{List, [], _∷_, _++_}
 use Prim.Native.Nat.{ℕ, zero, suc, _+_, _-_, _*_, _/_, _%_, _≤_, _<_}
 use native.Mathlib.Nat.{le-of-suc-le-suc, not-suc-le-zero, add-zero}
 use native.Mathlib.Omega.{arith}
 use borrow.Author.Tests.{lt-ltb, le-ltb, ltb-true, ltb-false}
-use lib.Dec.{T, leb, leb→le, ltb, lt→ltb, ltb→lt}
-use lib.Ieee.Fits.{and-l, and-r}
+use lib.Dec.{T, ltb, lt→ltb, ltb→lt}
 use lib.IntN.{ℤ, pos, negsuc}
 use lib.ListN.{length, getD, take, drop}
 use lib.Seq.{getD-drop, drop-drop, drop-append-seam}
 use Rattle.tables.specs.Lists.{tabulate}
-use Rattle.tables.specs.Bytes.{between, bytes16, bytes32, signed, bits, inRange}
+use Rattle.tables.specs.Bytes.{bytes16, bytes32, signed, bits, inRange}
 
 -- ---- lists
 
@@ -32,18 +31,6 @@ pub tabulated : (n : ℕ) (xs : List ℕ) (f : ℕ → ℕ) → n ≤ length xs 
 tabulated zero xs f l h = refl
 tabulated (suc n) [] f l h = absurd (not-suc-le-zero l)
 tabulated (suc n) (x ∷ xs) f l h = ap₂ _∷_ (h 0) (tabulated n xs (λ k. f (suc k)) (le-of-suc-le-suc l) (λ k. h (suc k)))
-
--- ---- tests
-
-pub is-true : (t : Bool) → T t → t ≡ true
-is-true true h = refl
-is-true false h = absurd h
-
-pub both : (a b : Bool) → T (a && b) → T a × T b
-both a b h = (and-l a b h, and-r a b h)
-
-pub bounds : (low high n : ℕ) → T (between low high n) → (low ≤ n) × (n ≤ high)
-bounds low high n h = let (p, q) = both (leb low n) (leb n high) h in (leb→le low n p, leb→le n high q)
 
 -- ---- numbers from their bytes
 

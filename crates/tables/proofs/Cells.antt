@@ -1,6 +1,6 @@
 -- The sizes of a tables file, table by table: where a table's cells start, and what is known of a file that is not refused with 1.
 use mathlib.Core.Path.{_≡_, refl, sym, ap, ap₂, subst, _∙_}
-use mathlib.Core.Bool.{Bool, true, false, not, cond, _&&_, and-true, and-false, and-assoc}
+use mathlib.Core.Bool.{Bool, true, false, not, cond, _&&_, and-true, and-false}
 use mathlib.Core.List.{List, [], _∷_, _++_, map}
 use Prim.Native.Nat.{ℕ, zero, suc, _+_, _-_, _*_, _/_, _%_, _≤_, _<_, suc-le-suc}
 use native.Mathlib.Nat.{le-of-suc-le-suc, not-suc-le-zero, le-trans, mul-le-mul-left, mul-le-mul-right}
@@ -14,6 +14,8 @@ use Rattle.tables.specs.Lists.{tabulate, all, total}
 use Rattle.tables.specs.Bytes.{between, byteAt, word32}
 use Rattle.tables.specs.Tables.{mostTables, mostColumns, mostRows, mostCells, highestMark, Size, tableCount, sizeAt, sizes, cellsIn, cellsBefore, cellCount, valuesAt, marksAt, markOf, sizeFits, sizesFit, marksFit, Blank, Present, cellFrom, cellAt}
 use Rattle.tables.specs.Code.{excess, fromExcess, Holds, SizeIn, Sized, placesOf, placeOf, Places, CellIn}
+use Rattle.tables.proofs.Tests.{is-so, refuted}
+use Rattle.tables.proofs.Tabulated.{all-each, all-of, all-more}
 use Rattle.tables.proofs.Signed.{signed-excess}
 use Rattle.tables.proofs.Holding.{holds-more, holds-none}
 
@@ -60,31 +62,6 @@ module _ (file : List ℕ) where
       let r = cells-rise (tableCount file - (j + 1)) (j + 1) (omega arith) in
       omega (arith, cells-more j h, cells-all)
 
--- ---- tests over numbered things
-
-is-so : (t : Bool) → t ≡ true → T t
-is-so true e = tt
-is-so false e = let z : _≡_ {A = ℕ} 0 1 = cc in absurd (omega arith)
-
-pub no-by : (t : Bool) → (t ≡ true → ⊥) → false ≡ t
-no-by true f = absurd (f refl)
-no-by false f = refl
-
-module _ {A : Type 0} (p : A → Bool) where
-  pub all-each : (n : ℕ) (f : ℕ → A) → T (all p (tabulate n f)) → (j : ℕ) → j < n → T (p (f j))
-  all-each zero f t j h = absurd (not-suc-le-zero h)
-  all-each (suc n) f t zero h = and-l (p (f 0)) _ t
-  all-each (suc n) f t (suc j) h = all-each n (λ k. f (suc k)) (and-r (p (f 0)) _ t) j (le-of-suc-le-suc h)
-
-  pub all-of : (n : ℕ) (f : ℕ → A) → ((j : ℕ) → j < n → p (f j) ≡ true) → all p (tabulate n f) ≡ true
-  all-of zero f h = refl
-  all-of (suc n) f h = ap₂ _&&_ (h 0 (omega arith)) (all-of n (λ k. f (suc k)) (λ j l. h (suc j) (suc-le-suc l)))
-
-  -- one more is tested
-  pub all-more : (n : ℕ) (f : ℕ → A) → all p (tabulate (suc n) f) ≡ (all p (tabulate n f) && p (f n))
-  all-more zero f = and-true (p (f 0))
-  all-more (suc n) f = ap (λ (t : Bool). p (f 0) && t) (all-more n (λ k. f (suc k))) ∙ sym (and-assoc (p (f 0)) _ _)
-
 -- ---- the test of the sizes
 
 size-in : (file : List ℕ) (j : ℕ) → T (sizeFits (sizeAt file j)) → SizeIn file j
@@ -98,15 +75,14 @@ size-in file j t =
       rows-high = leb→le (s .rows) mostRows (and-r columns (leb (s .rows) mostRows) t);
     }
 
-pub sized-is : (file : List ℕ) → sizesFit file ≡ true → Sized file
+sized-says : (file : List ℕ) → T (sizesFit file) → Sized file
 unfolding sizesFit sizes
-sized-is file e =
+sized-says file t =
     let n = tableCount file in
     let count = between 1 mostTables n in
     let every = all sizeFits (tabulate n (sizeAt file)) in
     let few = leb (cellCount file) mostCells in
     let whole = eqb (length file) (marksAt file + cellCount file) in
-    let t = is-so (count && (every && (few && whole))) e in
     let c = and-l count (every && (few && whole)) t in
     let r = and-r count (every && (few && whole)) t in
     let s = and-r every (few && whole) r in
@@ -118,8 +94,11 @@ sized-is file e =
       long = eqb→eq (length file) (marksAt file + cellCount file) (and-r few whole s);
     }
 
+pub sized-is : (file : List ℕ) → sizesFit file ≡ true → Sized file
+sized-is file e = sized-says file (is-so (sizesFit file) e)
+
 pub sizes-no : (file : List ℕ) → (Sized file → ⊥) → false ≡ sizesFit file
-sizes-no file f = no-by (sizesFit file) (λ e. f (sized-is file e))
+sizes-no file f = sym (refuted (sizesFit file) (λ t. f (sized-says file t)))
 
 -- one table's sizes are outside the limits
 pub sizes-one : (file : List ℕ) (j : ℕ) → j < tableCount file → sizeFits (sizeAt file j) ≡ false → false ≡ sizesFit file
@@ -128,9 +107,9 @@ sizes-one file j h e =
     let count = between 1 mostTables (tableCount file) in
     let rest = leb (cellCount file) mostCells && eqb (length file) (marksAt file + cellCount file) in
     let every = all sizeFits (tabulate (tableCount file) (sizeAt file)) in
-    no-by (sizesFit file) (λ t.
-    let u = and-l every rest (and-r count (every && rest) (is-so (count && (every && rest)) t)) in
-    subst T e (all-each sizeFits (tableCount file) (sizeAt file) u j h))
+    sym (refuted (sizesFit file) (λ t.
+    let u = and-l every rest (and-r count (every && rest) t) in
+    subst T e (all-each sizeFits (tableCount file) (sizeAt file) u j h)))
 
 -- where all sizes are within the limits, the length decides
 pub sizes-last : (file : List ℕ) (n cells : ℕ) → n ≡ tableCount file → 1 ≤ n → n ≤ mostTables → ((j : ℕ) → j < n → sizeFits (sizeAt file j) ≡ true)
@@ -144,7 +123,7 @@ sizes-last file n cells p low high each q few =
 
 -- one table's sizes, limit by limit
 pub size-no : (file : List ℕ) (j : ℕ) → (SizeIn file j → ⊥) → false ≡ sizeFits (sizeAt file j)
-size-no file j f = no-by (sizeFits (sizeAt file j)) (λ e. f (size-in file j (is-so (sizeFits (sizeAt file j)) e)))
+size-no file j f = sym (refuted (sizeFits (sizeAt file j)) (λ t. f (size-in file j t)))
 
 pub size-last : (file : List ℕ) (j columns rows : ℕ) → columns ≡ sizeAt file j .columns → rows ≡ sizeAt file j .rows → 1 ≤ columns → columns ≤ mostColumns
     → leb rows mostRows ≡ sizeFits (sizeAt file j)

@@ -2,22 +2,32 @@
 use mathlib.Core.Path.{_≡_, refl, ap, ap₂, _∙_}
 use mathlib.Core.Bool.{_&&_}
 use mathlib.Core.List.{List, [], _∷_, map}
-use Prim.Native.Nat.{ℕ, zero, suc}
+use Prim.Native.Nat.{ℕ, suc, _<_}
 use lib.Dec.{T, eqb, leb, eqb→eq, eqb-refl}
 use lib.Ieee.Fits.{and-l, and-r, and-i}
-use lib.ListN.{length, length-map}
+use lib.ListN.{length, getD}
 use Rattle.tables.specs.Lists.{tabulate, all, same}
 use Rattle.tables.specs.Bytes.{between}
-use Rattle.tables.specs.Tables.{mostTables, mostColumns, mostRows, Size, tableCount, sizeAt, sizes, columnsOf, sizeFits, sizesFit, sameColumns}
+use Rattle.tables.specs.Tables.{mostTables, mostColumns, mostRows, Size, tableCount, sizeAt, sizes, columnsOf, rowCount, sizeFits, sizesFit, sameColumns}
+use Rattle.tables.proofs.Tabulated.{tabulate-length, tabulate-at, tabulate-map}
 
-pub tabulate-length : {A : Type 0} (n : ℕ) (f : ℕ → A) → length (tabulate n f) ≡ n
-tabulate-length zero f = refl
-tabulate-length (suc n) f = ap suc (tabulate-length n (λ k. f (suc k)))
+-- a table's columns and rows
+module _ (file : List ℕ) where
+  pub columns-are : columnsOf file ≡ tabulate (tableCount file) (λ j. sizeAt file j .columns)
+  unfolding columnsOf sizes
+  columns-are = tabulate-map (λ (s : Size). s .columns) (tableCount file) (sizeAt file)
+
+  pub column-at : (j : ℕ) → j < tableCount file → getD (columnsOf file) j 0 ≡ sizeAt file j .columns
+  column-at j h = rw columns-are (tabulate-at (tableCount file) (λ j. sizeAt file j .columns) j 0 h)
+
+  pub count-at : (j : ℕ) → j < tableCount file → rowCount file (suc j) ≡ sizeAt file j .rows
+  unfolding rowCount sizes
+  count-at j h =
+      rw (tabulate-map (λ (s : Size). s .rows) (tableCount file) (sizeAt file)) (tabulate-at (tableCount file) (λ j. sizeAt file j .rows) j 0 h)
 
 -- as many tables as byte 0 says
 pub columns-count : (file : List ℕ) → length (columnsOf file) ≡ tableCount file
-unfolding columnsOf sizes
-columns-count file = length-map (sizes file) (λ (s : Size). s .columns) ∙ tabulate-length (tableCount file) (sizeAt file)
+columns-count file = ap length (columns-are file) ∙ tabulate-length (tableCount file) (λ j. sizeAt file j .columns)
 
 all-columns : (ss : List Size) → T (all sizeFits ss) → T (all (between 1 mostColumns) (map (λ s. s .columns) ss))
 all-columns [] h = tt

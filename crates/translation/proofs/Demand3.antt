@@ -19,7 +19,7 @@ use Rattle.card.specs.Card.{AsNo, Card, LeafEntry, PairEntry, RowEntry, entries
 use Rattle.card.specs.Layout.{cardLength, columnsIn}
 use Rattle.card.specs.Sound.{mostEntries, sound, Sound}
 use Rattle.card.specs.Calls.{cardSays, saysYes, checkRefusals, fitsTables, gateRefusals, runRefusals, runCall, listCall}
-use Rattle.card.proofs.Places.{is-true}
+use Rattle.tables.proofs.Tests.{is-true, is-so}
 use Rattle.card.proofs.Claims.{sound-claim, length-claim}
 use Rattle.rule.specs.Condition.{Atom, Join, Not, Exists, Listed, Rule, parts, lists}
 use Rattle.rule.specs.Names.{mostParts}
@@ -34,9 +34,6 @@ use Rattle.translation.specs.Demand3.{Later, trueAt, publishedLength, Ca
 use Rattle.translation.proofs.Sums.{sum-claim, card-sum}
 use Rattle.translation.proofs.Says.{translation-claim}
 use Rattle.translation.proofs.Fits.{card-fits}
-
-true-T : {t : Bool} → t ≡ true → T t
-true-T e = rw e tt
 
 -- at most 64 parts make at most 192 entries, and there is one at least
 few-lists : (r : Rule) → lists r ≤ parts r
@@ -76,7 +73,7 @@ module _ (text file : List ℕ) (accepted : Accepted text file) where
     card = ruleCard rule;
     bytes = refl;
     few = few-entries rule (accepted-as .few-parts);
-    sized = columns-fit file (true-T (accepted-allowed text file accepted .tables-sized));
+    sized = columns-fit file (is-so _ (accepted-allowed text file accepted .tables-sized));
     fits = card-fits (columnsOf file) rule AsNo judgedLevels (omega (arith, accepted-as .few-froms)) (accepted-as .fits);
   }
 
@@ -94,7 +91,7 @@ module _ (text file : List ℕ) (accepted : Accepted text file) where
   module _ (later : List ℕ) (h : Later file later) where
     columns-are : columnsIn card ≡ columnsOf later
     unfolding is-sound
-    columns-are = sound-claim .holds-columns card is-sound ∙ same-columns-is file later (true-T (h .same-columns))
+    columns-are = sound-claim .holds-columns card is-sound ∙ same-columns-is file later (is-so _ (h .same-columns))
 
     fits-later : fitsTables card later ≡ true
     unfolding fitsTables
