@@ -35,7 +35,7 @@ pub enum Reason {
 }
 
 // The published number of a reason.
-pub fn refusal_number(x: Reason) -> usize
+pub fn refusal_number(x: Reason) -> u32
     ensures { λ r. ⌜ r ≡ reasonNumber x ⌝ }
 {
     match x {

@@ -1,0 +1,85 @@
+/* time CARD TABLES ROW: the best time of one RUN and of one LIST, in nanoseconds, by the library and by plain C, taken by turns. */
+#define _POSIX_C_SOURCE 199309L
+#include "plain.h"
+#include <stdio.h>
+#include <stdlib.h>
+#include <string.h>
+#include <time.h>
+
+uint32_t roskudla_run(const uint8_t *card, size_t card_len, const uint8_t *tables, size_t tables_len, size_t row, uint8_t *answer);
+uint32_t roskudla_list(const uint8_t *card, size_t card_len, const uint8_t *tables, size_t tables_len, uint32_t *rows, size_t rows_len, size_t *count);
+
+typedef uint32_t Run(const uint8_t *, size_t, const uint8_t *, size_t, size_t, uint8_t *);
+typedef uint32_t List(const uint8_t *, size_t, const uint8_t *, size_t, uint32_t *, size_t, size_t *);
+typedef struct { uint8_t bytes[1 << 16]; size_t length; } File;
+
+enum { TURNS = 25, ROOM = 1000 };
+static const double TURN_NANOSECONDS = 4e6;
+static File card, tables;
+static size_t row;
+
+static void read_file(File *file, const char *path) {
+    FILE *stream = fopen(path, "rb");
+    if (!stream) exit(2);
+    file->length = fread(file->bytes, 1, sizeof file->bytes, stream);
+    fclose(stream);
+}
+
+static double now(void) {
+    struct timespec t;
+    clock_gettime(CLOCK_MONOTONIC, &t);
+    return t.tv_sec * 1e9 + t.tv_nsec;
+}
+
+static double run_time(Run *run, long times) {
+    double start = now();
+    for (long i = 0; i < times; i++) {
+        uint8_t answer;
+        if (run(card.bytes, card.length, tables.bytes, tables.length, row, &answer)) exit(3);
+    }
+    return (now() - start) / times;
+}
+
+static double list_time(List *list, long times) {
+    static uint32_t rows[ROOM];
+    double start = now();
+    for (long i = 0; i < times; i++) {
+        size_t count;
+        if (list(card.bytes, card.length, tables.bytes, tables.length, rows, ROOM, &count)) exit(3);
+    }
+    return (now() - start) / times;
+}
+
+static long times_for(double once) {
+    double times = TURN_NANOSECONDS / once;
+    return times < 1 ? 1 : (long)times;
+}
+
+static void agree(void) {
+    static uint32_t rows[2][ROOM];
+    size_t counts[2];
+    uint8_t answers[2];
+    if (roskudla_list(card.bytes, card.length, tables.bytes, tables.length, rows[0], ROOM, &counts[0])
+        || plain_list(card.bytes, card.length, tables.bytes, tables.length, rows[1], ROOM, &counts[1])
+        || roskudla_run(card.bytes, card.length, tables.bytes, tables.length, row, &answers[0])
+        || plain_run(card.bytes, card.length, tables.bytes, tables.length, row, &answers[1])
+        || counts[0] != counts[1] || memcmp(rows[0], rows[1], counts[0] * sizeof rows[0][0]) || answers[0] != answers[1])
+        exit(4);
+}
+
+int main(int count, char **words) {
+    if (count != 4) return 2;
+    read_file(&card, words[1]);
+    read_file(&tables, words[2]);
+    row = (size_t)atol(words[3]);
+    agree();
+    double best[4] = {1e18, 1e18, 1e18, 1e18};
+    long run_times = times_for(run_time(plain_run, 3)), list_times = times_for(list_time(plain_list, 1));
+    for (int turn = 0; turn < TURNS; turn++) {
+        double taken[4] = {run_time(roskudla_run, run_times), run_time(plain_run, run_times), list_time(roskudla_list, list_times), list_time(plain_list, list_times)};
+        for (int i = 0; i < 4; i++)
+            if (taken[i] < best[i]) best[i] = taken[i];
+    }
+    printf("%.0f %.0f %.0f %.0f\n", best[0], best[1], best[2], best[3]);
+    return 0;
+}

@@ -1,0 +1,115 @@
+use mathlib.Core.Path.{_≡_, refl, sym, _∙_}
+use mathlib.Core.Logic.{⊎-elim}
+use Prim.Native.Nat.{_*_, _-_, _≤_}
+use native.Mathlib.Omega.{arith}
+use lib.ListN.{length, length-set}
+use lib.Seq.{getD-set-same}
+use Rattle.tables.specs.Tables.{mostRows}
+use Rattle.card.specs.Calls.{saysYes}
+use Rattle.gate.proofs.Judged.{laid-out, one-rows, few-rows, row-room, judged, judged-says}
+use Rattle.gate.proofs.Listing.{Kept, kept-none, kept-yes, kept-no, kept-all, next-first}
+use Rattle.gate.proofs.keep_rows.Statement.{statement}
+use Rattle.gate.proofs.keep_rows.Tie as tie
+
+abbrev Inv-loop : tie.InvT-loop
+Inv-loop card file d g kept₀ n columns rows w₀ first₀ k₀ row₀ kept w first k row =
+    (rows ≤ mostRows) × (row ≤ rows) × (first ≡ row * columns) × (length w ≡ 4) × Kept (saysYes card file) kept k row
+
+abbrev μ-loop : tie.MeasureT-loop
+μ-loop card file d g kept₀ n columns rows w₀ first₀ k₀ row₀ kept w first k row = rows - row
+
+read16-requires : tie.Need-read16-requires Inv-loop μ-loop
+read16-requires c κs = let laid = laid-out _ (c .before .before .pre .0 .sound-is) in omega arith
+
+element-copy-out-columns : tie.Need-element-copy-out-columns Inv-loop μ-loop
+element-copy-out-columns c = omega arith
+
+element-copy-out-rows : tie.Need-element-copy-out-rows Inv-loop μ-loop
+element-copy-out-rows c = omega arith
+
+loop-holds : tie.Need-loop-holds Inv-loop μ-loop
+loop-holds c =
+    let start = c .before .before .before .before .before in
+    (few-rows _ _ _ _ (start .pre .0), omega arith, omega arith, refl, kept-none _ _ (start .pre .1))
+
+array-write-w : tie.Need-array-write-w Inv-loop μ-loop
+array-write-w c = omega arith
+
+run-entry-requires : tie.Need-run-entry-requires Inv-loop μ-loop
+run-entry-requires c κs =
+    let start = c .before .before .before .before .before .before .before .before in
+    let loop = c .before .before .loop in
+    judged _ _ _ _ (start .pre .0) _ _ (c .before .loop-test .taken) (loop .inv .2) _ _ (c .before .before .before .before .before .read16 .ensures .0)
+    (length-set (loop .w) 0 (loop .first) ∙ loop .inv .3) (getD-set-same (loop .w) 0 (loop .first) 0 (omega arith))
+
+cast-kept : tie.Need-cast-kept Inv-loop μ-loop
+cast-kept c = omega arith
+
+mul-kept : tie.Need-mul-kept Inv-loop μ-loop
+mul-kept c = omega arith
+
+element-write-kept : tie.Need-element-write-kept Inv-loop μ-loop
+element-write-kept c = omega arith
+
+add-k : tie.Need-add-k Inv-loop μ-loop
+add-k c = omega arith
+
+add-first : tie.Need-add-first Inv-loop μ-loop
+add-first c =
+    let start = c .before .before .before .before .before .before .before .before .before .before in
+    let loop = c .before .before .before .before .loop in
+    omega (arith, row-room _ _ _ _ (start .pre .0) _ _ (c .before .before .before .loop-test .taken) (loop .inv .2))
+
+add-row : tie.Need-add-row Inv-loop μ-loop
+add-row c = omega arith
+
+loop-less : tie.Need-loop-less Inv-loop μ-loop
+loop-less c = omega arith
+
+loop-again : tie.Need-loop-again Inv-loop μ-loop
+loop-again c =
+    let start = c .before .before .before .before .before .before .before .before .before .before in
+    let loop = c .before .before .before .before .loop in
+    let below = c .before .before .before .loop-test .taken in
+    let size = length-set (loop .w) 0 (loop .first) ∙ loop .inv .3 in
+    let says =
+    judged-says _ _ _ _ (start .pre .0) _ _ below (loop .inv .2) _ _ (c .before .before .before .before .before .before .before .read16 .ensures .0)
+    size (getD-set-same (loop .w) 0 (loop .first) 0 (omega arith)) _ (c .before .run-entry .ensures) in (
+      loop .inv .0,
+      omega arith,
+      next-first _ _ _ (loop .inv .2),
+      size,
+      ⊎-elim
+          (λ x. kept-yes _ _ _ _ (loop .inv .4) (omega arith) _ (sym says ∙ x .0 .taken) (x .1))
+          (λ x. kept-no _ _ _ _ (loop .inv .4) (omega arith) _ (sym says ∙ x .0 .left) (x .1))
+          (c .if1 .came),
+    )
+
+returns : tie.Need-returns Inv-loop μ-loop
+returns c =
+    let start = c .before .before .before .before .before .before .before in
+    let loop = c .before .loop in
+    let (rows, count) = kept-all _ _ _ _ _ _ (loop .inv .4) (one-rows _ _ _ _ (start .pre .0)) (loop .inv .1) (c .loop-test .left) in
+    (rows, (count, (omega arith, loop .inv .4 .size)))
+
+pub keep-rows-spec : {M : Type 1} → statement M
+keep-rows-spec =
+    tie.close
+    (tie.spec
+    Inv-loop
+    μ-loop
+    read16-requires
+    element-copy-out-columns
+    element-copy-out-rows
+    loop-holds
+    array-write-w
+    run-entry-requires
+    cast-kept
+    mul-kept
+    element-write-kept
+    add-k
+    add-first
+    add-row
+    loop-less
+    loop-again
+    returns)

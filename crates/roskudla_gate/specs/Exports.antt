@@ -1,0 +1,19 @@
+-- What the C functions give back: a number that is 0 or a refusal's, and the answer through a pointer, which a refusal leaves as it was.
+use mathlib.Core.Bool.{Bool, true, false}
+use Prim.Native.Nat.{ℕ}
+use Rattle.tables.specs.Refusals.{Answer, Refused, Given}
+
+-- 0 for success, else the refusal's number
+abbrev pub statusOf : {A : Type 0} → Answer A → ℕ
+statusOf (Given x) = 0
+statusOf (Refused n) = n
+
+-- RUN's answer as a number: 0 no, 1 yes
+abbrev pub yesNo : Bool → ℕ
+yesNo false = 0
+yesNo true = 1
+
+-- the number behind a pointer afterwards, where it was `before`
+abbrev pub numberAfter : {A : Type 0} → (A → ℕ) → Answer A → ℕ → ℕ
+numberAfter f (Given x) before = f x
+numberAfter f (Refused n) before = before
