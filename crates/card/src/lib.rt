@@ -153,7 +153,7 @@ fn number_at(card: &[u8], r: usize, i: usize) -> usize
 }
 
 // The entries of a card as numbers, eight for each: kind, end, table, comparison, and two values of a tag and a number each.
-pub fn decode(card: &[u8], d: &mut [usize; 1536])
+fn decode(card: &[u8], d: &mut [usize; 1536])
     requires { ⌜ Laid (now card) ⌝ ∗ ⌜ length (now d) ≡ 1536 ⌝ }
     ensures is { λ _. ⌜ Decoded (now (card .entry)) (now (d .exit)) ⌝ }
     ensures size { λ _. ⌜ length (now (d .exit)) ≡ 1536 ⌝ }

@@ -128,7 +128,7 @@ fn size_fits(file: &[u8], j: usize) -> bool
 }
 
 // Whether sizes and length are right: refusal 1 does not apply.
-pub fn sizes_fit(file: &[u8]) -> bool
+fn sizes_fit(file: &[u8]) -> bool
     ensures { λ r. ⌜ r ≡ sizesFit (now (file .entry)) ⌝ }
 {
     if file.len() == 0 {
@@ -161,7 +161,7 @@ pub fn sizes_fit(file: &[u8]) -> bool
 }
 
 // The cells of all tables.
-pub fn cell_count(file: &[u8]) -> usize
+fn cell_count(file: &[u8]) -> usize
     requires { ⌜ Sized (now file) ⌝ }
     ensures is { λ r. ⌜ r ≡ cellCount (now (file .entry)) ⌝ }
 {
@@ -169,7 +169,7 @@ pub fn cell_count(file: &[u8]) -> usize
 }
 
 // Whether no mark is too high: refusal 2 does not apply.
-pub fn marks_fit(file: &[u8]) -> bool
+fn marks_fit(file: &[u8]) -> bool
     requires { ⌜ Sized (now file) ⌝ }
     ensures { λ r. ⌜ r ≡ marksFit (now (file .entry)) ⌝ }
 {
