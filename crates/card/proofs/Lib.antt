@@ -4,6 +4,3 @@ pub mod Back
 pub mod Exact
 pub mod Opened
 pub mod Claims
-pub mod Decoding
-pub mod Coded
-pub mod Checking

@@ -4,5 +4,3 @@ pub mod Sound
 pub mod Calls
 pub mod Cases
 pub mod Claims
-pub mod Answers
-pub mod Code

@@ -10,15 +10,15 @@ use Rattle.tables.specs.Lists.{tabulate, same}
 use Rattle.tables.specs.Bytes.{byteAt}
 use Rattle.tables.specs.Tables.{tableCount, sizeAt, columnsOf, rowCount}
 use Rattle.tables.specs.Refusals.{_if_, firstApplying, Answer, Refused, Given, Lent, tablesRefusals}
-use Rattle.tables.specs.Reasons.{reasonNumber, validityAnswer, tablesCall}
-use Rattle.tables.specs.Code.{Sized}
-use Rattle.tables.specs.declared.Reason.{Reason}
-use Rattle.tables.specs.declared.Validity.{Validity}
+use Rattle.cells.specs.Reasons.{reasonNumber, validityAnswer, tablesCall}
+use Rattle.cells.specs.Code.{Sized}
+use Rattle.cells.specs.declared.Reason.{Reason}
+use Rattle.cells.specs.declared.Validity.{Validity}
 use Rattle.tables.proofs.Refusals.{first-nil, first-one, first-none, first-append, first-found, unless-none, unless-some}
 use Rattle.tables.proofs.Tests.{is-true, refuted}
 use Rattle.tables.proofs.Tabulated.{tabulate-length, tabulate-at, tabulate-same}
 use Rattle.tables.proofs.Sizes.{columns-are, column-at, columns-count, same-is, same-refl}
-use Rattle.tables.proofs.Valid.{given-none, refused-some, valid-none, invalid-some, valid-sized}
+use Rattle.cells.proofs.Valid.{given-none, refused-some, valid-none, invalid-some, valid-sized}
 use Rattle.card.specs.Layout.{tablesIn, columnsIn}
 use Rattle.card.specs.Sound.{sound}
 use Rattle.card.specs.Calls.{saysYes, yesRows, checkRefusals, fitsTables, gateRefusals, runCall, listCall}

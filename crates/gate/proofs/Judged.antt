@@ -10,17 +10,18 @@ use Rattle.tables.specs.Tables.{mostRows, mostCells, Row, columnsOf, rowCount, 
 use Rattle.tables.specs.Values.{judgedLevels, judgedRow}
 use Rattle.tables.proofs.Tabulated.{tabulate-at}
 use Rattle.tables.proofs.Sizes.{count-at, same-is}
-use Rattle.tables.proofs.Cells.{cells-none, place-of}
+use Rattle.cells.proofs.Cells.{cells-none, place-of}
 use Rattle.card.specs.Card.{cardFits}
 use Rattle.card.specs.Layout.{entryCount, columnsIn}
 use Rattle.card.specs.Sound.{sound}
 use Rattle.card.specs.Calls.{cardSays, saysYes, fitsTables}
-use Rattle.card.specs.Code.{Laid, Coded}
+use Rattle.checker.specs.Code.{Laid, Coded}
 use Rattle.card.proofs.Exact.{Passed, sound-passed}
-use Rattle.card.proofs.Decoding.{laid-is, sound-laid, head-decoded, end-decoded}
-use Rattle.card.proofs.Coded.{card-coded}
-use Rattle.gate.specs.Code.{rowFrom, LevelAt, Levels, Runnable, Answers, Opened}
-use Rattle.gate.proofs.Rows.{TableAt, table-at, row-at}
+use Rattle.checker.proofs.Decoding.{laid-is, sound-laid, head-decoded, end-decoded}
+use Rattle.checker.proofs.Coded.{card-coded}
+use Rattle.runner.specs.Code.{rowFrom, LevelAt, Levels, Runnable, Answers}
+use Rattle.gate.specs.Code.{Opened}
+use Rattle.runner.proofs.Rows.{TableAt, table-at, row-at}
 
 pub laid-out : (card : List ℕ) → sound card ≡ true → Laid card
 laid-out card e = laid-is card (sound-laid card e)

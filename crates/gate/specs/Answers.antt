@@ -2,7 +2,7 @@
 use mathlib.Core.Bool.{Bool, true, false}
 use Prim.Native.Nat.{ℕ}
 use Rattle.tables.specs.Refusals.{Answer, Refused, Given}
-use Rattle.tables.specs.Reasons.{reasonNumber}
+use Rattle.cells.specs.Reasons.{reasonNumber}
 use Rattle.gate.specs.declared.Ran.{Ran}
 use Rattle.gate.specs.declared.Ran.the-variants.{Yes, No, NotRun}
 use Rattle.gate.specs.declared.Listed.{Listed}

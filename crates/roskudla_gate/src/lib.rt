@@ -2,7 +2,7 @@
 ghost use mathlib.Core.Path.{_≡_};
 ghost use Rattle.card.specs.Calls.{checkCall, runCall, listCall};
 ghost use Rattle.roskudla_gate.specs.Exports.{statusOf, yesNo, numberAfter};
-use card::Checked;
+use checker::Checked;
 use gate::Listed;
 use gate::Ran;
 
@@ -11,10 +11,10 @@ use gate::Ran;
 pub extern "C" fn roskudla_check(card: &[u8]) -> u32
     ensures { λ r. ⌜ r ≡ statusOf (checkCall (now (card .entry))) ⌝ }
 {
-    let checked = card::check(card);
+    let checked = checker::check(card);
     match checked {
         Checked::Good => 0,
-        Checked::Bad(x) => tables::refusal_number(x),
+        Checked::Bad(x) => cells::refusal_number(x),
     }
 }
 
@@ -34,7 +34,7 @@ pub extern "C" fn roskudla_run(card: &[u8], tables: &[u8], row: usize, answer: &
             *answer = 0;
             0
         }
-        Ran::NotRun(x) => tables::refusal_number(x),
+        Ran::NotRun(x) => cells::refusal_number(x),
     }
 }
 
@@ -56,6 +56,6 @@ pub extern "C" fn roskudla_list(
             *count = n;
             0
         }
-        Listed::NotListed(x) => tables::refusal_number(x),
+        Listed::NotListed(x) => cells::refusal_number(x),
     }
 }

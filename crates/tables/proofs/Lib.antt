@@ -6,7 +6,3 @@ pub mod Tests
 pub mod Tabulated
 pub mod Sizes
 pub mod Rows
-pub mod Signed
-pub mod Cells
-pub mod Holding
-pub mod Valid

@@ -5,5 +5,3 @@ pub mod Values
 pub mod Refusals
 pub mod Cases
 pub mod Claims
-pub mod Reasons
-pub mod Code

@@ -1,6 +1,6 @@
 use borrow.Author.Needs.{needs}
 use mathlib.Core.Path.{_∙_}
-use Rattle.card.specs.Answers.{checkedAnswer}
+use Rattle.checker.specs.Answers.{checkedAnswer}
 use Rattle.roskudla_gate.proofs.Answered.{status-is}
 use Rattle.roskudla_gate.proofs.roskudla_check.Statement.{statement}
 use Rattle.roskudla_gate.proofs.roskudla_check.Tie as tie

@@ -1,0 +1,4 @@
+pub mod Signed
+pub mod Cells
+pub mod Holding
+pub mod Valid

@@ -1,0 +1,129 @@
+use mathlib.Core.Path.{_≡_, sym, _∙_}
+use mathlib.Core.Bool.{true}
+use Prim.Native.Nat.{ℕ, _≤_, _<_, _*_, _-_}
+use native.Mathlib.Omega.{arith}
+use borrow.Author.Count.{below-more}
+use borrow.Author.Tests.{not-true, not-false}
+use Rattle.tables.specs.Tables.{sizeAt, cellsBefore, sizeFits}
+use Rattle.cells.proofs.Cells.{cells-none, sizes-no, sizes-one, sizes-last, mul-below, cells-next, cells-end, cells-no}
+use Rattle.cells.proofs.sizes_fit.Statement.{statement}
+use Rattle.cells.proofs.sizes_fit.Tie as tie
+
+abbrev Inv-loop : tie.InvT-loop
+Inv-loop file n cells₀ j₀ cells j =
+    (j ≤ n) × ((k : ℕ) → k < j → sizeFits (sizeAt file k) ≡ true) × (cells ≡ cellsBefore file j) × (cells ≤ 16777216 * j)
+
+abbrev μ-loop : tie.MeasureT-loop
+μ-loop file n cells₀ j₀ cells j = n - j
+
+returns : tie.Need-returns Inv-loop μ-loop
+returns c = sizes-no (c .before .before .args .file .now) (λ h. omega (arith, h .long))
+
+byte-requires : tie.Need-byte-requires Inv-loop μ-loop
+byte-requires c κs = omega arith
+
+returns-2 : tie.Need-returns-2 Inv-loop μ-loop
+returns-2 c = sizes-no (c .before .before .before .before .args .file .now) (λ h. omega (arith, h .tables-low))
+
+returns-3 : tie.Need-returns-3 Inv-loop μ-loop
+returns-3 c = sizes-no (c .before .before .before .before .before .args .file .now) (λ h. omega (arith, h .tables-high))
+
+mul-if4 : tie.Need-mul-if4 Inv-loop μ-loop
+mul-if4 c = omega arith
+
+returns-4 : tie.Need-returns-4 Inv-loop μ-loop
+returns-4 c = sizes-no (c .before .before .before .before .before .before .args .file .now) (λ h. omega (arith, h .long))
+
+loop-holds : tie.Need-loop-holds Inv-loop μ-loop
+loop-holds c = (omega arith, (λ k h. absurd (omega arith)), sym (cells-none (c .before .before .before .before .before .before .args .file .now)), omega arith)
+
+size-fits-requires : tie.Need-size-fits-requires Inv-loop μ-loop
+size-fits-requires c κs = omega arith
+
+returns-5 : tie.Need-returns-5 Inv-loop μ-loop
+returns-5 c =
+    sizes-one (c .before .before .before .before .before .before .before .before .before .before .args .file .now) (c .before .before .before .loop .j) (omega arith)
+    (sym (c .before .size-fits .ensures) ∙ not-true _ (c .if5 .taken))
+
+table-rows-requires : tie.Need-table-rows-requires Inv-loop μ-loop
+table-rows-requires c κs = omega arith
+
+table-columns-requires : tie.Need-table-columns-requires Inv-loop μ-loop
+table-columns-requires c κs = omega arith
+
+mul-cells : tie.Need-mul-cells Inv-loop μ-loop
+mul-cells c = omega (arith, mul-below (c .before .table-rows .result) (c .table-columns .result) 65536 256 (omega arith) (omega arith))
+
+add-cells : tie.Need-add-cells Inv-loop μ-loop
+add-cells c = omega (arith, mul-below (c .before .table-rows .result) (c .table-columns .result) 65536 256 (omega arith) (omega arith))
+
+add-j : tie.Need-add-j Inv-loop μ-loop
+add-j c = omega arith
+
+loop-less : tie.Need-loop-less Inv-loop μ-loop
+loop-less c = omega arith
+
+loop-again : tie.Need-loop-again Inv-loop μ-loop
+loop-again c = (
+  omega arith,
+  below-more _ _ (c .before .before .before .before .before .loop .inv .1) (sym (c .before .before .before .size-fits .ensures) ∙ not-false _ (c .before .before .if5 .left)),
+  cells-next (c .before .before .before .before .before .before .before .before .before .before .before .before .args .file .now) _ _ _ _ _
+      (c .before .before .before .before .before .before .before .before .before .byte .ensures .0) (c .before .before .before .before .loop-test .taken)
+      (c .before .before .before .before .before .loop .inv .2) (c .before .table-rows .ensures .0) (c .table-columns .ensures .0),
+  omega (arith, mul-below (c .before .table-rows .result) (c .table-columns .result) 65536 256 (omega arith) (omega arith)),
+)
+
+returns-6 : tie.Need-returns-6 Inv-loop μ-loop
+returns-6 c =
+    let file = c .before .before .before .before .before .before .before .before .before .args .file .now in
+    let n = c .before .before .before .before .before .before .byte .ensures .0 in
+    sizes-no file (cells-no file _ _ n
+    (cells-end file _ _ _ n (c .before .before .loop .inv .0) (c .before .loop-test .left) (c .before .before .loop .inv .2)) (c .if6 .taken))
+
+mul-result : tie.Need-mul-result Inv-loop μ-loop
+mul-result c = omega arith
+
+add-result : tie.Need-add-result Inv-loop μ-loop
+add-result c = omega arith
+
+mul-result-2 : tie.Need-mul-result-2 Inv-loop μ-loop
+mul-result-2 c = omega arith
+
+add-result-2 : tie.Need-add-result-2 Inv-loop μ-loop
+add-result-2 c = omega arith
+
+returns-7 : tie.Need-returns-7 Inv-loop μ-loop
+returns-7 c =
+    let file = c .before .before .before .before .before .before .before .before .before .args .file .now in
+    let n = c .before .before .before .before .before .before .byte .ensures .0 in
+    sizes-last file _ _ n (omega arith) (omega arith) (λ j h. c .before .before .loop .inv .1 j (omega arith))
+    (cells-end file _ _ _ n (c .before .before .loop .inv .0) (c .before .loop-test .left) (c .before .before .loop .inv .2)) (c .if6 .left)
+
+pub sizes-fit-spec : {M : Type 1} → statement M
+sizes-fit-spec =
+    tie.close
+    (tie.spec
+    Inv-loop
+    μ-loop
+    returns
+    byte-requires
+    returns-2
+    returns-3
+    mul-if4
+    returns-4
+    loop-holds
+    size-fits-requires
+    returns-5
+    table-rows-requires
+    table-columns-requires
+    mul-cells
+    add-cells
+    add-j
+    loop-less
+    loop-again
+    returns-6
+    mul-result
+    add-result
+    mul-result-2
+    add-result-2
+    returns-7)

@@ -1,0 +1,32 @@
+-- The answers that the code gives as enums: what each case stands for.
+use mathlib.Core.List.{List}
+use Prim.Native.Nat.{ℕ}
+use Rattle.tables.specs.Refusals.{firstApplying, Answer, Refused, Given, unless, tablesRefusals}
+use Rattle.cells.specs.declared.Reason.{Reason}
+use Rattle.cells.specs.declared.Reason.the-variants.{Sizes, Mark, TextLength, Token, Brackets, Grammar, Limits, Names, Unsound, Columns, Row, Short}
+use Rattle.cells.specs.declared.Validity.{Validity}
+use Rattle.cells.specs.declared.Validity.the-variants.{Valid, Invalid}
+
+-- 'Gate says why not': the number in the table for each reason to refuse
+abbrev pub reasonNumber : Reason → ℕ
+reasonNumber Sizes = 1
+reasonNumber Mark = 2
+reasonNumber TextLength = 3
+reasonNumber Token = 4
+reasonNumber Brackets = 5
+reasonNumber Grammar = 6
+reasonNumber Limits = 7
+reasonNumber Names = 8
+reasonNumber Unsound = 9
+reasonNumber Columns = 10
+reasonNumber Row = 11
+reasonNumber Short = 12
+
+-- a tables file is valid, or is refused for a reason
+abbrev pub validityAnswer : Validity → Answer (Unit {0})
+validityAnswer Valid = Given tt
+validityAnswer (Invalid x) = Refused (reasonNumber x)
+
+-- which it is: refusals 1 and 2
+unfoldable pub tablesCall : List ℕ → Answer (Unit {0})
+tablesCall file = unless (firstApplying (tablesRefusals file)) (λ _. tt)

@@ -1,0 +1,250 @@
+// The bytes of a tables file: which files are refused, their sizes, and the mark and the value of a cell.
+ghost use mathlib.Core.Path.{_≡_};
+ghost use Prim.Native.Nat.{_+_, _*_, _<_};
+ghost use lib.ListN.{length};
+ghost use Rattle.tables.specs.Bytes.{byteAt, word16, word32};
+ghost use Rattle.tables.specs.Tables.{sizeAt, cellCount, sizesFit, sizeFits, marksFit, cellAt};
+ghost use Rattle.cells.specs.Reasons.{reasonNumber, validityAnswer, tablesCall};
+ghost use Rattle.cells.specs.Code.{excess, Sized, Places, seenCell, CellIn};
+
+// Limits on a tables file.
+pub const MOST_TABLES: usize = 8;
+
+pub const MOST_COLUMNS: usize = 16;
+
+pub const MOST_ROWS: usize = 1000;
+
+pub const MOST_CELLS: usize = 8192;
+
+pub const HIGHEST_MARK: usize = 1;
+
+// Why a call refuses, in the order of the published numbers.
+pub enum Reason {
+    Sizes,
+    Mark,
+    TextLength,
+    Token,
+    Brackets,
+    Grammar,
+    Limits,
+    Names,
+    Unsound,
+    Columns,
+    Row,
+    Short,
+}
+
+// The published number of a reason.
+pub fn refusal_number(x: Reason) -> u32
+    ensures { λ r. ⌜ r ≡ reasonNumber x ⌝ }
+{
+    match x {
+        Reason::Sizes => 1,
+        Reason::Mark => 2,
+        Reason::TextLength => 3,
+        Reason::Token => 4,
+        Reason::Brackets => 5,
+        Reason::Grammar => 6,
+        Reason::Limits => 7,
+        Reason::Names => 8,
+        Reason::Unsound => 9,
+        Reason::Columns => 10,
+        Reason::Row => 11,
+        Reason::Short => 12,
+    }
+}
+
+// Byte i.
+pub fn byte(bytes: &[u8], i: usize) -> usize
+    requires { ⌜ i < length (now bytes) ⌝ }
+    ensures is { λ r. ⌜ r ≡ byteAt (now (bytes .entry)) i ⌝ }
+    ensures small { λ r. ⌜ r < 256 ⌝ }
+{
+    bytes[i] as usize
+}
+
+// The number of the two bytes from i on.
+pub fn read16(bytes: &[u8], i: usize) -> usize
+    requires { ⌜ i + 1 < length (now bytes) ⌝ }
+    ensures is { λ r. ⌜ r ≡ word16 (now (bytes .entry)) i ⌝ }
+    ensures small { λ r. ⌜ r < 65536 ⌝ }
+{
+    byte(bytes, i) + 256 * byte(bytes, i + 1)
+}
+
+// The number of the four bytes from i on.
+pub fn read32(bytes: &[u8], i: usize) -> usize
+    requires { ⌜ i + 3 < length (now bytes) ⌝ }
+    ensures is { λ r. ⌜ r ≡ word32 (now (bytes .entry)) i ⌝ }
+    ensures small { λ r. ⌜ r < 4294967296 ⌝ }
+{
+    byte(bytes, i)
+        + 256 * byte(bytes, i + 1)
+        + 65536 * byte(bytes, i + 2)
+        + 16777216 * byte(bytes, i + 3)
+}
+
+// The signed number of the four bytes from i on, plus 2 ^ 31: so that signed numbers are compared as unsigned ones.
+pub fn read_excess(bytes: &[u8], i: usize) -> usize
+    requires { ⌜ i + 3 < length (now bytes) ⌝ }
+    ensures is { λ r. ⌜ r ≡ excess (word32 (now (bytes .entry)) i) ⌝ }
+    ensures small { λ r. ⌜ r < 4294967296 ⌝ }
+    ensures whole { λ r. ⌜ word32 (now (bytes .entry)) i < 4294967296 ⌝ }
+{
+    (read32(bytes, i) + 2147483648) % 4294967296
+}
+
+// The columns of a table; j counts the tables from 0.
+pub fn table_columns(file: &[u8], j: usize) -> usize
+    requires { ⌜ 3 + 3 * j < length (now file) ⌝ }
+    ensures is { λ r. ⌜ r ≡ sizeAt (now (file .entry)) j .columns ⌝ }
+    ensures small { λ r. ⌜ r < 256 ⌝ }
+{
+    byte(file, 1 + 3 * j)
+}
+
+// Its rows.
+pub fn table_rows(file: &[u8], j: usize) -> usize
+    requires { ⌜ 3 + 3 * j < length (now file) ⌝ }
+    ensures is { λ r. ⌜ r ≡ sizeAt (now (file .entry)) j .rows ⌝ }
+    ensures small { λ r. ⌜ r < 65536 ⌝ }
+{
+    read16(file, 2 + 3 * j)
+}
+
+// Whether its sizes are within the limits.
+fn size_fits(file: &[u8], j: usize) -> bool
+    requires { ⌜ 3 + 3 * j < length (now file) ⌝ }
+    ensures { λ r. ⌜ r ≡ sizeFits (sizeAt (now (file .entry)) j) ⌝ }
+{
+    let columns = table_columns(file, j);
+    if columns < 1 {
+        return false;
+    }
+    if MOST_COLUMNS < columns {
+        return false;
+    }
+    table_rows(file, j) <= MOST_ROWS
+}
+
+// Whether sizes and length are right: refusal 1 does not apply.
+fn sizes_fit(file: &[u8]) -> bool
+    ensures { λ r. ⌜ r ≡ sizesFit (now (file .entry)) ⌝ }
+{
+    if file.len() == 0 {
+        return false;
+    }
+    let n = byte(file, 0);
+    if n < 1 {
+        return false;
+    }
+    if MOST_TABLES < n {
+        return false;
+    }
+    if file.len() <= 3 * n {
+        return false;
+    }
+    let mut cells: usize = 0;
+    let mut j: usize = 0;
+    while j < n {
+        let fits = size_fits(file, j);
+        if !fits {
+            return false;
+        }
+        cells += table_rows(file, j) * table_columns(file, j);
+        j += 1;
+    }
+    if MOST_CELLS < cells {
+        return false;
+    }
+    file.len() == 1 + 3 * n + 5 * cells
+}
+
+// The cells of all tables.
+fn cell_count(file: &[u8]) -> usize
+    requires { ⌜ Sized (now file) ⌝ }
+    ensures is { λ r. ⌜ r ≡ cellCount (now (file .entry)) ⌝ }
+{
+    (file.len() - 1 - 3 * byte(file, 0)) / 5
+}
+
+// Whether no mark is too high: refusal 2 does not apply.
+fn marks_fit(file: &[u8]) -> bool
+    requires { ⌜ Sized (now file) ⌝ }
+    ensures { λ r. ⌜ r ≡ marksFit (now (file .entry)) ⌝ }
+{
+    let cells = cell_count(file);
+    let first = file.len() - cells;
+    let mut fits = true;
+    let mut k: usize = 0;
+    while k < cells {
+        if HIGHEST_MARK < byte(file, first + k) {
+            fits = false;
+        }
+        k += 1;
+    }
+    fits
+}
+
+// Whether a tables file is valid.
+pub enum Validity {
+    Valid,
+    Invalid(Reason),
+}
+
+pub fn check_tables(file: &[u8]) -> Validity
+    ensures { λ r. ⌜ validityAnswer r ≡ tablesCall (now (file .entry)) ⌝ }
+{
+    let sizes = sizes_fit(file);
+    if !sizes {
+        return Validity::Invalid(Reason::Sizes);
+    }
+    let marks = marks_fit(file);
+    if !marks {
+        return Validity::Invalid(Reason::Mark);
+    }
+    Validity::Valid
+}
+
+// Where the tables of a file stand: where its values start, where its marks start, and all cells; then of each table its first cell, columns, rows.
+pub fn places(file: &[u8], g: &mut [usize; 27])
+    requires { ⌜ Sized (now file) ⌝ ∗ ⌜ length (now g) ≡ 27 ⌝ }
+    ensures holds { λ _. ⌜ Places (now (file .entry)) (now (g .exit)) ⌝ }
+    ensures size { λ _. ⌜ length (now (g .exit)) ≡ 27 ⌝ }
+{
+    let n = byte(file, 0);
+    let cells = cell_count(file);
+    g[0] = 1 + 3 * n;
+    g[1] = 1 + 3 * n + 4 * cells;
+    g[2] = cells;
+    let mut first: usize = 0;
+    let mut j: usize = 0;
+    while j < n {
+        let columns = table_columns(file, j);
+        let rows = table_rows(file, j);
+        g[3 * j + 3] = first;
+        g[3 * j + 4] = columns;
+        g[3 * j + 5] = rows;
+        first += rows * columns;
+        j += 1;
+    }
+}
+
+// What is seen of a cell: whether it is blank, and its number plus 2 ^ 31.
+pub struct Seen {
+    pub blank: bool,
+    pub number: usize,
+}
+
+// Cell k of all. Both are read whatever the mark says: a branch on the mark would cost more than the read.
+pub fn cell(file: &[u8], values: usize, marks: usize, k: usize) -> Seen
+    requires { ⌜ CellIn (now file) values marks k ⌝ }
+    ensures { λ r. ⌜ seenCell r ≡ cellAt (now (file .entry)) k ⌝ }
+{
+    let mark = byte(file, marks + k);
+    let number = read_excess(file, values + 4 * k);
+    Seen {
+        blank: mark != 0,
+        number,
+    }
+}

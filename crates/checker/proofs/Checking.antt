@@ -1,0 +1,359 @@
+-- The check of a card in an array of numbers: what each test of src/ decides.
+use mathlib.Core.Path.{_≡_, refl, sym, ap, subst, _∙_}
+use mathlib.Core.Bool.{Bool, true, false, cond, _&&_}
+use mathlib.Core.List.{List, [], _∷_, _++_}
+use mathlib.Core.Logic.{⊎-elim}
+use mathlib.Core.Option.{some}
+use Prim.Native.Nat.{ℕ, zero, suc, _+_, _-_, _*_, _≤_, _<_}
+use native.Mathlib.Nat.{eq-or-lt-of-le}
+use native.Mathlib.Numerals.{add-one}
+use native.Mathlib.Omega.{arith}
+use borrow.Author.Tests.{ltb-true, ltb-false, lt-ltb, le-ltb, lt-leb, ne-eqb, eq-eqb}
+use lib.Dec.{T, leb, ltb, le→leb, leb→le}
+use lib.Ieee.Fits.{and-i}
+use lib.IntN.{pos, negsuc}
+use lib.ListN.{length, getD, set, take, length-set}
+use lib.Seq.{length-take-le, getD-take, getD-set-same, getD-set-other, take-suc-set}
+use Rattle.tables.specs.Lists.{numbered}
+use Rattle.tables.specs.Bytes.{between, byteAt, inRange}
+use Rattle.tables.specs.Values.{constantTag, judgedLevels, Connective, And, Or, Quantifier, Some, All}
+use Rattle.cells.specs.Code.{fromExcess}
+use Rattle.card.specs.Card.{mostRowEntries, Leaf, Card, LeafEntry, PairEntry, RowEntry, valueFits, leafFits, rowsFit, cardFits}
+use Rattle.card.specs.Layout.{LeafHead, PairHead, RowHead, entryCount, tablesIn, columnsIn, kindAt, recordAt, endAt, headFrom, cardFrom}
+use Rattle.card.specs.Sound.{mostEntries, columnsFit, holdsFitting, sound}
+use Rattle.checker.specs.Code.{laid, Laid, Decoded, valueIn, kindIn, endIn, tableIn, leftIn, rightIn, headIn, Coded, coded-leaf, coded-pair, coded-row, Fitting, Checks, LevelsIn, Checkable}
+use Rattle.tables.proofs.Tests.{is-true, both, bounds}
+use Rattle.tables.proofs.Tabulated.{tabulate-at}
+use Rattle.checker.proofs.Coded.{head-1, head-2, head-3, head-4, head-5, head-6, head-7, head-8, kind-pair, kind-row, kind-leaf, coded-less, coded-end, pair-of, row-of, leaf-of, card-coded, coded-card}
+use Rattle.card.proofs.Exact.{sound-passed}
+use Rattle.checker.proofs.Decoding.{columns-length, head-decoded, end-decoded}
+
+-- ---- the columns of a table
+
+pub column-at : (card : List ℕ) (t : ℕ) → 1 ≤ t → t ≤ tablesIn card → numbered (columnsIn card) t 0 ≡ byteAt card (2 + t)
+unfolding columnsIn
+column-at card zero low high = absurd (omega arith)
+column-at card (suc j) low high =
+    let next : 3 + j ≡ 2 + suc j = omega arith in
+    tabulate-at (tablesIn card) (λ j. byteAt card (3 + j)) j 0 high ∙ ap (byteAt card) next
+
+-- ---- a value
+
+excess-in-range : (n : ℕ) → n < 4294967296 → inRange (fromExcess n) ≡ true
+excess-in-range n small = go (ltb n 2147483648) refl
+  where
+    go : (t : Bool) → ltb n 2147483648 ≡ t → inRange (cond t (negsuc (2147483648 - suc n)) (pos (n - 2147483648))) ≡ true
+    go true e = lt-ltb (2147483648 - suc n) 2147483648 (omega arith)
+    go false e = let l = ltb-false n 2147483648 e in lt-ltb (n - 2147483648) 2147483648 (omega arith)
+
+levels-long : (card w : List ℕ) (depth : ℕ) → LevelsIn card w depth → length (take depth w) ≡ depth
+levels-long card w depth h = length-take-le depth w (omega arith)
+
+module _ (columns levels : List ℕ) (tag n : ℕ) where
+  pub constant-fits : tag ≡ constantTag → n < 4294967296 → true ≡ valueFits columns levels (valueIn tag n)
+  unfolding valueIn
+  constant-fits e small = rw (eq-eqb tag constantTag e) (sym (excess-in-range n small))
+
+module _ (card w : List ℕ) (depth tag n : ℕ) (h : LevelsIn card w depth) (not-constant : tag ≡ constantTag → ⊥) where
+  abbrev Fits : Bool
+  Fits = valueFits (columnsIn card) (take depth w) (valueIn tag n)
+
+  pub level-missing : depth ≤ tag → false ≡ Fits
+  unfolding valueIn
+  level-missing l = rw (ne-eqb tag constantTag not-constant, levels-long card w depth h, le-ltb tag depth l)
+
+  column-fits : tag < depth → Fits ≡ (leb 1 n && leb n (byteAt card (2 + getD w tag 0)))
+  unfolding valueIn
+  column-fits l =
+      rw (
+        ne-eqb tag constantTag not-constant,
+        levels-long card w depth h,
+        lt-ltb tag depth l,
+        getD-take depth w tag 0 l,
+        column-at card (getD w tag 0) (h .table-low tag l) (h .table-high tag l),
+      )
+
+  pub column-missing : tag < depth → n < 1 → false ≡ Fits
+  column-missing l z = rw (column-fits l, lt-leb 1 n z)
+
+  pub column-last : tag < depth → 1 ≤ n → leb n (byteAt card (2 + getD w tag 0)) ≡ Fits
+  column-last l z = rw (column-fits l, is-true (leb 1 n) (le→leb 1 n z))
+
+-- ---- answers
+
+pub no-yes : {A : Type 0} → false ≡ true → A
+no-yes e = let z : _≡_ {A = ℕ} 0 1 = cc in absurd (omega arith)
+
+module _ {d columns levels : List ℕ} {s e : ℕ} where
+  pub none-fits : (Fitting d columns levels s e → ⊥) → Checks d columns levels s e false
+  none-fits f = record { yes-fits = no-yes; fits-yes = λ x. absurd (f x) }
+
+  -- an entry's end in the array is where it ends
+  pub wrong-end : (endIn d s ≡ e → ⊥) → Checks d columns levels s e false
+  wrong-end f = none-fits (λ x. f (coded-end (x .coded)))
+
+  -- no other kinds
+  pub wrong-kind : (1 ≤ kindIn d s → kindIn d s ≤ 8 → ⊥) → Checks d columns levels s e false
+  wrong-kind f = none-fits (λ x. go (x .coded))
+    where
+      go : {c : Card} → Coded d s e c → ⊥
+      go (coded-leaf h p q) = let k = kind-leaf d s _ h in f (omega arith) (omega arith)
+      go (coded-pair h p a b) = let k = kind-pair d s _ h in f (omega arith) (omega arith)
+      go (coded-row h p a) = let k = kind-row d s _ _ h in f (omega arith) (omega arith)
+
+-- ---- what checking asks, of inner entries
+
+pub checkable-within : {card d w : List ℕ} {s e depth : ℕ} → Checkable card d w s e depth → (m n : ℕ) → m < n → n ≤ e → Checkable card d w m n depth
+checkable-within h m n l b = record { levels = h .levels; decoded = h .decoded; started = l; within = omega arith }
+
+-- one level more
+module _ (card w : List ℕ) (depth t : ℕ) (h : LevelsIn card w depth) (t-low : 1 ≤ t) (t-high : t ≤ tablesIn card) (few : depth ≤ mostRowEntries) where
+  level-is : (P : ℕ → Type 0) (l : ℕ) → l < depth + 1 → P t → (l < depth → P (getD w l 0)) → P (getD (set w depth t) l 0)
+  level-is P l b p f =
+      ⊎-elim
+      (λ e. subst P (sym (ap (λ (k : ℕ). getD (set w depth t) k 0) e ∙ getD-set-same w depth t 0 (omega arith))) p)
+      (λ b. subst P (sym (getD-set-other w depth l t 0 (λ e. omega arith))) (f b))
+      (eq-or-lt-of-le {n = l} {m = depth} (omega arith))
+
+  levels-deeper : LevelsIn card (set w depth t) (depth + 1)
+  levels-deeper = record {
+    laid-out = h .laid-out;
+    size = length-set w depth t ∙ h .size;
+    few = omega arith;
+    table-low = λ l b. level-is (λ (n : ℕ). 1 ≤ n) l b t-low (h .table-low l);
+    table-high = λ l b. level-is (λ (n : ℕ). n ≤ tablesIn card) l b t-high (h .table-high l);
+  }
+
+pub checkable-deeper : {card d w : List ℕ} {s e depth : ℕ} → Checkable card d w s e depth → 1 ≤ tableIn d s → tableIn d s ≤ tablesIn card → depth ≤ mostRowEntries
+    → s + 1 < e → Checkable card d (set w depth (tableIn d s)) (s + 1) e (depth + 1)
+checkable-deeper h low high few l = record { levels = levels-deeper _ _ _ _ (h .levels) low high few; decoded = h .decoded; started = l; within = h .within }
+
+-- ---- an entry without inner ones
+
+one-of-two : {A : Type 0} (k n : ℕ) → n ≤ k → k ≤ n + 1 → (k ≡ n → A) → (k ≡ n + 1 → A) → A
+one-of-two k n low high f g = ⊎-elim (λ e. f (sym e)) (λ l. g (omega arith)) (eq-or-lt-of-le low)
+
+-- it fits, if this test says yes
+record LeafAt (d columns levels : List ℕ) (s : ℕ) (fits : Bool) : Type 0 where
+  leaf : Leaf
+  says : headIn d s ≡ some (LeafHead leaf)
+  is : leafFits columns levels leaf ≡ fits
+
+module _ (d columns levels : List ℕ) (s : ℕ) where
+  abbrev left : Bool
+  left = valueFits columns levels (leftIn d s)
+
+  abbrev right : Bool
+  right = valueFits columns levels (rightIn d s)
+
+  compare-at : 5 ≤ kindIn d s → kindIn d s ≤ 6 → LeafAt d columns levels s (left && right)
+  compare-at low high =
+      one-of-two (kindIn d s) 5 low high
+      (λ k. record { leaf = _; says = head-5 d s k; is = refl })
+      (λ k. record { leaf = _; says = head-6 d s k; is = refl })
+
+  blank-at : 7 ≤ kindIn d s → kindIn d s ≤ 8 → LeafAt d columns levels s left
+  blank-at low high =
+      one-of-two (kindIn d s) 7 low high
+      (λ k. record { leaf = _; says = head-7 d s k; is = refl })
+      (λ k. record { leaf = _; says = head-8 d s k; is = refl })
+
+  leaf-at : 5 ≤ kindIn d s → kindIn d s ≤ 8 → LeafAt d columns levels s (cond (ltb 6 (kindIn d s)) left (left && right))
+  leaf-at low high = go (ltb 6 (kindIn d s)) refl
+    where
+      go : (t : Bool) → ltb 6 (kindIn d s) ≡ t → LeafAt d columns levels s (cond t left (left && right))
+      go true e = blank-at (omega (arith, ltb-true 6 (kindIn d s) e)) high
+      go false e = compare-at low (omega (arith, ltb-false 6 (kindIn d s) e))
+
+  module _ (e : ℕ) (low : 5 ≤ kindIn d s) (high : kindIn d s ≤ 8) where
+    pub leaf-long : (e ≡ s + 1 → ⊥) → Checks d columns levels s e false
+    leaf-long f = let x = leaf-at low high in none-fits (λ y. f (leaf-of (y .coded) (x .leaf) (x .says) .1))
+
+    leaf-checks : (t : Bool) → LeafAt d columns levels s t → endIn d s ≡ e → e ≡ s + 1 → Checks d columns levels s e t
+    unfolding cardFits
+    leaf-checks t x p q = record {
+      yes-fits = λ r. record { card = LeafEntry (x .leaf); coded = coded-leaf (x .says) p q; fits = rw (x .is, r) tt };
+      fits-yes = λ y.
+          let c = leaf-of (y .coded) (x .leaf) (x .says) .0 in
+          sym (x .is) ∙ is-true (leafFits columns levels (x .leaf)) (subst (λ (c : Card). T (cardFits columns levels c)) c (y .fits));
+    }
+
+    module _ (end : endIn d s ≡ e) (one : e ≡ s + 1) where
+      pub left-no : {t : Bool} → t ≡ left → t ≡ false → Checks d columns levels s e false
+      left-no l f = go (ltb 6 (kindIn d s)) (leaf-at low high)
+        where
+          go : (t : Bool) → LeafAt d columns levels s (cond t left (left && right)) → Checks d columns levels s e false
+          go true x = leaf-checks false (subst (LeafAt d columns levels s) (sym l ∙ f) x) end one
+          go false x = leaf-checks false (subst (λ (t : Bool). LeafAt d columns levels s (t && right)) (sym l ∙ f) x) end one
+
+      pub left-alone : {t : Bool} → t ≡ left → t ≡ true → 6 < kindIn d s → Checks d columns levels s e true
+      left-alone l f k = leaf-checks true (subst (LeafAt d columns levels s) (sym l ∙ f) (blank-at k high)) end one
+
+      pub right-last : {t u : Bool} → t ≡ left → t ≡ true → kindIn d s ≤ 6 → u ≡ right → Checks d columns levels s e u
+      right-last {t} {u} l f k r =
+          leaf-checks u (rw r (subst (λ (t : Bool). LeafAt d columns levels s (t && right)) (sym l ∙ f) (compare-at low k))) end one
+
+-- ---- an entry with two inner ones
+
+module _ (d columns levels : List ℕ) (s e : ℕ) (low : 1 ≤ kindIn d s) (high : kindIn d s ≤ 2) where
+  pair-at : (j : Connective) × (headIn d s ≡ some (PairHead j))
+  pair-at = one-of-two (kindIn d s) 1 low high (λ k. (And, head-1 d s k)) (λ k. (Or, head-2 d s k))
+
+  -- the end of the first inner entry, as the code reads it
+  abbrev middle : ℕ
+  middle = getD d (8 * s + 9) 0
+
+  pair-parts : Fitting d columns levels s e → Fitting d columns levels (s + 1) middle × Fitting d columns levels middle e
+  unfolding cardFits
+  pair-parts x =
+      let (j, h) = pair-at in
+      let p = pair-of (x .coded) j h in
+      let f : T (cardFits columns levels (PairEntry j (p .left) (p .right))) = subst (λ (c : Card). T (cardFits columns levels c)) (p .is) (x .fits) in
+      let (l, r) = both (cardFits columns levels (p .left)) (cardFits columns levels (p .right)) f in
+      let next : 8 * (s + 1) + 1 ≡ 8 * s + 9 = omega arith in
+      let m : p .middle ≡ middle = sym (coded-end (p .left-coded)) ∙ ap (λ (q : ℕ). getD d q 0) next in (
+        record { card = p .left; coded = subst (λ (k : ℕ). Coded d (s + 1) k (p .left)) m (p .left-coded); fits = l },
+        record { card = p .right; coded = subst (λ (k : ℕ). Coded d k e (p .right)) m (p .right-coded); fits = r },
+      )
+
+  pub pair-short : (s + 1 < middle → middle < e → ⊥) → Checks d columns levels s e false
+  pair-short f = none-fits (λ x. let (l, r) = pair-parts x in f (coded-less (l .coded)) (coded-less (r .coded)))
+
+  module _ {t : Bool} (first : Checks d columns levels (s + 1) middle t) where
+    pub pair-left-no : t ≡ false → Checks d columns levels s e false
+    pair-left-no f = none-fits (λ x. no-yes (sym f ∙ first .fits-yes (pair-parts x .0)))
+
+    pub pair-last : {u : Bool} → t ≡ true → endIn d s ≡ e → Checks d columns levels middle e u → Checks d columns levels s e u
+    unfolding cardFits
+    pair-last said end second =
+        let (j, h) = pair-at in
+        let l = first .yes-fits said in
+        record {
+          yes-fits = λ u.
+              let r = second .yes-fits u in
+              record {
+                card = PairEntry j (l .card) (r .card);
+                coded = coded-pair h end (l .coded) (r .coded);
+                fits = and-i (cardFits columns levels (l .card)) (cardFits columns levels (r .card)) (l .fits) (r .fits);
+              };
+          fits-yes = λ x. second .fits-yes (pair-parts x .1);
+        }
+
+-- ---- an entry over the rows of a table
+
+module _ (card d w : List ℕ) (s e depth : ℕ) (low : 3 ≤ kindIn d s) (high : kindIn d s ≤ 4) (h : LevelsIn card w depth) where
+  abbrev table : ℕ
+  table = tableIn d s
+
+  row-at : (q : Quantifier) × (headIn d s ≡ some (RowHead q table))
+  row-at = one-of-two (kindIn d s) 3 low high (λ k. (Some, head-3 d s k)) (λ k. (All, head-4 d s k))
+
+  -- what a row entry asks of its own
+  pub record Rows : Type 0 where
+    pub table-low : 1 ≤ table
+    pub table-high : table ≤ tablesIn card
+    pub few : depth ≤ mostRowEntries
+    pub inner : Fitting d (columnsIn card) (take depth w ++ (table ∷ [])) (s + 1) e
+
+  row-parts : Fitting d (columnsIn card) (take depth w) s e → Rows
+  unfolding cardFits
+  row-parts x =
+      let columns = columnsIn card in
+      let levels = take depth w in
+      let (q, g) = row-at in
+      let p = row-of (x .coded) q table g in
+      let f : T (cardFits columns levels (RowEntry q table (p .inner))) = subst (λ (c : Card). T (cardFits columns levels c)) (p .is) (x .fits) in
+      let (own, i) = both (rowsFit columns levels table) (cardFits columns (levels ++ (table ∷ [])) (p .inner)) f in
+      let (there, three) = both (between 1 (length columns) table) (leb (length levels) mostRowEntries) own in
+      let (l, u) = bounds 1 (length columns) table there in
+      record {
+        table-low = l;
+        table-high = omega (arith, columns-length card);
+        few = omega (arith, leb→le (length levels) mostRowEntries three, levels-long card w depth h);
+        inner = record { card = p .inner; coded = p .inner-coded; fits = i };
+      }
+
+  pub rows-no : (Rows → ⊥) → Checks d (columnsIn card) (take depth w) s e false
+  rows-no f = none-fits (λ x. f (row-parts x))
+
+  pub rows-short : e ≤ s + 1 → Checks d (columnsIn card) (take depth w) s e false
+  rows-short l = rows-no (λ x. omega (arith, coded-less (x .inner .coded)))
+
+  module _ (t-low : 1 ≤ table) (t-high : table ≤ tablesIn card) (few : depth ≤ mostRowEntries) where
+    level-more : take (depth + 1) (set w depth table) ≡ take depth w ++ (table ∷ [])
+    level-more = rw add-one (take-suc-set w depth table (omega arith))
+
+    pub rows-last : {t : Bool} → endIn d s ≡ e → Checks d (columnsIn card) (take (depth + 1) (set w depth table)) (s + 1) e t
+        → Checks d (columnsIn card) (take depth w) s e t
+    unfolding cardFits
+    rows-last {t} end c =
+        let columns = columnsIn card in
+        let levels = take depth w in
+        let (q, g) = row-at in
+        let c′ : Checks d columns (levels ++ (table ∷ [])) (s + 1) e t = subst (λ (l : List ℕ). Checks d columns l (s + 1) e t) level-more c in
+        let own : T (rowsFit columns levels table) =
+        and-i (between 1 (length columns) table) (leb (length levels) mostRowEntries)
+        (and-i (leb 1 table) (leb table (length columns)) (le→leb 1 table t-low) (le→leb table (length columns) (omega (arith, columns-length card))))
+        (le→leb (length levels) mostRowEntries (omega (arith, levels-long card w depth h))) in
+        record {
+          yes-fits = λ y.
+              let i = c′ .yes-fits y in
+              record {
+                card = RowEntry q table (i .card);
+                coded = coded-row g end (i .coded);
+                fits = and-i (rowsFit columns levels table) (cardFits columns (levels ++ (table ∷ [])) (i .card)) own (i .fits);
+              };
+          fits-yes = λ x. c′ .fits-yes (row-parts x .inner);
+        }
+
+-- ---- a whole card
+
+same-answer : (a b : Bool) → (a ≡ true → b ≡ true) → (b ≡ true → a ≡ true) → a ≡ b
+same-answer true b f g = sym (f refl)
+same-answer false true f g = g refl
+same-answer false false f g = refl
+
+-- where the first three tests hold, the last decides
+last-test : (a b c d : Bool) → a && (b && c) ≡ true → a && (b && (c && d)) ≡ d
+last-test true true true d e = refl
+last-test true true false d e = no-yes e
+last-test true false c d e = no-yes e
+last-test false b c d e = no-yes e
+
+sound-held : (card : List ℕ) → laid card ≡ true → sound card ≡ holdsFitting (columnsIn card) (cardFrom card)
+unfolding sound laid
+sound-held card e = last-test (between 1 mostEntries (entryCount card)) (columnsFit (columnsIn card)) _ _ e
+
+-- table 1 at level 0
+pub first-level : {card : List ℕ} → Laid card → LevelsIn card (1 ∷ 0 ∷ 0 ∷ 0 ∷ []) 1
+first-level h = record {
+  laid-out = h;
+  size = refl;
+  few = omega arith;
+  table-low = λ l b. let z : l ≡ 0 = omega arith in rw z (omega arith);
+  table-high = λ l b. let z : l ≡ 0 = omega arith in rw z (h .tables-low);
+}
+
+module _ (card d : List ℕ) (decoded : Decoded card d) (laid-out : laid card ≡ true) where
+  heads : (i : ℕ) → i < entryCount card → headIn d i ≡ headFrom (kindAt card i) (recordAt card i)
+  heads = head-decoded card d decoded
+
+  ends : (i : ℕ) → i < entryCount card → endIn d i ≡ endAt card i
+  ends = end-decoded card d decoded
+
+  pub sound-checks : {n : ℕ} {t : Bool} → n ≡ entryCount card → Checks d (columnsIn card) judgedLevels 0 n t → t ≡ sound card
+  sound-checks {n} {t} whole h = same-answer t (sound card) there back
+    where
+      there : t ≡ true → sound card ≡ true
+      there e =
+          let f = h .yes-fits e in
+          let c = subst (λ (n : ℕ). Coded d 0 n (f .card)) whole (f .coded) in
+          sound-held card laid-out
+          ∙ ap (holdsFitting (columnsIn card)) (coded-card card d heads ends c)
+          ∙ is-true (cardFits (columnsIn card) judgedLevels (f .card)) (f .fits)
+
+      back : sound card ≡ true → t ≡ true
+      back e =
+          let p = sound-passed card (rw e tt) in
+          let c = subst (λ (n : ℕ). Coded d 0 n (p .card)) (sym whole) (card-coded card d heads ends (p .held)) in
+          h .fits-yes (record { card = p .card; coded = c; fits = p .fits })

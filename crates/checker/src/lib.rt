@@ -1,0 +1,344 @@
+// A card: CHECK, and its entries as numbers for whoever runs it.
+ghost use mathlib.Core.Path.{_≡_};
+ghost use mathlib.Core.Bool.{true};
+ghost use Prim.Native.Nat.{_+_, _*_, _<_, _≤_};
+ghost use lib.ListN.{length, take};
+ghost use Rattle.tables.specs.Lists.{all};
+ghost use Rattle.tables.specs.Bytes.{between};
+ghost use Rattle.tables.specs.Tables.{mostColumns};
+ghost use Rattle.card.specs.Card.{valueFits};
+ghost use Rattle.card.specs.Layout.{tablesIn, columnsIn, zeros};
+ghost use Rattle.card.specs.Sound.{sound};
+ghost use Rattle.card.specs.Calls.{checkCall};
+ghost use Rattle.checker.specs.Answers.{checkedAnswer};
+ghost use Rattle.checker.specs.Code.{laid, Laid, recordFrom, RecordIn, fieldsFit, knownKind, numberFrom, Decoded, kindIn, valueIn, Checks, LevelsIn, Checkable};
+use cells::Reason;
+use cells::byte;
+use cells::read_excess;
+use cells::read16;
+use cells::read32;
+
+// Limits on a card.
+pub const MOST_ENTRIES: usize = 192;
+
+pub const MOST_ROW_ENTRIES: usize = 3;
+
+// The bytes of a record, the place of each field in it, and the tag of a constant.
+const RECORD_SIZE: usize = 14;
+
+const TABLE: usize = 2;
+
+const COMPARISON: usize = 3;
+
+const LEFT: usize = 4;
+
+const RIGHT: usize = 9;
+
+pub const CONSTANT: usize = 255;
+
+// Whether each of the n tables has as many columns as a table may have.
+fn columns_fit(card: &[u8], n: usize) -> bool
+    requires { ⌜ (n ≡ tablesIn (now card)) × (3 + n ≤ length (now card)) ⌝ }
+    ensures { λ r. ⌜ r ≡ all (between 1 mostColumns) (columnsIn (now (card .entry))) ⌝ }
+{
+    let mut j: usize = 0;
+    while j < n {
+        let columns = byte(card, 3 + j);
+        if columns < 1 {
+            return false;
+        }
+        if cells::MOST_COLUMNS < columns {
+            return false;
+        }
+        j += 1;
+    }
+    true
+}
+
+// Whether the numbers of entries, tables and columns are within the limits, and there are no spare bytes.
+fn laid_out(card: &[u8]) -> bool
+    ensures { λ r. ⌜ r ≡ laid (now (card .entry)) ⌝ }
+{
+    if card.len() < 3 {
+        return false;
+    }
+    let n = read16(card, 0);
+    if n < 1 {
+        return false;
+    }
+    if MOST_ENTRIES < n {
+        return false;
+    }
+    let t = byte(card, 2);
+    if t < 1 {
+        return false;
+    }
+    if cells::MOST_TABLES < t {
+        return false;
+    }
+    if card.len() != 3 + t + (1 + RECORD_SIZE) * n {
+        return false;
+    }
+    columns_fit(card, t)
+}
+
+// Whether the bytes i up to j of the record at r are 0.
+fn zero_bytes(card: &[u8], r: usize, i: usize, j: usize) -> bool
+    requires { ⌜ RecordIn (now card) r ⌝ ∗ ⌜ (i ≤ j) × (j ≤ 14) ⌝ }
+    ensures { λ x. ⌜ x ≡ zeros (recordFrom (now (card .entry)) r) i j ⌝ }
+{
+    let mut k: usize = i;
+    while k < j {
+        if byte(card, r + k) != 0 {
+            return false;
+        }
+        k += 1;
+    }
+    true
+}
+
+// Whether the fields of the record at r are as its kind wants them.
+fn fields_fit(card: &[u8], r: usize, kind: usize) -> bool
+    requires { ⌜ RecordIn (now card) r ⌝ }
+    ensures { λ x. ⌜ x ≡ fieldsFit kind (recordFrom (now (card .entry)) r) ⌝ }
+{
+    match kind {
+        1 | 2 => zero_bytes(card, r, TABLE, RECORD_SIZE),
+        3 | 4 => zero_bytes(card, r, COMPARISON, RECORD_SIZE),
+        5 | 6 => {
+            let op = byte(card, r + COMPARISON);
+            if op < 1 {
+                return false;
+            }
+            if 6 < op {
+                return false;
+            }
+            zero_bytes(card, r, TABLE, COMPARISON)
+        }
+        7 | 8 => {
+            let before = zero_bytes(card, r, TABLE, LEFT);
+            if !before {
+                return false;
+            }
+            zero_bytes(card, r, RIGHT, RECORD_SIZE)
+        }
+        _ => false,
+    }
+}
+
+// The kind, or 0 where the record at r is not as it wants.
+fn known_kind(card: &[u8], r: usize, kind: usize) -> usize
+    requires { ⌜ RecordIn (now card) r ⌝ ∗ ⌜ kind < 256 ⌝ }
+    ensures is { λ x. ⌜ x ≡ knownKind kind (recordFrom (now (card .entry)) r) ⌝ }
+    ensures small { λ x. ⌜ x < 256 ⌝ }
+{
+    let fits = fields_fit(card, r, kind);
+    if fits {
+        return kind;
+    }
+    0
+}
+
+// The number of the value at place i of the record at r: a constant plus 2 ^ 31, or a column.
+fn number_at(card: &[u8], r: usize, i: usize) -> usize
+    requires { ⌜ RecordIn (now card) r ⌝ ∗ ⌜ i + 5 ≤ 14 ⌝ }
+    ensures is { λ x. ⌜ x ≡ numberFrom (recordFrom (now (card .entry)) r) i ⌝ }
+    ensures small { λ x. ⌜ x < 4294967296 ⌝ }
+{
+    let tag = byte(card, r + i);
+    if tag == CONSTANT {
+        return read_excess(card, r + i + 1);
+    }
+    read32(card, r + i + 1)
+}
+
+// The entries of a card as numbers, eight for each: kind, end, table, comparison, and two values of a tag and a number each.
+fn decode(card: &[u8], d: &mut [usize; 1536])
+    requires { ⌜ Laid (now card) ⌝ ∗ ⌜ length (now d) ≡ 1536 ⌝ }
+    ensures is { λ _. ⌜ Decoded (now (card .entry)) (now (d .exit)) ⌝ }
+    ensures size { λ _. ⌜ length (now (d .exit)) ≡ 1536 ⌝ }
+{
+    let n = read16(card, 0);
+    let kinds = 3 + byte(card, 2);
+    let records = kinds + n;
+    let mut i: usize = 0;
+    while i < n {
+        let r = records + RECORD_SIZE * i;
+        let p = 8 * i;
+        d[p] = known_kind(card, r, byte(card, kinds + i));
+        d[p + 1] = read16(card, r);
+        d[p + 2] = byte(card, r + TABLE);
+        d[p + 3] = byte(card, r + COMPARISON);
+        d[p + 4] = byte(card, r + LEFT);
+        d[p + 5] = number_at(card, r, LEFT);
+        d[p + 6] = byte(card, r + RIGHT);
+        d[p + 7] = number_at(card, r, RIGHT);
+        i += 1;
+    }
+}
+
+// Whether a value's level and column exist; w has the table of each level.
+fn value_fits(card: &[u8], w: &[usize; 4], depth: usize, tag: usize, n: usize) -> bool
+    requires { ⌜ LevelsIn (now card) (now w) depth ⌝ ∗ ⌜ n < 4294967296 ⌝ }
+    ensures { λ r. ⌜ r ≡ valueFits (columnsIn (now (card .entry))) (take depth (now (w .entry))) (valueIn tag n) ⌝ }
+{
+    if tag == CONSTANT {
+        return true;
+    }
+    if depth <= tag {
+        return false;
+    }
+    if n < 1 {
+        return false;
+    }
+    let t = w[tag];
+    n <= byte(card, 2 + t)
+}
+
+// The entry s, up to e, where it has no inner entries: whether it fits.
+fn check_leaf(
+    card: &[u8],
+    d: &[usize; 1536],
+    s: usize,
+    e: usize,
+    w: &[usize; 4],
+    depth: usize,
+) -> bool
+    requires { ⌜ Checkable (now card) (now d) (now w) s e depth ⌝ ∗ ⌜ (5 ≤ kindIn (now d) s) × (kindIn (now d) s ≤ 8) ⌝ }
+    ensures { λ r. ⌜ Checks (now (d .entry)) (columnsIn (now (card .entry))) (take depth (now (w .entry))) s e r ⌝ }
+{
+    if d[8 * s + 1] != e {
+        return false;
+    }
+    if e != s + 1 {
+        return false;
+    }
+    let left = value_fits(card, w, depth, d[8 * s + 4], d[8 * s + 5]);
+    if !left {
+        return false;
+    }
+    if 6 < d[8 * s] {
+        return true;
+    }
+    value_fits(card, w, depth, d[8 * s + 6], d[8 * s + 7])
+}
+
+// The entries from s up to e: whether they are one entry with its inner ones, which fits the card's tables and these levels.
+fn check_entry(
+    card: &[u8],
+    d: &[usize; 1536],
+    s: usize,
+    e: usize,
+    w: &[usize; 4],
+    depth: usize,
+) -> bool
+    requires { ⌜ Checkable (now card) (now d) (now w) s e depth ⌝ }
+    ensures { λ r. ⌜ Checks (now (d .entry)) (columnsIn (now (card .entry))) (take depth (now (w .entry))) s e r ⌝ }
+{
+    let k = d[8 * s];
+    match k {
+        1 | 2 => check_pair(card, d, s, e, w, depth),
+        3 | 4 => check_rows(card, d, s, e, w, depth),
+        5 | 6 | 7 | 8 => check_leaf(card, d, s, e, w, depth),
+        _ => false,
+    }
+}
+
+// The same where s has two inner entries.
+fn check_pair(
+    card: &[u8],
+    d: &[usize; 1536],
+    s: usize,
+    e: usize,
+    w: &[usize; 4],
+    depth: usize,
+) -> bool
+    requires { ⌜ Checkable (now card) (now d) (now w) s e depth ⌝ ∗ ⌜ (1 ≤ kindIn (now d) s) × (kindIn (now d) s ≤ 2) ⌝ }
+    ensures { λ r. ⌜ Checks (now (d .entry)) (columnsIn (now (card .entry))) (take depth (now (w .entry))) s e r ⌝ }
+{
+    if d[8 * s + 1] != e {
+        return false;
+    }
+    if e <= s + 1 {
+        return false;
+    }
+    let m = d[8 * s + 9];
+    if m <= s + 1 {
+        return false;
+    }
+    if e <= m {
+        return false;
+    }
+    let left = check_entry(card, d, s + 1, m, w, depth);
+    if !left {
+        return false;
+    }
+    check_entry(card, d, m, e, w, depth)
+}
+
+// The same where s ranges over the rows of a table.
+fn check_rows(
+    card: &[u8],
+    d: &[usize; 1536],
+    s: usize,
+    e: usize,
+    w: &[usize; 4],
+    depth: usize,
+) -> bool
+    requires { ⌜ Checkable (now card) (now d) (now w) s e depth ⌝ ∗ ⌜ (3 ≤ kindIn (now d) s) × (kindIn (now d) s ≤ 4) ⌝ }
+    ensures { λ r. ⌜ Checks (now (d .entry)) (columnsIn (now (card .entry))) (take depth (now (w .entry))) s e r ⌝ }
+{
+    if d[8 * s + 1] != e {
+        return false;
+    }
+    if e <= s + 1 {
+        return false;
+    }
+    let t = d[8 * s + 2];
+    if t < 1 {
+        return false;
+    }
+    if byte(card, 2) < t {
+        return false;
+    }
+    if MOST_ROW_ENTRIES < depth {
+        return false;
+    }
+    let mut v = *w;
+    v[depth] = t;
+    check_entry(card, d, s + 1, e, &v, depth + 1)
+}
+
+// Whether a card is sound; if so, d has its entries.
+pub fn is_sound(card: &[u8], d: &mut [usize; 1536]) -> bool
+    requires { ⌜ length (now d) ≡ 1536 ⌝ }
+    ensures is { λ r. ⌜ r ≡ sound (now (card .entry)) ⌝ }
+    ensures decoded { λ r. ⌜ (r ≡ true → Decoded (now (card .entry)) (now (d .exit))) ⌝ }
+    ensures size { λ r. ⌜ length (now (d .exit)) ≡ 1536 ⌝ }
+{
+    let laid = laid_out(card);
+    if !laid {
+        return false;
+    }
+    decode(card, d);
+    let n = read16(card, 0);
+    let w = [1usize, 0, 0, 0];
+    check_entry(card, d, 0, n, &w, 1)
+}
+
+pub enum Checked {
+    Good,
+    Bad(Reason),
+}
+
+// CHECK: a card alone, sound or refused.
+pub fn check(card: &[u8]) -> Checked
+    ensures { λ r. ⌜ checkedAnswer r ≡ checkCall (now (card .entry)) ⌝ }
+{
+    let mut d = [0usize; 1536];
+    let sound = is_sound(card, &mut d);
+    if sound {
+        return Checked::Good;
+    }
+    Checked::Bad(Reason::Unsound)
+}

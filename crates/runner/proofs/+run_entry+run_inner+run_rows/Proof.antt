@@ -1,0 +1,698 @@
+-- `gate::run_entry`, `run_inner` and `run_rows` meet their contracts. The measure is three for each entry from s up to e, and 2, 1 or 0 more: the
+-- first calls the second on the same entries, and that the third. The loop's invariant: each row that has passed says what is answered where no row
+-- decides.
+use mathlib.Core.Path.{refl, sym, _∙_}
+use mathlib.Core.Bool.{true, false}
+use Prim.Native.Nat.{ℕ, _+_, _-_, _*_, _<_}
+use native.Mathlib.Omega.{arith}
+use borrow.Author.Tests.{not-true, not-false}
+use borrow.Fn.Kinds.{In}
+use borrow.Fn.PlainCycle.{Measures, is, falls, and}
+use Rattle.tables.specs.Values.{And, Or}
+use Rattle.runner.proofs.Running.{RowsPassed, start, some-kind, leaf-ready, leaf-answer, middle, left-run, right-run, left-decides, right-decides, row-bounds, row-room, inner-run, inner-says, row-stops, rows-end, passed-none, passed-more, differ, agree}
+use Rattle.runner.proofs.run_entry.Reads as run-entry
+use Rattle.runner.proofs.run_entry.Kinds as run-entry-kinds
+use Rattle.runner.proofs.+run_entry+run_inner+run_rows.Lts-run_entry as run-entry-lts
+use Rattle.runner.proofs.run_inner.Reads as run-inner
+use Rattle.runner.proofs.run_inner.Kinds as run-inner-kinds
+use Rattle.runner.proofs.+run_entry+run_inner+run_rows.Lts-run_inner as run-inner-lts
+use Rattle.runner.proofs.run_rows.Reads as run-rows
+use Rattle.runner.proofs.run_rows.Kinds as run-rows-kinds
+use Rattle.runner.proofs.+run_entry+run_inner+run_rows.Lts-run_rows as run-rows-lts
+use Rattle.runner.proofs.run_leaf.Reads as run-leaf-reads
+use Rattle.runner.proofs.+run_entry+run_inner+run_rows.{statement}
+use Rattle.runner.proofs.+run_entry+run_inner+run_rows.Tie.{close}
+
+abbrev μ-run-entry : Measures 4 run-entry-kinds.ps ℕ
+μ-run-entry κs a = 3 * (a .1 .1 .1 .1 .0 - a .1 .1 .1 .0) + 2
+
+abbrev μ-run-inner : Measures 4 run-inner-kinds.ps ℕ
+μ-run-inner κs a = 3 * (a .1 .1 .1 .1 .0 - a .1 .1 .1 .0) + 1
+
+abbrev μ-run-rows : Measures 4 run-rows-kinds.ps ℕ
+μ-run-rows κs a = 3 * (a .1 .1 .1 .1 .0 - a .1 .1 .1 .0)
+
+abbrev run-entry-at : ℕ → In 4 run-entry-kinds.ps
+run-entry-at t = and 4 run-entry-kinds.ps (is 4 run-entry-kinds.ps μ-run-entry t) run-entry.Pre
+
+abbrev run-entry-below : ℕ → In 4 run-entry-kinds.ps
+run-entry-below t =
+    and 4 run-entry-kinds.ps (falls 4 run-entry-kinds.ps _<_ μ-run-entry t) run-entry.Pre
+
+abbrev run-inner-at : ℕ → In 4 run-inner-kinds.ps
+run-inner-at t = and 4 run-inner-kinds.ps (is 4 run-inner-kinds.ps μ-run-inner t) run-inner.Pre
+
+abbrev run-inner-below : ℕ → In 4 run-inner-kinds.ps
+run-inner-below t =
+    and 4 run-inner-kinds.ps (falls 4 run-inner-kinds.ps _<_ μ-run-inner t) run-inner.Pre
+
+abbrev run-rows-at : ℕ → In 4 run-rows-kinds.ps
+run-rows-at t = and 4 run-rows-kinds.ps (is 4 run-rows-kinds.ps μ-run-rows t) run-rows.Pre
+
+abbrev run-rows-below : ℕ → In 4 run-rows-kinds.ps
+run-rows-below t =
+    and 4 run-rows-kinds.ps (falls 4 run-rows-kinds.ps _<_ μ-run-rows t) run-rows.Pre
+
+run-entry-mul-if1 : (t : ℕ) → run-entry-lts.Need-mul-if1 (
+  run-leaf-reads.Asked,
+  run-leaf-reads.Learnt,
+  run-inner-below t,
+  run-inner.Post,
+) (run-entry-at t) run-entry.Post
+run-entry-mul-if1 t c = let z = start (c .before .pre .1) in omega arith
+
+run-entry-mul-if1-2 : (t : ℕ) → run-entry-lts.Need-mul-if1-2 (
+  run-leaf-reads.Asked,
+  run-leaf-reads.Learnt,
+  run-inner-below t,
+  run-inner.Post,
+) (run-entry-at t) run-entry.Post
+run-entry-mul-if1-2 t c = let z = start (c .before .pre .1) in omega arith
+
+run-entry-element-copy-out-if1 : (t : ℕ) → run-entry-lts.Need-element-copy-out-if1 (
+  run-leaf-reads.Asked,
+  run-leaf-reads.Learnt,
+  run-inner-below t,
+  run-inner.Post,
+) (run-entry-at t) run-entry.Post
+run-entry-element-copy-out-if1 t c = let z = start (c .before .pre .1) in omega arith
+
+run-entry-run-leaf-requires : (t : ℕ) → run-entry-lts.Need-run-leaf-requires (
+  run-leaf-reads.Asked,
+  run-leaf-reads.Learnt,
+  run-inner-below t,
+  run-inner.Post,
+) (run-entry-at t) run-entry.Post
+run-entry-run-leaf-requires t c κs = leaf-ready (c .before .before .before .pre .1) (c .if1 .taken)
+
+run-entry-returns : (t : ℕ) → run-entry-lts.Need-returns (
+  run-leaf-reads.Asked,
+  run-leaf-reads.Learnt,
+  run-inner-below t,
+  run-inner.Post,
+) (run-entry-at t) run-entry.Post
+run-entry-returns t c = λ h. leaf-answer h (c .before .if1 .taken) _ (c .run-leaf .ensures (leaf-ready h (c .before .if1 .taken)))
+
+run-entry-run-inner-requires : (t : ℕ) → run-entry-lts.Need-run-inner-requires (
+  run-leaf-reads.Asked,
+  run-leaf-reads.Learnt,
+  run-inner-below t,
+  run-inner.Post,
+) (run-entry-at t) run-entry.Post
+run-entry-run-inner-requires t c κs = let m = c .before .before .before .pre .0 in (omega arith, (c .before .before .before .pre .1, c .if1 .left))
+
+run-entry-returns-2 : (t : ℕ) → run-entry-lts.Need-returns-2 (
+  run-leaf-reads.Asked,
+  run-leaf-reads.Learnt,
+  run-inner-below t,
+  run-inner.Post,
+) (run-entry-at t) run-entry.Post
+run-entry-returns-2 t c = c .run-inner .ensures
+
+run-inner-mul-k : (t : ℕ) → run-inner-lts.Need-mul-k (
+  run-entry-below t,
+  run-entry.Post,
+  run-rows-below t,
+  run-rows.Post,
+) (run-inner-at t) run-inner.Post
+run-inner-mul-k t c = let z = start (c .before .pre .1 .0) in omega arith
+
+run-inner-mul-k-2 : (t : ℕ) → run-inner-lts.Need-mul-k-2 (
+  run-entry-below t,
+  run-entry.Post,
+  run-rows-below t,
+  run-rows.Post,
+) (run-inner-at t) run-inner.Post
+run-inner-mul-k-2 t c = let z = start (c .before .pre .1 .0) in omega arith
+
+run-inner-element-copy-out-k : (t : ℕ) → run-inner-lts.Need-element-copy-out-k (
+  run-entry-below t,
+  run-entry.Post,
+  run-rows-below t,
+  run-rows.Post,
+) (run-inner-at t) run-inner.Post
+run-inner-element-copy-out-k t c = let z = start (c .before .pre .1 .0) in omega arith
+
+run-inner-mul-m : (t : ℕ) → run-inner-lts.Need-mul-m (
+  run-entry-below t,
+  run-entry.Post,
+  run-rows-below t,
+  run-rows.Post,
+) (run-inner-at t) run-inner.Post
+run-inner-mul-m t c = let h = c .before .before .before .pre .1 .0 in let z = start h in let y = middle h And (c .match .keys1) in omega arith
+
+run-inner-add-m : (t : ℕ) → run-inner-lts.Need-add-m (
+  run-entry-below t,
+  run-entry.Post,
+  run-rows-below t,
+  run-rows.Post,
+) (run-inner-at t) run-inner.Post
+run-inner-add-m t c = let h = c .before .before .before .pre .1 .0 in let z = start h in let y = middle h And (c .match .keys1) in omega arith
+
+run-inner-mul-m-2 : (t : ℕ) → run-inner-lts.Need-mul-m-2 (
+  run-entry-below t,
+  run-entry.Post,
+  run-rows-below t,
+  run-rows.Post,
+) (run-inner-at t) run-inner.Post
+run-inner-mul-m-2 t c = let h = c .before .before .before .pre .1 .0 in let z = start h in let y = middle h And (c .match .keys1) in omega arith
+
+run-inner-element-copy-out-m : (t : ℕ) → run-inner-lts.Need-element-copy-out-m (
+  run-entry-below t,
+  run-entry.Post,
+  run-rows-below t,
+  run-rows.Post,
+) (run-inner-at t) run-inner.Post
+run-inner-element-copy-out-m t c = let h = c .before .before .before .pre .1 .0 in let z = start h in let y = middle h And (c .match .keys1) in omega arith
+
+run-inner-add-run-entry : (t : ℕ) → run-inner-lts.Need-add-run-entry (
+  run-entry-below t,
+  run-entry.Post,
+  run-rows-below t,
+  run-rows.Post,
+) (run-inner-at t) run-inner.Post
+run-inner-add-run-entry t c = let z = start (c .before .before .before .before .pre .1 .0) in omega arith
+
+run-inner-run-entry-requires : (t : ℕ) → run-inner-lts.Need-run-entry-requires (
+  run-entry-below t,
+  run-entry.Post,
+  run-rows-below t,
+  run-rows.Post,
+) (run-inner-at t) run-inner.Post
+run-inner-run-entry-requires t c κs =
+    let p = c .before .before .before .before .pre in
+    let m = p .0 in
+    let y = middle (p .1 .0) And (c .before .match .keys1) in
+    (omega arith, left-run (p .1 .0) And (c .before .match .keys1))
+
+run-inner-returns : (t : ℕ) → run-inner-lts.Need-returns (
+  run-entry-below t,
+  run-entry.Post,
+  run-rows-below t,
+  run-rows.Post,
+) (run-inner-at t) run-inner.Post
+run-inner-returns t c = λ h.
+    let k = c .before .before .before .match .keys1 in
+    let e = not-true _ (c .if1 .taken) in
+    left-decides h And k false (sym e ∙ c .before .run-entry .ensures (left-run h And k)) refl
+
+run-inner-run-entry-requires-2 : (t : ℕ) → run-inner-lts.Need-run-entry-requires-2 (
+  run-entry-below t,
+  run-entry.Post,
+  run-rows-below t,
+  run-rows.Post,
+) (run-inner-at t) run-inner.Post
+run-inner-run-entry-requires-2 t c κs =
+    let p = c .before .before .before .before .before .before .pre in
+    let m = p .0 in
+    let y = middle (p .1 .0) And (c .before .before .before .match .keys1) in
+    (omega arith, right-run (p .1 .0) And (c .before .before .before .match .keys1))
+
+run-inner-mul-m-3 : (t : ℕ) → run-inner-lts.Need-mul-m-3 (
+  run-entry-below t,
+  run-entry.Post,
+  run-rows-below t,
+  run-rows.Post,
+) (run-inner-at t) run-inner.Post
+run-inner-mul-m-3 t c = let h = c .before .before .before .pre .1 .0 in let z = start h in let y = middle h Or (c .match .keys2) in omega arith
+
+run-inner-add-m-2 : (t : ℕ) → run-inner-lts.Need-add-m-2 (
+  run-entry-below t,
+  run-entry.Post,
+  run-rows-below t,
+  run-rows.Post,
+) (run-inner-at t) run-inner.Post
+run-inner-add-m-2 t c = let h = c .before .before .before .pre .1 .0 in let z = start h in let y = middle h Or (c .match .keys2) in omega arith
+
+run-inner-mul-m-4 : (t : ℕ) → run-inner-lts.Need-mul-m-4 (
+  run-entry-below t,
+  run-entry.Post,
+  run-rows-below t,
+  run-rows.Post,
+) (run-inner-at t) run-inner.Post
+run-inner-mul-m-4 t c = let h = c .before .before .before .pre .1 .0 in let z = start h in let y = middle h Or (c .match .keys2) in omega arith
+
+run-inner-element-copy-out-m-2 : (t : ℕ) → run-inner-lts.Need-element-copy-out-m-2 (
+  run-entry-below t,
+  run-entry.Post,
+  run-rows-below t,
+  run-rows.Post,
+) (run-inner-at t) run-inner.Post
+run-inner-element-copy-out-m-2 t c = let h = c .before .before .before .pre .1 .0 in let z = start h in let y = middle h Or (c .match .keys2) in omega arith
+
+run-inner-add-run-entry-2 : (t : ℕ) → run-inner-lts.Need-add-run-entry-2 (
+  run-entry-below t,
+  run-entry.Post,
+  run-rows-below t,
+  run-rows.Post,
+) (run-inner-at t) run-inner.Post
+run-inner-add-run-entry-2 t c = let z = start (c .before .before .before .before .pre .1 .0) in omega arith
+
+run-inner-run-entry-requires-3 : (t : ℕ) → run-inner-lts.Need-run-entry-requires-3 (
+  run-entry-below t,
+  run-entry.Post,
+  run-rows-below t,
+  run-rows.Post,
+) (run-inner-at t) run-inner.Post
+run-inner-run-entry-requires-3 t c κs =
+    let p = c .before .before .before .before .pre in
+    let m = p .0 in
+    let y = middle (p .1 .0) Or (c .before .match .keys2) in
+    (omega arith, left-run (p .1 .0) Or (c .before .match .keys2))
+
+run-inner-returns-2 : (t : ℕ) → run-inner-lts.Need-returns-2 (
+  run-entry-below t,
+  run-entry.Post,
+  run-rows-below t,
+  run-rows.Post,
+) (run-inner-at t) run-inner.Post
+run-inner-returns-2 t c = λ h.
+    let k = c .before .before .before .match .keys2 in
+    left-decides h Or k true (sym (c .if2 .taken) ∙ c .before .run-entry3 .ensures (left-run h Or k)) refl
+
+run-inner-run-entry-requires-4 : (t : ℕ) → run-inner-lts.Need-run-entry-requires-4 (
+  run-entry-below t,
+  run-entry.Post,
+  run-rows-below t,
+  run-rows.Post,
+) (run-inner-at t) run-inner.Post
+run-inner-run-entry-requires-4 t c κs =
+    let p = c .before .before .before .before .before .before .pre in
+    let m = p .0 in
+    let y = middle (p .1 .0) Or (c .before .before .before .match .keys2) in
+    (omega arith, right-run (p .1 .0) Or (c .before .before .before .match .keys2))
+
+run-inner-run-rows-requires : (t : ℕ) → run-inner-lts.Need-run-rows-requires (
+  run-entry-below t,
+  run-entry.Post,
+  run-rows-below t,
+  run-rows.Post,
+) (run-inner-at t) run-inner.Post
+run-inner-run-rows-requires t c κs = let p = c .before .before .before .pre in let m = p .0 in (omega arith, (p .1 .0, c .match .keys3))
+
+run-inner-run-rows-requires-2 : (t : ℕ) → run-inner-lts.Need-run-rows-requires-2 (
+  run-entry-below t,
+  run-entry.Post,
+  run-rows-below t,
+  run-rows.Post,
+) (run-inner-at t) run-inner.Post
+run-inner-run-rows-requires-2 t c κs =
+    let p = c .before .before .before .pre in
+    let m = p .0 in
+    let z = some-kind (p .1 .0) in
+    let l = p .1 .1 in
+    let r = c .match .rest in
+    (omega arith, (p .1 .0, omega arith))
+
+run-inner-returns-3 : (t : ℕ) → run-inner-lts.Need-returns-3 (
+  run-entry-below t,
+  run-entry.Post,
+  run-rows-below t,
+  run-rows.Post,
+) (run-inner-at t) run-inner.Post
+run-inner-returns-3 t c = λ h.
+    let k = c .before .before .before .before .match .keys1 in
+    right-decides h And k _ (c .before .before .run-entry .ensures (left-run h And k)) (not-false _ (c .before .if1 .left)) _
+    (c .run-entry2 .ensures (right-run h And k))
+
+run-inner-returns-4 : (t : ℕ) → run-inner-lts.Need-returns-4 (
+  run-entry-below t,
+  run-entry.Post,
+  run-rows-below t,
+  run-rows.Post,
+) (run-inner-at t) run-inner.Post
+run-inner-returns-4 t c = λ h.
+    let k = c .before .before .before .before .match .keys2 in
+    right-decides h Or k _ (c .before .before .run-entry3 .ensures (left-run h Or k)) (c .before .if2 .left) _
+    (c .run-entry4 .ensures (right-run h Or k))
+
+run-inner-returns-5 : (t : ℕ) → run-inner-lts.Need-returns-5 (
+  run-entry-below t,
+  run-entry.Post,
+  run-rows-below t,
+  run-rows.Post,
+) (run-inner-at t) run-inner.Post
+run-inner-returns-5 t c = c .run-rows .ensures
+
+run-inner-returns-6 : (t : ℕ) → run-inner-lts.Need-returns-6 (
+  run-entry-below t,
+  run-entry.Post,
+  run-rows-below t,
+  run-rows.Post,
+) (run-inner-at t) run-inner.Post
+run-inner-returns-6 t c = c .run-rows2 .ensures
+
+abbrev run-rows-Inv-loop : run-rows-lts.InvT-loop
+run-rows-Inv-loop d g file s e w depth q t first₀ columns rows v₀ r₀ first v r = RowsPassed d g file w s e depth q first₀ columns r first v
+
+abbrev run-rows-μ-loop : run-rows-lts.MeasureT-loop
+run-rows-μ-loop d g file s e w depth q t first₀ columns rows v₀ r₀ first v r = rows - r
+
+run-rows-mul-t :
+    (t : ℕ) →
+    run-rows-lts.Need-mul-t
+    (run-entry-below t, run-entry.Post)
+    (run-rows-at t)
+    run-rows.Post
+    run-rows-Inv-loop
+    run-rows-μ-loop
+run-rows-mul-t t c = let o = c .before in let z = row-bounds (o .pre .1 .0) (o .args .q) (o .pre .1 .1) in omega arith
+
+run-rows-add-t :
+    (t : ℕ) →
+    run-rows-lts.Need-add-t
+    (run-entry-below t, run-entry.Post)
+    (run-rows-at t)
+    run-rows.Post
+    run-rows-Inv-loop
+    run-rows-μ-loop
+run-rows-add-t t c = let o = c .before in let z = row-bounds (o .pre .1 .0) (o .args .q) (o .pre .1 .1) in omega arith
+
+run-rows-mul-t-2 :
+    (t : ℕ) →
+    run-rows-lts.Need-mul-t-2
+    (run-entry-below t, run-entry.Post)
+    (run-rows-at t)
+    run-rows.Post
+    run-rows-Inv-loop
+    run-rows-μ-loop
+run-rows-mul-t-2 t c = let o = c .before in let z = row-bounds (o .pre .1 .0) (o .args .q) (o .pre .1 .1) in omega arith
+
+run-rows-element-copy-out-t : (t : ℕ) → run-rows-lts.Need-element-copy-out-t (
+  run-entry-below t,
+  run-entry.Post,
+) (run-rows-at t) run-rows.Post run-rows-Inv-loop run-rows-μ-loop
+run-rows-element-copy-out-t t c = let o = c .before in let z = row-bounds (o .pre .1 .0) (o .args .q) (o .pre .1 .1) in omega arith
+
+run-rows-mul-first :
+    (t : ℕ) →
+    run-rows-lts.Need-mul-first
+    (run-entry-below t, run-entry.Post)
+    (run-rows-at t)
+    run-rows.Post
+    run-rows-Inv-loop
+    run-rows-μ-loop
+run-rows-mul-first t c = let o = c .before .before in let z = row-bounds (o .pre .1 .0) (o .args .q) (o .pre .1 .1) in omega arith
+
+run-rows-mul-first-2 :
+    (t : ℕ) →
+    run-rows-lts.Need-mul-first-2
+    (run-entry-below t, run-entry.Post)
+    (run-rows-at t)
+    run-rows.Post
+    run-rows-Inv-loop
+    run-rows-μ-loop
+run-rows-mul-first-2 t c = let o = c .before .before in let z = row-bounds (o .pre .1 .0) (o .args .q) (o .pre .1 .1) in omega arith
+
+run-rows-element-copy-out-first : (t : ℕ) → run-rows-lts.Need-element-copy-out-first (
+  run-entry-below t,
+  run-entry.Post,
+) (run-rows-at t) run-rows.Post run-rows-Inv-loop run-rows-μ-loop
+run-rows-element-copy-out-first t c = let o = c .before .before in let z = row-bounds (o .pre .1 .0) (o .args .q) (o .pre .1 .1) in omega arith
+
+run-rows-mul-columns :
+    (t : ℕ) →
+    run-rows-lts.Need-mul-columns
+    (run-entry-below t, run-entry.Post)
+    (run-rows-at t)
+    run-rows.Post
+    run-rows-Inv-loop
+    run-rows-μ-loop
+run-rows-mul-columns t c = let o = c .before .before .before in let z = row-bounds (o .pre .1 .0) (o .args .q) (o .pre .1 .1) in omega arith
+
+run-rows-add-columns :
+    (t : ℕ) →
+    run-rows-lts.Need-add-columns
+    (run-entry-below t, run-entry.Post)
+    (run-rows-at t)
+    run-rows.Post
+    run-rows-Inv-loop
+    run-rows-μ-loop
+run-rows-add-columns t c = let o = c .before .before .before in let z = row-bounds (o .pre .1 .0) (o .args .q) (o .pre .1 .1) in omega arith
+
+run-rows-mul-columns-2 : (t : ℕ) → run-rows-lts.Need-mul-columns-2 (
+  run-entry-below t,
+  run-entry.Post,
+) (run-rows-at t) run-rows.Post run-rows-Inv-loop run-rows-μ-loop
+run-rows-mul-columns-2 t c = let o = c .before .before .before in let z = row-bounds (o .pre .1 .0) (o .args .q) (o .pre .1 .1) in omega arith
+
+run-rows-element-copy-out-columns : (t : ℕ) → run-rows-lts.Need-element-copy-out-columns (
+  run-entry-below t,
+  run-entry.Post,
+) (run-rows-at t) run-rows.Post run-rows-Inv-loop run-rows-μ-loop
+run-rows-element-copy-out-columns t c = let o = c .before .before .before in let z = row-bounds (o .pre .1 .0) (o .args .q) (o .pre .1 .1) in omega arith
+
+run-rows-mul-rows :
+    (t : ℕ) →
+    run-rows-lts.Need-mul-rows
+    (run-entry-below t, run-entry.Post)
+    (run-rows-at t)
+    run-rows.Post
+    run-rows-Inv-loop
+    run-rows-μ-loop
+run-rows-mul-rows t c = let o = c .before .before .before .before in let z = row-bounds (o .pre .1 .0) (o .args .q) (o .pre .1 .1) in omega arith
+
+run-rows-add-rows :
+    (t : ℕ) →
+    run-rows-lts.Need-add-rows
+    (run-entry-below t, run-entry.Post)
+    (run-rows-at t)
+    run-rows.Post
+    run-rows-Inv-loop
+    run-rows-μ-loop
+run-rows-add-rows t c = let o = c .before .before .before .before in let z = row-bounds (o .pre .1 .0) (o .args .q) (o .pre .1 .1) in omega arith
+
+run-rows-mul-rows-2 :
+    (t : ℕ) →
+    run-rows-lts.Need-mul-rows-2
+    (run-entry-below t, run-entry.Post)
+    (run-rows-at t)
+    run-rows.Post
+    run-rows-Inv-loop
+    run-rows-μ-loop
+run-rows-mul-rows-2 t c = let o = c .before .before .before .before in let z = row-bounds (o .pre .1 .0) (o .args .q) (o .pre .1 .1) in omega arith
+
+run-rows-element-copy-out-rows : (t : ℕ) → run-rows-lts.Need-element-copy-out-rows (
+  run-entry-below t,
+  run-entry.Post,
+) (run-rows-at t) run-rows.Post run-rows-Inv-loop run-rows-μ-loop
+run-rows-element-copy-out-rows t c = let o = c .before .before .before .before in let z = row-bounds (o .pre .1 .0) (o .args .q) (o .pre .1 .1) in omega arith
+
+run-rows-loop-holds :
+    (t : ℕ) →
+    run-rows-lts.Need-loop-holds
+    (run-entry-below t, run-entry.Post)
+    (run-rows-at t)
+    run-rows.Post
+    run-rows-Inv-loop
+    run-rows-μ-loop
+run-rows-loop-holds t c = passed-none _ _ _ _ _ _ _ _ _ _ (c .before .before .before .before .before .before .pre .1 .0 .scene .standing .size)
+
+run-rows-mul-v :
+    (t : ℕ) →
+    run-rows-lts.Need-mul-v
+    (run-entry-below t, run-entry.Post)
+    (run-rows-at t)
+    run-rows.Post
+    run-rows-Inv-loop
+    run-rows-μ-loop
+run-rows-mul-v t c =
+    let o = c .before .before .before .before .before .before .before .before in
+    let z = row-bounds (o .pre .1 .0) (o .args .q) (o .pre .1 .1) in
+    omega arith
+
+run-rows-array-write-v : (t : ℕ) → run-rows-lts.Need-array-write-v (
+  run-entry-below t,
+  run-entry.Post,
+) (run-rows-at t) run-rows.Post run-rows-Inv-loop run-rows-μ-loop
+run-rows-array-write-v t c =
+    let o = c .before .before .before .before .before .before .before .before in
+    let z = row-bounds (o .pre .1 .0) (o .args .q) (o .pre .1 .1) in
+    omega arith
+
+run-rows-add-run-entry : (t : ℕ) → run-rows-lts.Need-add-run-entry (
+  run-entry-below t,
+  run-entry.Post,
+) (run-rows-at t) run-rows.Post run-rows-Inv-loop run-rows-μ-loop
+run-rows-add-run-entry t c =
+    let o = c .before .before .before .before .before .before .before .before in
+    let z = row-bounds (o .pre .1 .0) (o .args .q) (o .pre .1 .1) in
+    omega arith
+
+run-rows-add-run-entry-2 : (t : ℕ) → run-rows-lts.Need-add-run-entry-2 (
+  run-entry-below t,
+  run-entry.Post,
+) (run-rows-at t) run-rows.Post run-rows-Inv-loop run-rows-μ-loop
+run-rows-add-run-entry-2 t c =
+    let o = c .before .before .before .before .before .before .before .before .before in
+    let z = row-bounds (o .pre .1 .0) (o .args .q) (o .pre .1 .1) in
+    omega arith
+
+run-rows-run-entry-requires : (t : ℕ) → run-rows-lts.Need-run-entry-requires (
+  run-entry-below t,
+  run-entry.Post,
+) (run-rows-at t) run-rows.Post run-rows-Inv-loop run-rows-μ-loop
+run-rows-run-entry-requires t c κs =
+    let o = c .before .before .before .before .before .before .before .before .before in
+    let m = o .pre .0 in
+    let z = row-bounds (o .pre .1 .0) (o .args .q) (o .pre .1 .1) in
+    (omega arith, inner-run (o .pre .1 .0) (o .args .q) (o .pre .1 .1) (c .before .loop-test .taken) (c .before .before .loop .inv))
+
+run-rows-returns :
+    (t : ℕ) →
+    run-rows-lts.Need-returns
+    (run-entry-below t, run-entry.Post)
+    (run-rows-at t)
+    run-rows.Post
+    run-rows-Inv-loop
+    run-rows-μ-loop
+run-rows-returns t c = λ h.
+    let o = c .before .before .before .before .before .before .before .before .before .before .before in
+    let below = c .before .before .before .loop-test .taken in
+    let passed = c .before .before .before .before .loop .inv in
+    row-stops h (o .args .q) (o .pre .1 .1) passed below _ (c .before .run-entry .ensures (inner-run h (o .args .q) (o .pre .1 .1) below passed))
+    (differ _ _ (c .if1 .taken))
+
+run-rows-add-first :
+    (t : ℕ) →
+    run-rows-lts.Need-add-first
+    (run-entry-below t, run-entry.Post)
+    (run-rows-at t)
+    run-rows.Post
+    run-rows-Inv-loop
+    run-rows-μ-loop
+run-rows-add-first t c =
+    let o = c .before .before .before .before .before .before .before .before .before .before .before in
+    let z = row-room (o .pre .1 .0) (o .args .q) (o .pre .1 .1) (c .before .before .before .loop-test .taken) (c .before .before .before .before .loop .inv) in
+    omega arith
+
+run-rows-add-r :
+    (t : ℕ) →
+    run-rows-lts.Need-add-r
+    (run-entry-below t, run-entry.Post)
+    (run-rows-at t)
+    run-rows.Post
+    run-rows-Inv-loop
+    run-rows-μ-loop
+run-rows-add-r t c =
+    let o = c .before .before .before .before .before .before .before .before .before .before .before in
+    let z = row-bounds (o .pre .1 .0) (o .args .q) (o .pre .1 .1) in
+    omega arith
+
+run-rows-loop-less :
+    (t : ℕ) →
+    run-rows-lts.Need-loop-less
+    (run-entry-below t, run-entry.Post)
+    (run-rows-at t)
+    run-rows.Post
+    run-rows-Inv-loop
+    run-rows-μ-loop
+run-rows-loop-less t c = omega arith
+
+run-rows-loop-again :
+    (t : ℕ) →
+    run-rows-lts.Need-loop-again
+    (run-entry-below t, run-entry.Post)
+    (run-rows-at t)
+    run-rows.Post
+    run-rows-Inv-loop
+    run-rows-μ-loop
+run-rows-loop-again t c =
+    let o = c .before .before .before .before .before .before .before .before .before .before .before in
+    let below = c .before .before .before .loop-test .taken in
+    let passed = c .before .before .before .before .loop .inv in
+    passed-more _ _ _ _ _ _ _ _ _ _ passed (λ h.
+    sym (c .before .run-entry .ensures (inner-run h (o .args .q) (o .pre .1 .1) below passed) ∙ inner-says h (o .args .q) (o .pre .1 .1) _)
+    ∙ agree _ _ (c .if1 .left))
+
+run-rows-returns-2 :
+    (t : ℕ) →
+    run-rows-lts.Need-returns-2
+    (run-entry-below t, run-entry.Post)
+    (run-rows-at t)
+    run-rows.Post
+    run-rows-Inv-loop
+    run-rows-μ-loop
+run-rows-returns-2 t c = λ h.
+    let o = c .before .before .before .before .before .before .before .before in
+    rows-end h (o .args .q) (o .pre .1 .1) (c .before .loop .inv) (c .loop-test .left)
+
+pub +run-entry+run-inner+run-rows-spec : {M : Type 1} → statement M
++run-entry+run-inner+run-rows-spec =
+    close μ-run-entry μ-run-inner μ-run-rows (λ t. run-entry-lts.spec (
+      run-leaf-reads.Asked,
+      run-leaf-reads.Learnt,
+      run-inner-below t,
+      run-inner.Post,
+    )
+    (run-entry-at t)
+    run-entry.Post
+    (run-entry-mul-if1 t)
+    (run-entry-mul-if1-2 t)
+    (run-entry-element-copy-out-if1 t)
+    (run-entry-run-leaf-requires t)
+    (run-entry-returns t)
+    (run-entry-run-inner-requires t)
+    (run-entry-returns-2 t))
+    (λ t. run-inner-lts.spec
+    (run-entry-below t, run-entry.Post, run-rows-below t, run-rows.Post)
+    (run-inner-at t)
+    run-inner.Post
+    (run-inner-mul-k t)
+    (run-inner-mul-k-2 t)
+    (run-inner-element-copy-out-k t)
+    (run-inner-mul-m t)
+    (run-inner-add-m t)
+    (run-inner-mul-m-2 t)
+    (run-inner-element-copy-out-m t)
+    (run-inner-add-run-entry t)
+    (run-inner-run-entry-requires t)
+    (run-inner-returns t)
+    (run-inner-run-entry-requires-2 t)
+    (run-inner-mul-m-3 t)
+    (run-inner-add-m-2 t)
+    (run-inner-mul-m-4 t)
+    (run-inner-element-copy-out-m-2 t)
+    (run-inner-add-run-entry-2 t)
+    (run-inner-run-entry-requires-3 t)
+    (run-inner-returns-2 t)
+    (run-inner-run-entry-requires-4 t)
+    (run-inner-run-rows-requires t)
+    (run-inner-run-rows-requires-2 t)
+    (run-inner-returns-3 t)
+    (run-inner-returns-4 t)
+    (run-inner-returns-5 t)
+    (run-inner-returns-6 t))
+    λ t. run-rows-lts.spec
+    (run-entry-below t, run-entry.Post)
+    (run-rows-at t)
+    run-rows.Post
+    run-rows-Inv-loop
+    run-rows-μ-loop
+    (run-rows-mul-t t)
+    (run-rows-add-t t)
+    (run-rows-mul-t-2 t)
+    (run-rows-element-copy-out-t t)
+    (run-rows-mul-first t)
+    (run-rows-mul-first-2 t)
+    (run-rows-element-copy-out-first t)
+    (run-rows-mul-columns t)
+    (run-rows-add-columns t)
+    (run-rows-mul-columns-2 t)
+    (run-rows-element-copy-out-columns t)
+    (run-rows-mul-rows t)
+    (run-rows-add-rows t)
+    (run-rows-mul-rows-2 t)
+    (run-rows-element-copy-out-rows t)
+    (run-rows-loop-holds t)
+    (run-rows-mul-v t)
+    (run-rows-array-write-v t)
+    (run-rows-add-run-entry t)
+    (run-rows-add-run-entry-2 t)
+    (run-rows-run-entry-requires t)
+    (run-rows-returns t)
+    (run-rows-add-first t)
+    (run-rows-add-r t)
+    (run-rows-loop-less t)
+    (run-rows-loop-again t)
+    (run-rows-returns-2 t)

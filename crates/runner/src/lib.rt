@@ -1,0 +1,152 @@
+// What a sound card says at a row: its entries, decoded, are run over the cells of the tables.
+ghost use mathlib.Core.Path.{_≡_};
+ghost use mathlib.Core.Bool.{true, false};
+ghost use Prim.Native.Nat.{_+_, _*_, _<_, _≤_};
+ghost use Rattle.tables.specs.Values.{comparisonOf, holds, byNumbers};
+ghost use Rattle.cells.specs.Code.{fromExcess, seenCell};
+ghost use Rattle.checker.specs.Code.{kindIn};
+ghost use Rattle.runner.specs.Code.{ValueReady, Sees, LeafReady, LeafAnswers, Runnable, Answers, rowKind};
+use cells::Seen;
+
+// What is seen of the cell or the constant that a value stands for; w has the first cell of each level's row.
+fn look(g: &[usize; 27], file: &[u8], w: &[usize; 4], tag: usize, n: usize) -> Seen
+    requires { ⌜ ValueReady (now g) (now file) (now w) tag n ⌝ }
+    ensures { λ r. ⌜ Sees (now (g .entry)) (now (file .entry)) (now (w .entry)) tag n r ⌝ }
+{
+    if tag == checker::CONSTANT {
+        return Seen {
+            blank: false,
+            number: n,
+        };
+    }
+    cells::cell(file, g[0], g[1], w[tag] + (n - 1))
+}
+
+// Whether two numbers compare so.
+fn numbers_hold(op: usize, x: usize, y: usize) -> bool
+    ensures { λ r. ⌜ r ≡ holds (comparisonOf op) (fromExcess x) (fromExcess y) ⌝ }
+{
+    match op {
+        2 => x != y,
+        3 => x < y,
+        4 => x <= y,
+        5 => y < x,
+        6 => y <= x,
+        _ => x == y,
+    }
+}
+
+// Whether two cells do; unknown is the answer where one of them is blank. The numbers are compared first: one branch is left.
+fn cells_hold(unknown: bool, op: usize, x: Seen, y: Seen) -> bool
+    ensures { λ r. ⌜ r ≡ byNumbers unknown (holds (comparisonOf op)) (seenCell x) (seenCell y) ⌝ }
+{
+    let h = numbers_hold(op, x.number, y.number);
+    if x.blank | y.blank {
+        return unknown;
+    }
+    h
+}
+
+// What an entry without inner entries answers.
+fn run_leaf(d: &[usize; 1536], g: &[usize; 27], file: &[u8], s: usize, w: &[usize; 4]) -> bool
+    requires { ⌜ LeafReady (now d) (now g) (now file) (now w) s ⌝ }
+    ensures { λ r. ⌜ LeafAnswers (now (d .entry)) (now (g .entry)) (now (file .entry)) (now (w .entry)) s r ⌝ }
+{
+    let k = d[8 * s];
+    let x = look(g, file, w, d[8 * s + 4], d[8 * s + 5]);
+    if k < 7 {
+        let y = look(g, file, w, d[8 * s + 6], d[8 * s + 7]);
+        return cells_hold(k == 6, d[8 * s + 3], x, y);
+    }
+    if k == 7 {
+        return x.blank;
+    }
+    !x.blank
+}
+
+// What the entry s, with the inner ones up to e, answers.
+pub fn run_entry(
+    d: &[usize; 1536],
+    g: &[usize; 27],
+    file: &[u8],
+    s: usize,
+    e: usize,
+    w: &[usize; 4],
+    depth: usize,
+) -> bool
+    requires { ⌜ Runnable (now d) (now g) (now file) (now w) s e depth ⌝ }
+    ensures { λ r. ⌜ Answers (now (d .entry)) (now (g .entry)) (now (file .entry)) (now (w .entry)) s e depth r ⌝ }
+{
+    if 4 < d[8 * s] {
+        return run_leaf(d, g, file, s, w);
+    }
+    run_inner(d, g, file, s, e, w, depth)
+}
+
+// The same where s has inner entries.
+fn run_inner(
+    d: &[usize; 1536],
+    g: &[usize; 27],
+    file: &[u8],
+    s: usize,
+    e: usize,
+    w: &[usize; 4],
+    depth: usize,
+) -> bool
+    requires { ⌜ Runnable (now d) (now g) (now file) (now w) s e depth ⌝ ∗ ⌜ kindIn (now d) s ≤ 4 ⌝ }
+    ensures { λ r. ⌜ Answers (now (d .entry)) (now (g .entry)) (now (file .entry)) (now (w .entry)) s e depth r ⌝ }
+{
+    let k = d[8 * s];
+    match k {
+        1 => {
+            let m = d[8 * s + 9];
+            let left = run_entry(d, g, file, s + 1, m, w, depth);
+            if !left {
+                return false;
+            }
+            run_entry(d, g, file, m, e, w, depth)
+        }
+        2 => {
+            let m = d[8 * s + 9];
+            let left = run_entry(d, g, file, s + 1, m, w, depth);
+            if left {
+                return true;
+            }
+            run_entry(d, g, file, m, e, w, depth)
+        }
+        3 => run_rows(d, g, file, s, e, w, depth, false),
+        _ => run_rows(d, g, file, s, e, w, depth, true),
+    }
+}
+
+// The same where s asks for some row of its table, or for every row: q is the answer where no row decides.
+fn run_rows(
+    d: &[usize; 1536],
+    g: &[usize; 27],
+    file: &[u8],
+    s: usize,
+    e: usize,
+    w: &[usize; 4],
+    depth: usize,
+    q: bool,
+) -> bool
+    requires { ⌜ Runnable (now d) (now g) (now file) (now w) s e depth ⌝ ∗ ⌜ kindIn (now d) s ≡ rowKind q ⌝ }
+    ensures { λ r. ⌜ Answers (now (d .entry)) (now (g .entry)) (now (file .entry)) (now (w .entry)) s e depth r ⌝ }
+{
+    let t = d[8 * s + 2];
+    let mut first = g[3 * t];
+    let columns = g[3 * t + 1];
+    let rows = g[3 * t + 2];
+    let mut v = *w;
+    let mut r: usize = 0;
+    while r < rows {
+        v[depth] = first;
+        let a = run_entry(d, g, file, s + 1, e, &v, depth + 1);
+        if a != q {
+            return a;
+        }
+        first += columns;
+        r += 1;
+    }
+    q
+}
