@@ -2,3 +2,4 @@ pub mod Signed
 pub mod Cells
 pub mod Holding
 pub mod Valid
+pub mod Told

@@ -1,3 +1,4 @@
 pub mod Decoding
 pub mod Coded
 pub mod Checking
+pub mod Told

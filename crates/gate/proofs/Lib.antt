@@ -1,3 +1,4 @@
 pub mod Calls
 pub mod Judged
 pub mod Listing
+pub mod Told
