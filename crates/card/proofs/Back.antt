@@ -14,7 +14,7 @@ use Rattle.tables.specs.Lists.{tabulate, numbered, all, only}
 use Rattle.tables.specs.Bytes.{between, byteAt, word32, bytes32, bits, inRange}
 use Rattle.tables.specs.Tables.{mostTables, mostColumns}
 use Rattle.tables.specs.Values.{constantTag, judgedLevels, Value, Constant, Column, Comparison, Eq, Ne, Lt, Le, Gt, Ge, comparisonNumber, And, Or, Some, All}
-use Rattle.card.specs.Card.{mostRowEntries, AsNo, AsYes, Leaf, CompareLeaf, BlankLeaf, NotBlankLeaf, Card, LeafEntry, PairEntry, RowEntry, entries, valueFits, leafFits, rowsFit, cardFits}
+use Rattle.card.specs.Card.{mostRowEntries, AsNo, AsYes, Leaf, CompareLeaf, BlankLeaf, NotBlankLeaf, Card, LeafEntry, PairEntry, RowEntry, entries, valueFits, leafFits, rowEntryFits, cardFits}
 use Rattle.card.specs.Layout.{Head, LeafHead, PairHead, RowHead, kindOf, valueBytes, noValue, recordBytes, cardBytes, valueOf, valueFrom, zeros, headFrom, inside, entryFrom, cardFrom}
 use Rattle.card.specs.Sound.{mostEntries, columnsFit, sound, Sound}
 use Rattle.tables.proofs.Values.{comparison-back}
@@ -154,7 +154,7 @@ module _ (bs columns : List ℕ) (sized : T (columnsFit columns)) where
       step-back bs i depth (PairEntry j a b) s m tt (rw (pa, pb, e))
   entry-back (RowEntry q t c) levels zero i few f l m s = absurd (omega arith)
   entry-back (RowEntry q t c) levels (suc depth) i few f l m s =
-      let (fr, fc) = both (rowsFit columns levels t) (cardFits columns (levels ++ (t ∷ [])) c) f in
+      let (fr, fc) = both (rowEntryFits columns levels t) (cardFits columns (levels ++ (t ∷ [])) c) f in
       let three = leb→le (length levels) mostRowEntries (both (between 1 (length columns) t) (leb (length levels) mostRowEntries) fr .1) in
       let few′ : length (levels ++ (t ∷ [])) ≤ 1 + mostRowEntries = simp length-append (omega arith) in
       let p = entry-back c (levels ++ (t ∷ [])) depth (i + 1) few′ fc (omega arith) (omega arith) (stands-row s) in

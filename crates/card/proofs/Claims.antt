@@ -8,8 +8,8 @@ use Rattle.card.specs.Calls.{yesRows, checkRefusals, gateRefusals, runRe
 use mathlib.Core.Bool.{not}
 use mathlib.Core.List.{[]}
 use Rattle.card.specs.Layout.{columnsIn}
-use Rattle.card.specs.Cases.{nested, chained, edges, gateEdges}
-use Rattle.card.specs.Claims.{SoundClaim, LengthClaim, CallsClaim, OrderClaim, GateEdgesClaim, EdgesClaim}
+use Rattle.card.specs.Cases.{nested, chained, edges, gateEdges, kindCases}
+use Rattle.card.specs.Claims.{SoundClaim, LengthClaim, CallsClaim, OrderClaim, GateEdgesClaim, EdgesClaim, KindsClaim}
 use Rattle.card.proofs.Opened.{opened}
 use Rattle.card.proofs.Walk.{card-length, columns-back}
 use Rattle.card.proofs.Back.{sound-true, sound-holds}
@@ -32,11 +32,15 @@ edges-claim = refl
 
 pub order-claim : OrderClaim
 unfolding opened
-order-claim = record { running = λ card file row. refl; listing = λ card file. refl }
+order-claim = record { checking = λ card. refl; running = λ card file row. refl; listing = λ card file buffer. refl }
 
 pub gate-edges-claim : GateEdgesClaim
 unfolding opened gateEdges
 gate-edges-claim = refl
+
+pub kinds-claim : KindsClaim
+unfolding opened kindCases
+kinds-claim = refl
 
 pub calls-claim : CallsClaim
 unfolding checkCall checkRefusals runCall runRefusals rowRefusal listCall

@@ -11,6 +11,7 @@ use Rattle.card.specs.Card.{Card, answer}
 use Rattle.card.specs.Layout.{columnsIn, cardFrom}
 use Rattle.card.specs.Sound.{sound}
 
+-- the answer of the card that some bytes hold, at a row; bytes that hold none are no sound card, and no call asks for their answer
 abbrev pub cardSays : List ℕ → ℕ → Option Card → Bool
 cardSays file row none = false
 cardSays file row (some c) = answer (tablesOf file) (judgedRow (tablesOf file) row) c

@@ -76,11 +76,12 @@ module _ (columns : List ℕ) where
   leafFits levels (BlankLeaf l) = valueFits levels l
   leafFits levels (NotBlankLeaf l) = valueFits levels l
 
-  -- a row entry of a sound card: its table exists, and it is within at most two others (levels has the judged row's and one for each of them)
-  abbrev pub rowsFit : List ℕ → ℕ → Bool
-  rowsFit levels t = between 1 (length columns) t && leb (length levels) mostRowEntries
+  -- a row entry of a sound card: its table exists, and it is within at most two others (levels has one for the judged row and one for each of
+  -- them, so it has at most three)
+  abbrev pub rowEntryFits : List ℕ → ℕ → Bool
+  rowEntryFits levels t = between 1 (length columns) t && leb (length levels) mostRowEntries
 
   unfoldable pub cardFits : List ℕ → Card → Bool
   cardFits levels (LeafEntry x) = leafFits levels x
   cardFits levels (PairEntry j a b) = cardFits levels a && cardFits levels b
-  cardFits levels (RowEntry q t c) = rowsFit levels t && cardFits (levels ++ (t ∷ [])) c
+  cardFits levels (RowEntry q t c) = rowEntryFits levels t && cardFits (levels ++ (t ∷ [])) c

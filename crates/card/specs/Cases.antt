@@ -1,8 +1,8 @@
--- Cards at the edges of soundness, and cards with files at the edges of the refusals.
+-- Cards at the edges of soundness, cards with files at the edges of the refusals, and what each kind of entry answers.
 use mathlib.Core.Bool.{Bool, true, false}
-use mathlib.Core.List.{List, [], _∷_, _++_}
+use mathlib.Core.List.{List, [], _∷_, _++_, map}
 use Prim.Native.Nat.{ℕ, zero, suc}
-use lib.ListN.{set}
+use lib.ListN.{length, take, drop, set}
 use Rattle.tables.specs.Refusals.{Answer, Refused, Given, Lent}
 use Rattle.tables.specs.Values.{Column, Or, Some, All}
 use Rattle.card.specs.Card.{BlankLeaf, NotBlankLeaf, Card, LeafEntry, PairEntry, RowEntry}
@@ -23,9 +23,6 @@ bad bs = record { card = bs; isSound = false }
 abbrev pub workedCard : List ℕ
 workedCard =
     0x01 ∷ 0x00 ∷ 0x01 ∷ 0x03 ∷ 0x05 ∷ 0x01 ∷ 0x00 ∷ 0x00 ∷ 0x06 ∷ 0x00 ∷ 0x02 ∷ 0x00 ∷ 0x00 ∷ 0x00 ∷ 0xFF ∷ 0x05 ∷ 0x00 ∷ 0x00 ∷ 0x00 ∷ []
-
-abbrev one : List ℕ
-one = workedCard
 
 -- tables of 3 and 2 columns
 abbrev over : Card → List ℕ
@@ -52,14 +49,14 @@ unfoldable pub nested : ℕ → Card → Card
 nested zero c = c
 nested (suc n) c = RowEntry Some 2 (nested n c)
 
--- the bytes of `one` changed one at a time, then the length, then entries that fit and do not
+-- the bytes of the worked card changed workedCard at a time, then the length, then entries that fit and do not
 unfoldable pub edges : List Edge
 edges =
-    good one ∷ bad (set one 0 0) ∷ bad (set one 0 2) ∷ bad (set one 1 1) ∷ bad (set one 2 0) ∷ bad (set one 2 2) ∷ bad (set one 3 1) ∷ good (set one 3 2)
-    ∷ good (set one 3 16) ∷ bad (set one 3 17) ∷ bad (set one 4 0) ∷ bad (set one 4 1) ∷ bad (set one 4 3) ∷ good (set one 4 6) ∷ bad (set one 4 7) ∷ bad (set one 4 9)
-    ∷ bad (set one 5 0) ∷ bad (set one 5 2) ∷ bad (set one 6 1) ∷ bad (set one 7 1) ∷ bad (set one 8 0) ∷ good (set one 8 1) ∷ bad (set one 8 7)
-    ∷ bad (set one 9 1) ∷ good (set one 9 255) ∷ bad (set one 10 0) ∷ good (set one 10 3) ∷ bad (set one 10 4) ∷ bad (set one 11 1) ∷ bad (set one 14 0) ∷ good (set one 18 255)
-    ∷ bad [] ∷ bad (0 ∷ 0 ∷ []) ∷ bad (one ++ (0 ∷ []))
+    good workedCard ∷ bad (set workedCard 0 0) ∷ bad (set workedCard 0 2) ∷ bad (set workedCard 1 1) ∷ bad (set workedCard 2 0) ∷ bad (set workedCard 2 2) ∷ bad (set workedCard 3 1) ∷ good (set workedCard 3 2)
+    ∷ good (set workedCard 3 16) ∷ bad (set workedCard 3 17) ∷ bad (set workedCard 4 0) ∷ bad (set workedCard 4 1) ∷ bad (set workedCard 4 3) ∷ good (set workedCard 4 6) ∷ bad (set workedCard 4 7) ∷ bad (set workedCard 4 9)
+    ∷ bad (set workedCard 5 0) ∷ bad (set workedCard 5 2) ∷ bad (set workedCard 6 1) ∷ bad (set workedCard 7 1) ∷ bad (set workedCard 8 0) ∷ good (set workedCard 8 1) ∷ bad (set workedCard 8 7)
+    ∷ bad (set workedCard 9 1) ∷ good (set workedCard 9 255) ∷ bad (set workedCard 10 0) ∷ good (set workedCard 10 3) ∷ bad (set workedCard 10 4) ∷ bad (set workedCard 11 1) ∷ bad (set workedCard 14 0) ∷ good (set workedCard 18 255)
+    ∷ bad [] ∷ bad (0 ∷ 0 ∷ []) ∷ bad (workedCard ++ (0 ∷ []))
     ∷ good (over (nested 3 (null 3 2))) ∷ bad (over (nested 4 (null 3 2))) ∷ bad (over (nested 3 (null 4 1))) ∷ bad (over (nested 3 (null 3 3))) ∷ good (over (nested 3 (null 0 3)))
     -- ends: of the first inner entry, of the second, of entry 0; an entry left over; unused bytes of kinds 2, 7, 4; an absent column under not blank
     ∷ good three ∷ bad (set three 22 1) ∷ bad (set three 22 3) ∷ bad (set three 36 2) ∷ bad (set three 8 2) ∷ bad (set three 5 7) ∷ bad (set (set (set three 5 7) 8 1) 13 1)
@@ -91,7 +88,7 @@ abbrev oneRow : List ℕ
 oneRow = 2 ∷ 3 ∷ 1 ∷ 0 ∷ 2 ∷ 0 ∷ 0 ∷ 4 ∷ 0 ∷ 0 ∷ 0 ∷ 5 ∷ 0 ∷ 0 ∷ 0 ∷ 6 ∷ 0 ∷ 0 ∷ 0 ∷ 0 ∷ 0 ∷ 1 ∷ []
 
 -- a wrong length, a wrong mark, an unsound card, columns that differ in table 1, in table 2 and in number, in the order in which they are
--- tried; then an answer, with and without a row, and no room
+-- tried; then yes and no, a row entry over no rows, and a table 1 without rows
 unfoldable pub gateEdges : List GateEdge
 gateEdges =
     refuses [] [] 1 ∷ refuses three (oneRow ++ (0 ∷ [])) 1 ∷ refuses (0 ∷ []) (set oneRow 21 2) 2 ∷ refuses (0 ∷ []) oneRow 9
@@ -108,3 +105,62 @@ gateAnswers e = (runCall (e .card) (e .file) 0, listCall (e .card) (e .file) (9 
 
 abbrev pub gateExpected : GateEdge → Answer Bool × Lent ℕ
 gateExpected e = (e .run, e .listing)
+
+-- ---- each kind of entry, by its bytes
+
+-- a card of byte values, for tables of 2 columns and 1; RUN's answers on the rows 0 to 3; LIST's rows
+pub record KindCase : Type 0 where
+  pub card : List ℕ
+  pub runs : List Bool
+  pub admitted : List ℕ
+
+-- a record: end, table, comparison, and two values of a tag and a number, all below 256
+abbrev fields : ℕ → ℕ → ℕ → ℕ → ℕ → ℕ → ℕ → List ℕ
+fields end table comparison tag n tag′ n′ = end ∷ 0 ∷ table ∷ comparison ∷ tag ∷ n ∷ 0 ∷ 0 ∷ 0 ∷ tag′ ∷ n′ ∷ 0 ∷ 0 ∷ 0 ∷ []
+
+abbrev oneEntry : ℕ → List ℕ → List ℕ
+oneEntry kind r = 1 ∷ 0 ∷ 2 ∷ 2 ∷ 1 ∷ kind ∷ r
+
+-- an entry of this kind with m.2 > 0 (kind 5) and m.1 is not blank
+abbrev pairOf : ℕ → List ℕ
+pairOf kind = 3 ∷ 0 ∷ 2 ∷ 2 ∷ 1 ∷ kind ∷ 5 ∷ 8 ∷ fields 3 0 0 0 0 0 0 ++ (fields 2 0 5 0 2 255 0 ++ fields 3 0 0 0 1 0 0)
+
+-- an entry of this kind over table 2, with a comparison of its column 1 with m.1 or m.2
+abbrev rowsWith : ℕ → ℕ → ℕ → ℕ → List ℕ
+rowsWith kind inner comparison column = 2 ∷ 0 ∷ 2 ∷ 2 ∷ 1 ∷ kind ∷ inner ∷ fields 2 2 0 0 0 0 0 ++ fields 2 0 comparison 1 1 0 column
+
+-- table 1: (1, 5), (2, blank), (3, 0), (blank, blank); table 2: 1, blank. The numbers of blank cells are 7.
+abbrev pub kindFile : List ℕ
+kindFile =
+    (2 ∷ 2 ∷ 4 ∷ 0 ∷ 1 ∷ 2 ∷ 0 ∷ [])
+    ++ (1 ∷ 0 ∷ 0 ∷ 0 ∷ 5 ∷ 0 ∷ 0 ∷ 0 ∷ 2 ∷ 0 ∷ 0 ∷ 0 ∷ 7 ∷ 0 ∷ 0 ∷ 0 ∷ 3 ∷ 0 ∷ 0 ∷ 0 ∷ 0 ∷ 0 ∷ 0 ∷ 0 ∷ 7 ∷ 0 ∷ 0 ∷ 0 ∷ 7 ∷ 0 ∷ 0 ∷ 0 ∷ 1 ∷ 0 ∷ 0 ∷ 0 ∷ 7 ∷ 0 ∷ 0 ∷ 0 ∷ [])
+    ++ (0 ∷ 0 ∷ 0 ∷ 1 ∷ 0 ∷ 0 ∷ 1 ∷ 1 ∷ 0 ∷ 1 ∷ [])
+
+-- the kinds from 1 to 8; then some row with v.1 < m.2, where the two levels cannot be taken for one another
+unfoldable pub kindCases : List KindCase
+kindCases =
+    record { card = pairOf 1; runs = true ∷ false ∷ false ∷ false ∷ []; admitted = 0 ∷ [] }
+    ∷ record { card = pairOf 2; runs = true ∷ true ∷ true ∷ false ∷ []; admitted = 0 ∷ 1 ∷ 2 ∷ [] }
+    ∷ record { card = rowsWith 3 5 1 1; runs = true ∷ false ∷ false ∷ false ∷ []; admitted = 0 ∷ [] }
+    ∷ record { card = rowsWith 4 6 1 1; runs = true ∷ false ∷ false ∷ true ∷ []; admitted = 0 ∷ 3 ∷ [] }
+    ∷ record { card = oneEntry 5 (fields 1 0 5 0 2 255 0); runs = true ∷ false ∷ false ∷ false ∷ []; admitted = 0 ∷ [] }
+    ∷ record { card = oneEntry 6 (fields 1 0 5 0 2 255 0); runs = true ∷ true ∷ false ∷ true ∷ []; admitted = 0 ∷ 1 ∷ 3 ∷ [] }
+    ∷ record { card = oneEntry 7 (fields 1 0 0 0 2 0 0); runs = false ∷ true ∷ false ∷ true ∷ []; admitted = 1 ∷ 3 ∷ [] }
+    ∷ record { card = oneEntry 8 (fields 1 0 0 0 2 0 0); runs = true ∷ false ∷ true ∷ false ∷ []; admitted = 0 ∷ 2 ∷ [] }
+    ∷ record { card = rowsWith 3 5 3 2; runs = true ∷ false ∷ false ∷ false ∷ []; admitted = 0 ∷ [] }
+    ∷ []
+
+-- RUN on the rows 0 to 4, and LIST with five elements, and with one fewer than there are rows
+abbrev pub kindAnswers : KindCase → List (Answer Bool) × Lent ℕ × Lent ℕ
+kindAnswers e = (
+  map (runCall (e .card) kindFile) (0 ∷ 1 ∷ 2 ∷ 3 ∷ 4 ∷ []),
+  listCall (e .card) kindFile (9 ∷ 9 ∷ 9 ∷ 9 ∷ 9 ∷ []),
+  listCall (e .card) kindFile (drop 1 (e .admitted)),
+)
+
+abbrev pub kindExpected : KindCase → List (Answer Bool) × Lent ℕ × Lent ℕ
+kindExpected e = (
+  map Given (e .runs) ++ (Refused 11 ∷ []),
+  record { result = Given (length (e .admitted)); buffer = take 5 (e .admitted ++ (9 ∷ 9 ∷ 9 ∷ 9 ∷ 9 ∷ [])) },
+  record { result = Refused 12; buffer = drop 1 (e .admitted) },
+)

@@ -6,12 +6,12 @@ use mathlib.Core.Option.{none, some}
 use Prim.Native.Nat.{ℕ, _<_, _≤_}
 use lib.ListN.{length, getD, drop}
 use Rattle.tables.specs.Tables.{rowCount}
-use Rattle.tables.specs.Refusals.{firstApplying, Refused, Given}
+use Rattle.tables.specs.Refusals.{firstApplying, Refused, Given, shortRefusal}
 use Rattle.card.specs.Card.{Card, entries}
 use Rattle.card.specs.Layout.{cardBytes, cardLength, columnsIn, cardFrom}
 use Rattle.card.specs.Sound.{sound, Sound}
-use Rattle.card.specs.Calls.{saysYes, yesRows, gateRefusals, runRefusals, checkCall, runCall, listCall}
-use Rattle.card.specs.Cases.{edges, gateEdges, gateAnswers, gateExpected}
+use Rattle.card.specs.Calls.{saysYes, yesRows, checkRefusals, gateRefusals, runRefusals, checkCall, runCall, listCall}
+use Rattle.card.specs.Cases.{edges, gateEdges, gateAnswers, gateExpected, kindCases, kindAnswers, kindExpected}
 
 -- the test of a sound card passes just those bytes that are the bytes of a fitting card, and reads that card and its columns from them; what
 -- fits, and the limits, are the same definitions on both sides (EdgesClaim tries them)
@@ -41,10 +41,12 @@ pub record CallsClaim : Type 0 where
   pub list-given : (card file buffer : List ℕ) → firstApplying (gateRefusals card file) ≡ none → length (yesRows card file) ≤ length buffer
       → listCall card file buffer ≡ record { result = Given (length (yesRows card file)); buffer = yesRows card file ++ drop (length (yesRows card file)) buffer }
 
--- the numbers of the refusals of RUN, and of LIST but for 12, in the order in which they are tried
+-- the numbers of the refusals of CHECK, RUN and LIST, in the order in which they are tried: they rise, so the lowest that applies is given
 pub record OrderClaim : Type 0 where
+  pub checking : (card : List ℕ) → map (λ r. r .number) (checkRefusals card) ≡ 9 ∷ []
   pub running : (card file : List ℕ) (row : ℕ) → map (λ r. r .number) (runRefusals card file row) ≡ 1 ∷ 2 ∷ 9 ∷ 10 ∷ 11 ∷ []
-  pub listing : (card file : List ℕ) → map (λ r. r .number) (gateRefusals card file) ≡ 1 ∷ 2 ∷ 9 ∷ 10 ∷ []
+  pub listing : (card file buffer : List ℕ)
+      → map (λ r. r .number) (gateRefusals card file ++ (shortRefusal (yesRows card file) buffer ∷ [])) ≡ 1 ∷ 2 ∷ 9 ∷ 10 ∷ 12 ∷ []
 
 -- RUN and LIST on cards and files of which several may be wrong, together
 abbrev pub GateEdgesClaim : Type 0
@@ -53,3 +55,7 @@ GateEdgesClaim = map gateAnswers gateEdges ≡ map gateExpected gateEdges
 -- the cards at the edges of soundness, together
 abbrev pub EdgesClaim : Type 0
 EdgesClaim = map (λ e. sound (e .card)) edges ≡ map (λ e. e .isSound) edges
+
+-- each kind, by its byte: RUN row by row, LIST with room and without, together
+abbrev pub KindsClaim : Type 0
+KindsClaim = map kindAnswers kindCases ≡ map kindExpected kindCases

@@ -119,8 +119,9 @@ valueFrom r i = valueOf (byteAt r i) (word32 r (i + 1))
 unfoldable pub zeros : List ℕ → ℕ → ℕ → Bool
 zeros r i j = all (λ k. eqb (byteAt r (i + k)) 0) (tabulate (j - i) (λ k. k))
 
--- what an entry of this kind with this record says: none, if there is no such kind or comparison, or if an unused byte is not 0. usesEnd: all
--- bytes behind the end are 0; usesTable, usesComparison, usesLeft: all bytes but those of the end and of the fields used are 0
+-- what an entry of this kind with this record says: none, if there is no such kind, or if the record is not as the kind wants it. usesEnd: nothing but
+-- the end is used, and all bytes behind it are 0; usesTable: nothing but end and table; usesComparison: end, a comparison from 1 to 6, and both
+-- values; usesLeft: end and left value
 unfoldable pub headFrom : ℕ → List ℕ → Option Head
 headFrom kind r =
     let table = byteAt r tablePlace in
@@ -155,7 +156,8 @@ inside from i (LeafHead x) = some (LeafEntry x, i + 1)
 inside from i (PairHead j) = from (i + 1) >>= (λ a. from (a .1) >>= (λ b. some (PairEntry j (a .0) (b .0), b .1)))
 inside from i (RowHead q t) = from (i + 1) >>= (λ c. some (RowEntry q t (c .0), c .1))
 
--- the entry i, if its end is the number of the entry after it and its inner ones; depth bounds how many entries stand around one another
+-- the entry i, if its end is the number of the entry after it and its inner ones; depth bounds how many entries stand around one another, and is as
+-- large as it can be needed where it is the number of entries (SoundClaim: every sound card passes)
 unfoldable pub entryFrom : List ℕ → ℕ → ℕ → Option Taken
 entryFrom bs zero i = none
 entryFrom bs (suc depth) i =

@@ -35,7 +35,8 @@ sound bs =
     && (eqb (length bs) (cardLength (tablesIn bs) (entryCount bs))
     && holdsFitting (columnsIn bs) (cardFrom bs)))
 
--- the same, said without a test: the bytes of a card with as many entries, tables and columns as there may be, which fits them
+-- the same, said from the card to its bytes and not back: the bytes of a card with as many entries, tables and columns as there may be, which fits
+-- them (`T` says of a test that it is true)
 pub record Sound (bs : List ℕ) : Type 0 where
   pub columns : List ℕ
   pub card : Card

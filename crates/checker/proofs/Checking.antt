@@ -18,7 +18,7 @@ use Rattle.tables.specs.Lists.{numbered}
 use Rattle.tables.specs.Bytes.{between, byteAt, inRange}
 use Rattle.tables.specs.Values.{constantTag, judgedLevels, Connective, And, Or, Quantifier, Some, All}
 use Rattle.cells.specs.Code.{fromExcess}
-use Rattle.card.specs.Card.{mostRowEntries, Leaf, Card, LeafEntry, PairEntry, RowEntry, valueFits, leafFits, rowsFit, cardFits}
+use Rattle.card.specs.Card.{mostRowEntries, Leaf, Card, LeafEntry, PairEntry, RowEntry, valueFits, leafFits, rowEntryFits, cardFits}
 use Rattle.card.specs.Layout.{LeafHead, PairHead, RowHead, entryCount, tablesIn, columnsIn, kindAt, recordAt, endAt, headFrom, cardFrom}
 use Rattle.card.specs.Sound.{mostEntries, columnsFit, holdsFitting, sound}
 use Rattle.checker.specs.Code.{laid, Laid, Decoded, valueIn, kindIn, endIn, tableIn, leftIn, rightIn, headIn, Coded, coded-leaf, coded-pair, coded-row, Fitting, Checks, LevelsIn, Checkable}
@@ -263,7 +263,7 @@ module _ (card d w : List ℕ) (s e depth : ℕ) (low : 3 ≤ kindIn d s) (high 
       let (q, g) = row-at in
       let p = row-of (x .coded) q table g in
       let f : T (cardFits columns levels (RowEntry q table (p .inner))) = subst (λ (c : Card). T (cardFits columns levels c)) (p .is) (x .fits) in
-      let (own, i) = both (rowsFit columns levels table) (cardFits columns (levels ++ (table ∷ [])) (p .inner)) f in
+      let (own, i) = both (rowEntryFits columns levels table) (cardFits columns (levels ++ (table ∷ [])) (p .inner)) f in
       let (there, three) = both (between 1 (length columns) table) (leb (length levels) mostRowEntries) own in
       let (l, u) = bounds 1 (length columns) table there in
       record {
@@ -291,7 +291,7 @@ module _ (card d w : List ℕ) (s e depth : ℕ) (low : 3 ≤ kindIn d s) (high 
         let levels = take depth w in
         let (q, g) = row-at in
         let c′ : Checks d columns (levels ++ (table ∷ [])) (s + 1) e t = subst (λ (l : List ℕ). Checks d columns l (s + 1) e t) level-more c in
-        let own : T (rowsFit columns levels table) =
+        let own : T (rowEntryFits columns levels table) =
         and-i (between 1 (length columns) table) (leb (length levels) mostRowEntries)
         (and-i (leb 1 table) (leb table (length columns)) (le→leb 1 table t-low) (le→leb table (length columns) (omega (arith, columns-length card))))
         (le→leb (length levels) mostRowEntries (omega (arith, levels-long card w depth h))) in
@@ -301,7 +301,7 @@ module _ (card d w : List ℕ) (s e depth : ℕ) (low : 3 ≤ kindIn d s) (high 
               record {
                 card = RowEntry q table (i .card);
                 coded = coded-row g end (i .coded);
-                fits = and-i (rowsFit columns levels table) (cardFits columns (levels ++ (table ∷ [])) (i .card)) own (i .fits);
+                fits = and-i (rowEntryFits columns levels table) (cardFits columns (levels ++ (table ∷ [])) (i .card)) own (i .fits);
               };
           fits-yes = λ x. c′ .fits-yes (row-parts x .inner);
         }

@@ -32,7 +32,7 @@ fn fits_tables(card: &[u8], file: &[u8]) -> bool
     true
 }
 
-pub enum Prepared {
+enum Prepared {
     Ready,
     NotReady(Reason),
 }
@@ -137,7 +137,7 @@ pub enum Listed {
     NotListed(Reason),
 }
 
-// LIST: the rows of table 1 that the card says yes to, rising, from the start of out on. Nothing is written before it is known that they fit.
+// LIST: the rows of table 1 that the card says yes to, rising, from the start of out on.
 pub fn list(card: &[u8], file: &[u8], out: &mut [u32]) -> Listed
     ensures answer { λ r. ⌜ listedAnswer r ≡ listCall (now (card .entry)) (now (file .entry)) (now (out .entry)) .result ⌝ }
     ensures written { λ r. ⌜ now (out .exit) ≡ listCall (now (card .entry)) (now (file .entry)) (now (out .entry)) .buffer ⌝ }
@@ -148,6 +148,7 @@ pub fn list(card: &[u8], file: &[u8], out: &mut [u32]) -> Listed
     if let Prepared::NotReady(x) = prepared {
         return Listed::NotListed(x);
     }
+    // The rows are kept here first, since nothing may be written before it is known that all of them fit.
     let mut kept = [0u32; 1000];
     let k = keep_rows(card, file, &d, &g, &mut kept);
     if out.len() < k {

@@ -1,4 +1,5 @@
 // The gate's calls for C: CHECK, RUN and LIST. Each returns 0, or the number of the refusal; a refusal leaves what the pointers point to.
+// A slice is a pointer and then a length, in elements; what is written through one argument must not be reachable through another.
 ghost use mathlib.Core.Path.{_≡_};
 ghost use Rattle.card.specs.Calls.{checkCall, runCall, listCall};
 ghost use Rattle.roskudla_gate.specs.Exports.{statusOf, yesNo, numberAfter};

@@ -20,7 +20,7 @@ use Rattle.cells.specs.Code.{seenCell}
 use Rattle.cells.specs.declared.Seen.{Seen}
 use Rattle.tables.proofs.Tests.{both, bounds}
 use Rattle.tables.proofs.Sizes.{columns-count}
-use Rattle.card.specs.Card.{AsNo, AsYes, Leaf, CompareLeaf, BlankLeaf, NotBlankLeaf, Card, LeafEntry, PairEntry, RowEntry, leafSays, joined, overRows, answer, valueFits, leafFits, rowsFit, cardFits}
+use Rattle.card.specs.Card.{AsNo, AsYes, Leaf, CompareLeaf, BlankLeaf, NotBlankLeaf, Card, LeafEntry, PairEntry, RowEntry, leafSays, joined, overRows, answer, valueFits, leafFits, rowEntryFits, cardFits}
 use Rattle.card.specs.Layout.{LeafHead, PairHead, RowHead}
 use Rattle.card.specs.Sound.{mostEntries}
 use Rattle.checker.specs.Code.{kindIn, tableIn, comparisonIn, leftIn, rightIn, headIn, Coded, coded-leaf, coded-pair, coded-row}
@@ -329,9 +329,9 @@ module _ {d g file w : List ℕ} {s e depth : ℕ} (h : Runnable d g file w s e 
     pub row-here : RowParts d s e (h .card) (quantifierBy q) (tableIn d s)
     row-here = row-of (h .coded) (quantifierBy q) (tableIn d s) (head-row d s q k)
 
-    rows-fit : T (rowsFit (columnsOf file) (h .levels) (tableIn d s)) × T (cardFits (columnsOf file) (h .levels ++ (tableIn d s ∷ [])) (row-here .inner))
+    rows-fit : T (rowEntryFits (columnsOf file) (h .levels) (tableIn d s)) × T (cardFits (columnsOf file) (h .levels ++ (tableIn d s ∷ [])) (row-here .inner))
     unfolding cardFits
-    rows-fit = both (rowsFit (columnsOf file) (h .levels) (tableIn d s)) _ (fits-as (RowEntry (quantifierBy q) (tableIn d s) (row-here .inner)) (row-here .is))
+    rows-fit = both (rowEntryFits (columnsOf file) (h .levels) (tableIn d s)) _ (fits-as (RowEntry (quantifierBy q) (tableIn d s) (row-here .inner)) (row-here .is))
 
     table-there : ((1 ≤ tableIn d s) × (tableIn d s ≤ length (columnsOf file))) × (length (h .levels) ≤ 3)
     table-there =

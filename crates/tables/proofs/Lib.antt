@@ -6,3 +6,4 @@ pub mod Tests
 pub mod Tabulated
 pub mod Sizes
 pub mod Rows
+pub mod Blanks

@@ -1,4 +1,4 @@
--- A tables file and what it holds, and files at the edges of refusals 1 and 2.
+-- A tables file and what it holds, files at the edges of refusals 1 and 2, and numbers that are compared.
 use mathlib.Core.Bool.{Bool, true, false}
 use mathlib.Core.List.{List, [], _∷_, _++_, map}
 use mathlib.Core.Option.{Option, none, some}

@@ -4,7 +4,7 @@ use mathlib.Core.Bool.{Bool, true}
 use mathlib.Core.List.{List, map, List·Memᴰ, IsChain}
 use mathlib.Core.Logic.{_↔_}
 use Prim.Native.Nat.{ℕ, _<_}
-use Rattle.tables.specs.Tables.{rowCount, sizesFit, tablesOf, rowsWhere}
+use Rattle.tables.specs.Tables.{sizes, rowCount, valueBits, markOf, sizesFit, tablesOf, rowsWhere}
 use Rattle.tables.specs.Cases.{sampleFile, sampleTables, edges, sizeEdges, refusalAt, comparisons, comparedSays}
 
 -- the sample file holds the sample tables
@@ -27,3 +27,9 @@ EdgesClaim = map refusalAt edges ≡ map (λ e. e .refusal) edges
 pub record RowsClaim : Type 0 where
   pub exactly : (file : List ℕ) (p : ℕ → Bool) (row : ℕ) → List·Memᴰ row (rowsWhere file p) ↔ ((row < rowCount file 1) × (p row ≡ true))
   pub rising : (file : List ℕ) (p : ℕ → Bool) → IsChain _<_ (rowsWhere file p)
+
+-- the value bytes of a blank cell may be anything: files with the same sizes and marks, and the same values where no cell is blank, hold the same tables
+abbrev pub BlanksClaim : Type 0
+BlanksClaim =
+    (file other : List ℕ) → sizes file ≡ sizes other → ((k : ℕ) → markOf file k ≡ markOf other k)
+    → ((k : ℕ) → markOf file k ≡ 0 → valueBits file k ≡ valueBits other k) → tablesOf file ≡ tablesOf other

@@ -1,4 +1,5 @@
--- Document 01, 'Gate says why not', the sentences under the table: which of the refusals that apply is given.
+-- Document 01, 'Gate says why not', the sentences under the table: which of the refusals that apply is given, and what a buffer holds after a
+-- success. That a refusal leaves every buffer as it was is the product's first demand.
 -- A call lists its refusals in the order in which they are tried; a refusal that is added later is put into that list at its place.
 use mathlib.Core.Bool.{Bool, true, false, not}
 use mathlib.Core.List.{List, [], _∷_, _++_}

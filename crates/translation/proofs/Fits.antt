@@ -9,7 +9,7 @@ use lib.Ieee.Fits.{and-i}
 use lib.ListN.{length, length-append, List·getD-append}
 use Rattle.tables.specs.Bytes.{between}
 use Rattle.tables.specs.Values.{Value, Constant, Column, Some, All}
-use Rattle.card.specs.Card.{mostRowEntries, Interpretation, AsNo, CompareLeaf, BlankLeaf, NotBlankLeaf, Card, LeafEntry, PairEntry, RowEntry, valueFits, rowsFit, cardFits}
+use Rattle.card.specs.Card.{mostRowEntries, Interpretation, AsNo, CompareLeaf, BlankLeaf, NotBlankLeaf, Card, LeafEntry, PairEntry, RowEntry, valueFits, rowEntryFits, cardFits}
 use Rattle.rule.specs.Condition.{Compare, IsNull, IsNotNull, Atom, Join, Not, Exists, Listed, Rule, fromsDeep}
 use Rattle.rule.specs.Names.{ValueFits, TableFits, Fits}
 use Rattle.translation.specs.Translation.{other, negated, cardOf}
@@ -34,7 +34,7 @@ module _ (columns : List ℕ) where
       let far : l < length (levels ++ (t ∷ [])) = simp length-append (omega (arith, f .0)) in
       (far, rw (List·getD-append levels (t ∷ []) 0 l (f .0)) (f .1))
 
-  rows-fit : (levels : List ℕ) (t : ℕ) → TableFits columns t → length levels ≤ mostRowEntries → T (rowsFit columns levels t)
+  rows-fit : (levels : List ℕ) (t : ℕ) → TableFits columns t → length levels ≤ mostRowEntries → T (rowEntryFits columns levels t)
   rows-fit levels t f h = and-i (between 1 (length columns) t) _ f (le→leb (length levels) mostRowEntries h)
 
   longer : (levels : List ℕ) (t n : ℕ) → length levels + (1 + n) ≤ 4 → length (levels ++ (t ∷ [])) + n ≤ 4
@@ -49,12 +49,12 @@ module _ (columns : List ℕ) where
       and-i (cardFits columns levels (cardOf i a)) _ (card-fits a i levels (omega arith) (f .0)) (card-fits b i levels (omega arith) (f .1))
   card-fits (Not a) i levels h f = rw negated-fits (card-fits a (other i) levels h f)
   card-fits (Exists t w) i levels h f =
-      and-i (rowsFit columns levels t) _ (rows-fit levels t (f .0) (omega arith)) (card-fits w AsNo (levels ++ (t ∷ [])) (longer levels t (fromsDeep w) h) (f .1))
+      and-i (rowEntryFits columns levels t) _ (rows-fit levels t (f .0) (omega arith)) (card-fits w AsNo (levels ++ (t ∷ [])) (longer levels t (fromsDeep w) h) (f .1))
   card-fits (Listed Some op l s t w) i levels h f =
-      and-i (rowsFit columns levels t) _ (rows-fit levels t (f .0) (omega arith))
+      and-i (rowEntryFits columns levels t) _ (rows-fit levels t (f .0) (omega arith))
       (and-i (cardFits columns (levels ++ (t ∷ [])) (cardOf AsNo w)) _ (card-fits w AsNo (levels ++ (t ∷ [])) (longer levels t (fromsDeep w) h) (f .3))
       (and-i (valueFits columns (levels ++ (t ∷ [])) l) _ (value-fits (levels ++ (t ∷ [])) l (inside levels t l (f .1))) (value-fits (levels ++ (t ∷ [])) s (f .2))))
   card-fits (Listed All op l s t w) i levels h f =
-      and-i (rowsFit columns levels t) _ (rows-fit levels t (f .0) (omega arith))
+      and-i (rowEntryFits columns levels t) _ (rows-fit levels t (f .0) (omega arith))
       (and-i (cardFits columns (levels ++ (t ∷ [])) (negated (cardOf AsNo w))) _ (rw negated-fits (card-fits w AsNo (levels ++ (t ∷ [])) (longer levels t (fromsDeep w) h) (f .3)))
       (and-i (valueFits columns (levels ++ (t ∷ [])) l) _ (value-fits (levels ++ (t ∷ [])) l (inside levels t l (f .1))) (value-fits (levels ++ (t ∷ [])) s (f .2))))
