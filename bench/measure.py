@@ -1,4 +1,7 @@
-"""RUN and LIST of the library against the same in plain C (plain.c), on the same bytes: the best of several turns, and their ratio."""
+"""RUN and LIST of the library against the same in plain C (plain.c), on the same bytes: the best of several turns, and their ratio.
+
+A call is timed whole: both look at the tables and check the card each time, and for RUN of one row that is most of the time.
+"""
 import pathlib
 import random
 import subprocess
@@ -36,33 +39,54 @@ def cases():
     )
 
 
-def build(folder):
-    """The timing program."""
-    subprocess.run(["rt", "staticlib", CRATE], cwd=ROOT, check=True, stdout=subprocess.DEVNULL)
-    program = folder / "time"
-    sources = [str(ROOT / "bench" / name) for name in ("time.c", "plain.c")]
-    subprocess.run(["gcc", "-O3", "-march=x86-64", "-std=c11", "-Wall", "-Wextra", "-o", str(program), *sources, str(ROOT / "target" / "staticlib" / f"lib{CRATE}.a")], check=True)
-    return program
+def built(folder, name, *sources):
+    """A program of this folder, linked with the library."""
+    paths = [str(ROOT / "bench" / source) for source in sources]
+    archive = str(ROOT / "target" / "staticlib" / f"lib{CRATE}.a")
+    subprocess.run(["gcc", "-O3", "-march=x86-64", "-std=c11", "-Wall", "-Wextra", "-pthread", "-o", str(folder / name), *paths, archive], check=True)
+    return folder / name
 
 
-def times_of(program, folder, rule, tables, row):
-    """The four times in nanoseconds: RUN by the library and by plain C, and LIST by both."""
-    file = generate.tables_file(tables)
-    card = model.card(rule.encode(), file, 10000)
+def printed(program, folder, card, file, *words):
+    """The numbers that a program prints for a card and a tables file."""
     (folder / "card").write_bytes(card)
     (folder / "tables").write_bytes(file)
-    done = subprocess.run([str(program), str(folder / "card"), str(folder / "tables"), str(row)], check=True, capture_output=True, text=True)
+    done = subprocess.run([str(program), str(folder / "card"), str(folder / "tables"), *words], check=True, capture_output=True, text=True)
     return [float(word) for word in done.stdout.split()]
 
 
+def deepest_card():
+    """The card whose entries stand deepest: three row entries around 94 pairs."""
+    leaf = model.blank_entry(8, model.TaggedValue(model.CONSTANT_TAG, 1))
+    entry = leaf
+    for _ in range(94):
+        entry = model.pair_entry(1, leaf, entry)
+    for _ in range(3):
+        entry = model.row_entry(3, 1, entry)
+    return model.card_bytes(entry, [1])
+
+
+def show_times(folder):
+    program = built(folder, "time", "time.c", "plain.c")
+    print(f"{'rule':28} {'RUN ns':>10} {'C ns':>10} {'ratio':>6}   {'LIST ns':>11} {'C ns':>11} {'ratio':>6}")
+    for title, rule, tables, row in cases():
+        file = generate.tables_file(tables)
+        card = model.card(rule.encode(), file, 10000)
+        run, run_c, listed, listed_c = printed(program, folder, card, file, str(row))
+        print(f"{title:28} {run:10.0f} {run_c:10.0f} {run / run_c:6.2f}   {listed:11.0f} {listed_c:11.0f} {listed / listed_c:6.2f}")
+
+
+def show_stack(folder):
+    program = built(folder, "stack", "stack.c")
+    check, run, listed, nothing = printed(program, folder, deepest_card(), generate.tables_file([(1, [[1], [2]])]))
+    print(f"stack touched on the deepest card, in bytes: CHECK {check:.0f}, RUN {run:.0f}, LIST {listed:.0f}; a thread that calls nothing, {nothing:.0f}")
+
+
 def main():
+    subprocess.run(["rt", "staticlib", CRATE], cwd=ROOT, check=True, stdout=subprocess.DEVNULL)
     with tempfile.TemporaryDirectory() as name:
-        folder = pathlib.Path(name)
-        program = build(folder)
-        print(f"{'rule':28} {'RUN ns':>10} {'C ns':>10} {'ratio':>6}   {'LIST ns':>11} {'C ns':>11} {'ratio':>6}")
-        for title, rule, tables, row in cases():
-            run, run_c, listed, listed_c = times_of(program, folder, rule, tables, row)
-            print(f"{title:28} {run:10.0f} {run_c:10.0f} {run / run_c:6.2f}   {listed:11.0f} {listed_c:11.0f} {listed / listed_c:6.2f}")
+        show_times(pathlib.Path(name))
+        show_stack(pathlib.Path(name))
 
 
 if __name__ == "__main__":

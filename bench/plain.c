@@ -29,8 +29,9 @@ static uint32_t open_tables(Gate *gate, const uint8_t *file, size_t length) {
     }
     if (cells > MOST_CELLS || length != 1 + 3 * count + 5 * (size_t)cells) return 1;
     const uint8_t *values = file + 1 + 3 * count, *marks = values + 4 * cells;
-    for (uint32_t i = 0; i < cells; i++)
-        if (marks[i] > 1) return 2;
+    uint8_t high = 0;
+    for (uint32_t i = 0; i < cells; i++) high |= marks[i] > 1;
+    if (high) return 2;
     for (uint32_t i = 0; i < count; i++) {
         gate->tables[i].values = values;
         gate->tables[i].marks = marks;
@@ -118,7 +119,7 @@ static int present(Value value, const Level *levels, int32_t *number) {
     const Table *table = levels[value.tag].table;
     uint32_t cell = levels[value.tag].row * table->columns + (uint32_t)value.number - 1;
     if (table->marks[cell]) return 0;
-    memcpy(number, table->values + 4 * cell, 4);
+    *number = word32(table->values + 4 * cell);
     return 1;
 }
 

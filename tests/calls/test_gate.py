@@ -120,37 +120,56 @@ def damaged_files():
 
 # ---- sizes, rows and numbers at their ends
 
-def limit_files():
-    """Tables with the most rows, cells and tables, with none, and with one too many; a mark too high in each."""
-    shapes = ([(1, 1000)], [(1, 1001)], [(16, 512)], [(16, 513)], [(8, 1000), (16, 12)], [(8, 1000), (16, 12), (1, 0)], [(8, 1000), (16, 12), (1, 1)],
-              [(1, 1)] * 8, [(1, 1)] * 9, [(1, 1000)] * 8, [(1, 0)] * 8, [(1, 0)], [(16, 0)], [(17, 0)], [(0, 0)])
-    for sizes, mark, more in itertools.product(shapes, (0, 1, 2), (-1, 0, 1)):
-        yield [columns for columns, _ in sizes], cases.zero_tables(sizes, mark, more)
+def numbered_tables(sizes, bad_mark=None, more=0):
+    """A file in which each cell has a number of its own, with a mark that is too high at a place, and more bytes than fit, or fewer."""
+    cells = sum(columns * rows for columns, rows in sizes)
+    marks = bytearray(cells)
+    if bad_mark is not None and cells:
+        marks[bad_mark] = 2
+    whole = bytes([len(sizes)]) + b"".join(bytes([columns]) + rows.to_bytes(2, "little") for columns, rows in sizes)
+    whole += b"".join(cell.to_bytes(4, "little") for cell in range(cells)) + marks
+    return whole[:len(whole) + more] if more < 0 else whole + bytes(more)
+
+
+LIMIT_SIZES = (
+    [(1, 1000)], [(1, 1001)], [(16, 512)], [(16, 513)], [(8, 1000), (16, 12)], [(8, 1000), (16, 12), (1, 0)], [(8, 1000), (16, 12), (1, 1)],
+    [(1, 1)] * 8, [(1, 1)] * 9, [(1, 1000)] * 8, [(1, 0)] * 8, [(1, 0)], [(16, 0)], [(17, 0)], [(0, 0)])
 
 
 def limit_cases():
-    """RUN and LIST over them: a card that asks for no blank, at rows around the last one, and lists around the needed length."""
-    for columns, file in limit_files():
-        sheet = model.card_bytes(model.blank_entry(8, model.TaggedValue(0, 1)), columns)
-        for row in (0, 1, 999, 1000, 2**16, 2**32, 2**63, LAST_ROW):
-            yield cases.Case("RUN", sheet, file, row=row)
-        for room in (0, 1, 998, 999, 1000, 1001):
-            yield cases.Case("LIST", sheet, file, buffer=(UNTOUCHED,) * room)
+    """The most rows, cells and tables, none, and one too many, each with a wrong length and with a mark too high in the first cell or in the last."""
+    for sizes in LIMIT_SIZES:
+        columns = [count for count, _ in sizes]
+        rows = sizes[0][1]
+        last = model.TaggedValue(0, columns[0])
+        middle = model.TaggedValue(model.CONSTANT_TAG, rows * columns[0] // 2)
+        of_last_table = model.row_entry(3, len(sizes), model.comparison_entry(5, 3, last, model.TaggedValue(1, columns[-1])))
+        sheets = [model.card_bytes(entry, columns) for entry in (model.comparison_entry(5, 3, last, middle), of_last_table)]
+        sound = numbered_tables(sizes)
+        for sheet in sheets:
+            for row in (0, 1, rows // 2, rows - 2, rows - 1, rows, rows + 1, 2**16, 2**32, 2**63, LAST_ROW):
+                if row >= 0:
+                    yield cases.Case("RUN", sheet, sound, row=row)
+            for more in (-1, 0, 1):
+                yield cases.fitting("LIST", sheet, sound, more)
+        for file in [numbered_tables(sizes, more=more) for more in (-1, 1)] + [numbered_tables(sizes, place) for place in (0, -1)]:
+            yield cases.Case("RUN", sheets[0], file, row=0)
+            yield cases.Case("LIST", sheets[0], file, buffer=(UNTOUCHED,) * 3)
 
 
 def end_cases():
-    """Each comparison, unknown as no and as yes, of two numbers from the ends of their range or blank, as cells and as a constant."""
+    """Each comparison, unknown as no and as yes, of two numbers from the ends of their range or blank, as cells and as constants."""
     cells = ENDS + (None,)
     file = generate.tables_file([(2, [[left, right] for left in cells for right in cells])])
     first, second = model.TaggedValue(0, 1), model.TaggedValue(0, 2)
     for kind, comparison in itertools.product((5, 6), range(1, 7)):
-        pairs = [(first, second)]
-        for number in ENDS:
-            constant = model.TaggedValue(model.CONSTANT_TAG, number)
-            pairs += [(first, constant), (constant, second)]
+        constants = [model.TaggedValue(model.CONSTANT_TAG, number) for number in ENDS]
+        pairs = [(first, second)] + list(itertools.product(constants, constants))
+        pairs += [(first, constant) for constant in constants] + [(constant, second) for constant in constants]
         for left, right in pairs:
             sheet = model.card_bytes(model.comparison_entry(kind, comparison, left, right), [2])
             yield cases.fitting("LIST", sheet, file, 1)
+            yield cases.Case("RUN", sheet, file, row=len(cells) * (len(cells) - 1))
 
 
 def room_cases():
@@ -163,11 +182,12 @@ def room_cases():
 
 
 def largest_cards():
-    """Cards of 192 entries, and of three row entries around one another, over tables of some rows."""
+    """Cards of 191 to 194 entries, and of one to four row entries around one another, over tables of some rows."""
     file = generate.tables_file([(1, [[0], [None], [1]]), (1, [[2], [None]])])
     for leaves, to_the_left in itertools.product((96, 97), (False, True)):
-        sheet = model.card_bytes(cases.chained_entry(leaves, to_the_left), [1, 1])
-        yield cases.fitting("LIST", sheet, file, 1)
+        chain = cases.chained_entry(leaves, to_the_left)
+        for entry in (chain, model.row_entry(3, 2, chain), model.row_entry(4, 2, chain)):
+            yield cases.fitting("LIST", model.card_bytes(entry, [1, 1]), file, 1)
     for rows in (1, 2, 3, 4):
         for level in range(rows + 1):
             entry = cases.nested_rows(rows, model.comparison_entry(6, 3, model.TaggedValue(level, 1), model.TaggedValue(0, 1)))

@@ -49,7 +49,7 @@ unfoldable pub nested : ℕ → Card → Card
 nested zero c = c
 nested (suc n) c = RowEntry Some 2 (nested n c)
 
--- the bytes of the worked card changed workedCard at a time, then the length, then entries that fit and do not
+-- the bytes of the worked card changed one at a time, then the length, then entries that fit and do not
 unfoldable pub edges : List Edge
 edges =
     good workedCard ∷ bad (set workedCard 0 0) ∷ bad (set workedCard 0 2) ∷ bad (set workedCard 1 1) ∷ bad (set workedCard 2 0) ∷ bad (set workedCard 2 2) ∷ bad (set workedCard 3 1) ∷ good (set workedCard 3 2)

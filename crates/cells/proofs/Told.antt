@@ -30,7 +30,7 @@ reason-back Columns = refl
 reason-back Row = refl
 reason-back Short = refl
 
--- for enums with a case `refused` that carries a reason
+-- for enums with a case that carries a reason to refuse
 pub same-reason : {A : Type 0} {x y : Reason} → _≡_ {A = Answer A} (Refused (reasonNumber x)) (Refused (reasonNumber y)) → x ≡ y
 same-reason {x = x} {y = y} e = let n : reasonNumber x ≡ reasonNumber y = cc in sym (reason-back x) ∙ ap reasonAt n ∙ reason-back y
 

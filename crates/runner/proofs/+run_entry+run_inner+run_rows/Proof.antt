@@ -1,4 +1,4 @@
--- `gate::run_entry`, `run_inner` and `run_rows` meet their contracts. The measure is three for each entry from s up to e, and 2, 1 or 0 more: the
+-- `runner::run_entry`, `run_inner` and `run_rows` meet their contracts. The measure is three for each entry from s up to e, and 2, 1 or 0 more: the
 -- first calls the second on the same entries, and that the third. The loop's invariant: each row that has passed says what is answered where no row
 -- decides.
 use mathlib.Core.Path.{refl, sym, _∙_}

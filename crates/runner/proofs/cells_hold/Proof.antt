@@ -1,4 +1,4 @@
--- `gate::cells_hold` meets its contract: the comparison of the numbers is the answer only where neither cell is blank.
+-- `runner::cells_hold` meets its contract: the comparison of the numbers is the answer only where neither cell is blank.
 use mathlib.Core.Path.{_∙_}
 use borrow.Author.Needs.{needs}
 use Rattle.runner.proofs.Numbers.{one-blank, none-blank}

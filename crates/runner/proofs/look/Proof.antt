@@ -1,4 +1,4 @@
--- `gate::look` meets its contract: a constant is seen as it is, and of a column the cell behind its row's first one.
+-- `runner::look` meets its contract: a constant is seen as it is, and of a column the cell behind its row's first one.
 use mathlib.Core.Path.{_∙_}
 use native.Mathlib.Omega.{arith}
 use borrow.Author.Needs.{needs}

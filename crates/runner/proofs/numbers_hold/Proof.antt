@@ -1,4 +1,4 @@
--- `gate::numbers_hold` meets its contract: the numbers compare as those do from which 2 ^ 31 is taken away.
+-- `runner::numbers_hold` meets its contract: the numbers compare as those do from which 2 ^ 31 is taken away.
 use Rattle.tables.specs.Values.{Eq, Ne, Lt, Le, Gt, Ge}
 use Rattle.runner.proofs.Numbers.{as-naturals, otherwise-eq}
 use Rattle.runner.proofs.numbers_hold.Statement.{statement}

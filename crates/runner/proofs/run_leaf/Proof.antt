@@ -1,4 +1,4 @@
--- `gate::run_leaf` meets its contract: it looks at one value or two, and answers by the kind.
+-- `runner::run_leaf` meets its contract: it looks at one value or two, and answers by the kind.
 use borrow.Author.Needs.{needs}
 use Rattle.runner.proofs.Running.{left-ready, right-ready, compare-answer, blank-answer, not-blank-answer}
 use Rattle.runner.proofs.run_leaf.Statement.{statement}

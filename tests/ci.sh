@@ -1,5 +1,5 @@
 #!/usr/bin/env bash
-# The gate refuses what it is to refuse: each defect below is put into a copy of a small repository, with this repository's own
+# .ci/run refuses what it is to refuse: each defect below is put into a copy of a small repository, with this repository's own
 # .ci/run over it, and the run must fail; without a defect it must pass.
 set -u
 here=$(cd "$(dirname "$0")/.." && pwd)
@@ -22,7 +22,7 @@ expect() { # expect WHAT STATUS LASTLINE
   status=$?
   [ "$status" -ne 0 ] && status=1
   if [ "$status" -ne "$2" ] || ! [[ "$last" =~ $3 ]]; then
-    echo "gate: $1: exit $status, last line '$last'"
+    echo "ci: $1: exit $status, last line '$last'"
     bad=1
   fi
 }
