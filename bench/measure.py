@@ -1,6 +1,7 @@
-"""RUN and LIST of the library against the same in plain C (plain.c), on the same bytes: the best of several turns, and their ratio.
+"""RUN and LIST of the library against the same in plain C (plain.c), on the same bytes: the best of several turns\nand of several ways to link, and their ratio.
 
-A call is timed whole: both look at the tables and check the card each time, and for RUN of one row that is most of the time.
+A call is timed whole: both look at the tables and check the card each time, and for RUN of one row that is most of the time. So RUN is also compared with
+plain C that scans the marks as the library does, to the end and many at a time.
 """
 import pathlib
 import random
@@ -16,6 +17,7 @@ import model  # noqa: E402
 
 CRATE = "roskudla_gate"
 SEED = 7
+PADDINGS = (0, 16, 32, 48)
 
 
 def filled(draw, columns, rows, highest, blanks):
@@ -39,9 +41,9 @@ def cases():
     )
 
 
-def built(folder, name, *sources):
-    """A program of this folder, linked with the library."""
-    paths = [str(ROOT / "bench" / source) for source in sources]
+def built(folder, name, *words):
+    """A program of this folder, linked with the library, from its sources and other words for gcc."""
+    paths = [str(ROOT / "bench" / word) if word.endswith(".c") else word for word in words]
     archive = str(ROOT / "target" / "staticlib" / f"lib{CRATE}.a")
     subprocess.run(["gcc", "-O3", "-march=x86-64", "-std=c11", "-Wall", "-Wextra", "-pthread", "-o", str(folder / name), *paths, archive], check=True)
     return folder / name
@@ -66,14 +68,26 @@ def deepest_card():
     return model.card_bytes(entry, [1])
 
 
+def timers(folder, name, *words):
+    """The timing program, linked so that its code lies in several ways."""
+    return [built(folder, f"{name}_{padding}", "time.c", "plain.c", f"-DPADDING={padding}", *words) for padding in PADDINGS]
+
+
+def best_times(programs, folder, card, file, row):
+    """The best of each of the four times over these programs: RUN by the library and by plain C, and LIST by both."""
+    return [min(times) for times in zip(*(printed(program, folder, card, file, str(row)) for program in programs))]
+
+
 def show_times(folder):
-    program = built(folder, "time", "time.c", "plain.c")
-    print(f"{'rule':28} {'RUN ns':>10} {'C ns':>10} {'ratio':>6}   {'LIST ns':>11} {'C ns':>11} {'ratio':>6}")
+    plain, whole_scan = timers(folder, "time"), timers(folder, "scan", "-DWHOLE_SCAN")
+    print(f"{'rule':28} {'RUN ns':>9} {'C ns':>9} {'ratio':>6} {'C, scan':>9} {'ratio':>6}   {'LIST ns':>10} {'C ns':>10} {'ratio':>6}")
     for title, rule, tables, row in cases():
         file = generate.tables_file(tables)
         card = model.card(rule.encode(), file, 10000)
-        run, run_c, listed, listed_c = printed(program, folder, card, file, str(row))
-        print(f"{title:28} {run:10.0f} {run_c:10.0f} {run / run_c:6.2f}   {listed:11.0f} {listed_c:11.0f} {listed / listed_c:6.2f}")
+        run, run_c, listed, listed_c = best_times(plain, folder, card, file, row)
+        again, run_scan, _, _ = best_times(whole_scan, folder, card, file, row)
+        print(f"{title:28} {run:9.0f} {run_c:9.0f} {run / run_c:6.2f} {run_scan:9.0f} {again / run_scan:6.2f}   "
+              f"{listed:10.0f} {listed_c:10.0f} {listed / listed_c:6.2f}")
 
 
 def show_stack(folder):

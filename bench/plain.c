@@ -29,9 +29,14 @@ static uint32_t open_tables(Gate *gate, const uint8_t *file, size_t length) {
     }
     if (cells > MOST_CELLS || length != 1 + 3 * count + 5 * (size_t)cells) return 1;
     const uint8_t *values = file + 1 + 3 * count, *marks = values + 4 * cells;
+#ifdef WHOLE_SCAN
     uint8_t high = 0;
     for (uint32_t i = 0; i < cells; i++) high |= marks[i] > 1;
     if (high) return 2;
+#else
+    for (uint32_t i = 0; i < cells; i++)
+        if (marks[i] > 1) return 2;
+#endif
     for (uint32_t i = 0; i < count; i++) {
         gate->tables[i].values = values;
         gate->tables[i].marks = marks;

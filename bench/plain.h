@@ -1,4 +1,5 @@
-/* RUN and LIST in plain C, written from the paper alone: what the benchmark compares with. */
+/* RUN and LIST in plain C, written from the paper alone: what the benchmark compares with. Compiled with WHOLE_SCAN it looks at all marks before it
+   decides, which gcc does many at a time. */
 #ifndef PLAIN_H
 #define PLAIN_H
 #include <stddef.h>

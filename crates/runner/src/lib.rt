@@ -64,6 +64,39 @@ fn run_leaf(d: &[usize; 1536], g: &[usize; 27], file: &[u8], s: usize, w: &[usiz
     !x.blank
 }
 
+// What the entry s answers, which asks for some row of its table, or for every row, where its inner entry has no inner entries of its own: no call
+// is made for each row. q is the answer where no row decides.
+fn run_leaf_rows(
+    d: &[usize; 1536],
+    g: &[usize; 27],
+    file: &[u8],
+    s: usize,
+    e: usize,
+    w: &[usize; 4],
+    depth: usize,
+    q: bool,
+) -> bool
+    requires { ⌜ Runnable (now d) (now g) (now file) (now w) s e depth ⌝ ∗ ⌜ kindIn (now d) s ≡ rowKind q ⌝ ∗ ⌜ 4 < kindIn (now d) (s + 1) ⌝ }
+    ensures { λ r. ⌜ Answers (now (d .entry)) (now (g .entry)) (now (file .entry)) (now (w .entry)) s e depth r ⌝ }
+{
+    let t = d[8 * s + 2];
+    let mut first = g[3 * t];
+    let columns = g[3 * t + 1];
+    let rows = g[3 * t + 2];
+    let mut v = *w;
+    let mut r: usize = 0;
+    while r < rows {
+        v[depth] = first;
+        let a = run_leaf(d, g, file, s + 1, &v);
+        if a != q {
+            return a;
+        }
+        first += columns;
+        r += 1;
+    }
+    q
+}
+
 // What the entry s, with the inner ones up to e, answers.
 pub fn run_entry(
     d: &[usize; 1536],
@@ -119,7 +152,7 @@ fn run_inner(
     }
 }
 
-// The same where s asks for some row of its table, or for every row: q is the answer where no row decides.
+// The same where s asks for some row of its table, or for every row.
 fn run_rows(
     d: &[usize; 1536],
     g: &[usize; 27],
@@ -133,6 +166,9 @@ fn run_rows(
     requires { ⌜ Runnable (now d) (now g) (now file) (now w) s e depth ⌝ ∗ ⌜ kindIn (now d) s ≡ rowKind q ⌝ }
     ensures { λ r. ⌜ Answers (now (d .entry)) (now (g .entry)) (now (file .entry)) (now (w .entry)) s e depth r ⌝ }
 {
+    if 4 < d[8 * (s + 1)] {
+        return run_leaf_rows(d, g, file, s, e, w, depth, q);
+    }
     let t = d[8 * s + 2];
     let mut first = g[3 * t];
     let columns = g[3 * t + 1];

@@ -1,15 +1,13 @@
--- `runner::run_entry`, `run_inner` and `run_rows` meet their contracts. The measure is three for each entry from s up to e, and 2, 1 or 0 more: the
--- first calls the second on the same entries, and that the third. The loop's invariant: each row that has passed says what is answered where no row
--- decides.
 use mathlib.Core.Path.{refl, sym, _∙_}
 use mathlib.Core.Bool.{true, false}
 use Prim.Native.Nat.{ℕ, _+_, _-_, _*_, _<_}
 use native.Mathlib.Omega.{arith}
 use borrow.Author.Tests.{not-true, not-false}
-use borrow.Fn.Kinds.{In}
-use borrow.Fn.PlainCycle.{Measures, is, falls, and}
 use Rattle.tables.specs.Values.{And, Or}
 use Rattle.runner.proofs.Running.{RowsPassed, start, some-kind, leaf-ready, leaf-answer, middle, left-run, right-run, left-decides, right-decides, row-bounds, row-room, inner-run, inner-says, row-stops, rows-end, passed-none, passed-more, differ, agree}
+use Prim.Native.Nat.{ℕ, _<_}
+use borrow.Fn.Kinds.{In}
+use borrow.Fn.PlainCycle.{Measures, is, falls, and}
 use Rattle.runner.proofs.run_entry.Reads as run-entry
 use Rattle.runner.proofs.run_entry.Kinds as run-entry-kinds
 use Rattle.runner.proofs.+run_entry+run_inner+run_rows.Lts-run_entry as run-entry-lts
@@ -20,6 +18,7 @@ use Rattle.runner.proofs.run_rows.Reads as run-rows
 use Rattle.runner.proofs.run_rows.Kinds as run-rows-kinds
 use Rattle.runner.proofs.+run_entry+run_inner+run_rows.Lts-run_rows as run-rows-lts
 use Rattle.runner.proofs.run_leaf.Reads as run-leaf-reads
+use Rattle.runner.proofs.run_leaf_rows.Reads as run-leaf-rows-reads
 use Rattle.runner.proofs.+run_entry+run_inner+run_rows.{statement}
 use Rattle.runner.proofs.+run_entry+run_inner+run_rows.Tie.{close}
 
@@ -348,273 +347,303 @@ run-rows-Inv-loop d g file s e w depth q t first₀ columns rows v₀ r₀ first
 abbrev run-rows-μ-loop : run-rows-lts.MeasureT-loop
 run-rows-μ-loop d g file s e w depth q t first₀ columns rows v₀ r₀ first v r = rows - r
 
-run-rows-mul-t :
-    (t : ℕ) →
-    run-rows-lts.Need-mul-t
-    (run-entry-below t, run-entry.Post)
-    (run-rows-at t)
-    run-rows.Post
-    run-rows-Inv-loop
-    run-rows-μ-loop
-run-rows-mul-t t c = let o = c .before in let z = row-bounds (o .pre .1 .0) (o .args .q) (o .pre .1 .1) in omega arith
+run-rows-add-if1 : (t : ℕ) → run-rows-lts.Need-add-if1 (
+  run-leaf-rows-reads.Asked,
+  run-leaf-rows-reads.Learnt,
+  run-entry-below t,
+  run-entry.Post,
+) (run-rows-at t) run-rows.Post run-rows-Inv-loop run-rows-μ-loop
+run-rows-add-if1 t c = let o = c .before in let z = row-bounds (o .pre .1 .0) (o .args .q) (o .pre .1 .1) in omega arith
 
-run-rows-add-t :
-    (t : ℕ) →
-    run-rows-lts.Need-add-t
-    (run-entry-below t, run-entry.Post)
-    (run-rows-at t)
-    run-rows.Post
-    run-rows-Inv-loop
-    run-rows-μ-loop
-run-rows-add-t t c = let o = c .before in let z = row-bounds (o .pre .1 .0) (o .args .q) (o .pre .1 .1) in omega arith
+run-rows-mul-if1 : (t : ℕ) → run-rows-lts.Need-mul-if1 (
+  run-leaf-rows-reads.Asked,
+  run-leaf-rows-reads.Learnt,
+  run-entry-below t,
+  run-entry.Post,
+) (run-rows-at t) run-rows.Post run-rows-Inv-loop run-rows-μ-loop
+run-rows-mul-if1 t c = let o = c .before in let z = row-bounds (o .pre .1 .0) (o .args .q) (o .pre .1 .1) in omega arith
 
-run-rows-mul-t-2 :
-    (t : ℕ) →
-    run-rows-lts.Need-mul-t-2
-    (run-entry-below t, run-entry.Post)
-    (run-rows-at t)
-    run-rows.Post
-    run-rows-Inv-loop
-    run-rows-μ-loop
-run-rows-mul-t-2 t c = let o = c .before in let z = row-bounds (o .pre .1 .0) (o .args .q) (o .pre .1 .1) in omega arith
+run-rows-mul-if1-2 : (t : ℕ) → run-rows-lts.Need-mul-if1-2 (
+  run-leaf-rows-reads.Asked,
+  run-leaf-rows-reads.Learnt,
+  run-entry-below t,
+  run-entry.Post,
+) (run-rows-at t) run-rows.Post run-rows-Inv-loop run-rows-μ-loop
+run-rows-mul-if1-2 t c = let o = c .before in let z = row-bounds (o .pre .1 .0) (o .args .q) (o .pre .1 .1) in omega arith
+
+run-rows-element-copy-out-if1 : (t : ℕ) → run-rows-lts.Need-element-copy-out-if1 (
+  run-leaf-rows-reads.Asked,
+  run-leaf-rows-reads.Learnt,
+  run-entry-below t,
+  run-entry.Post,
+) (run-rows-at t) run-rows.Post run-rows-Inv-loop run-rows-μ-loop
+run-rows-element-copy-out-if1 t c = let o = c .before in let z = row-bounds (o .pre .1 .0) (o .args .q) (o .pre .1 .1) in omega arith
+
+run-rows-run-leaf-rows-requires : (t : ℕ) → run-rows-lts.Need-run-leaf-rows-requires (
+  run-leaf-rows-reads.Asked,
+  run-leaf-rows-reads.Learnt,
+  run-entry-below t,
+  run-entry.Post,
+) (run-rows-at t) run-rows.Post run-rows-Inv-loop run-rows-μ-loop
+run-rows-run-leaf-rows-requires t c κs = let o = c .before .before .before in (o .pre .1 .0, (o .pre .1 .1, c .if1 .taken))
+
+run-rows-returns : (t : ℕ) → run-rows-lts.Need-returns (
+  run-leaf-rows-reads.Asked,
+  run-leaf-rows-reads.Learnt,
+  run-entry-below t,
+  run-entry.Post,
+) (run-rows-at t) run-rows.Post run-rows-Inv-loop run-rows-μ-loop
+run-rows-returns t c = c .run-leaf-rows .ensures
+
+run-rows-mul-t : (t : ℕ) → run-rows-lts.Need-mul-t (
+  run-leaf-rows-reads.Asked,
+  run-leaf-rows-reads.Learnt,
+  run-entry-below t,
+  run-entry.Post,
+) (run-rows-at t) run-rows.Post run-rows-Inv-loop run-rows-μ-loop
+run-rows-mul-t t c = let o = c .before .before .before in let z = row-bounds (o .pre .1 .0) (o .args .q) (o .pre .1 .1) in omega arith
+
+run-rows-add-t : (t : ℕ) → run-rows-lts.Need-add-t (
+  run-leaf-rows-reads.Asked,
+  run-leaf-rows-reads.Learnt,
+  run-entry-below t,
+  run-entry.Post,
+) (run-rows-at t) run-rows.Post run-rows-Inv-loop run-rows-μ-loop
+run-rows-add-t t c = let o = c .before .before .before in let z = row-bounds (o .pre .1 .0) (o .args .q) (o .pre .1 .1) in omega arith
+
+run-rows-mul-t-2 : (t : ℕ) → run-rows-lts.Need-mul-t-2 (
+  run-leaf-rows-reads.Asked,
+  run-leaf-rows-reads.Learnt,
+  run-entry-below t,
+  run-entry.Post,
+) (run-rows-at t) run-rows.Post run-rows-Inv-loop run-rows-μ-loop
+run-rows-mul-t-2 t c = let o = c .before .before .before in let z = row-bounds (o .pre .1 .0) (o .args .q) (o .pre .1 .1) in omega arith
 
 run-rows-element-copy-out-t : (t : ℕ) → run-rows-lts.Need-element-copy-out-t (
+  run-leaf-rows-reads.Asked,
+  run-leaf-rows-reads.Learnt,
   run-entry-below t,
   run-entry.Post,
 ) (run-rows-at t) run-rows.Post run-rows-Inv-loop run-rows-μ-loop
-run-rows-element-copy-out-t t c = let o = c .before in let z = row-bounds (o .pre .1 .0) (o .args .q) (o .pre .1 .1) in omega arith
+run-rows-element-copy-out-t t c = let o = c .before .before .before in let z = row-bounds (o .pre .1 .0) (o .args .q) (o .pre .1 .1) in omega arith
 
-run-rows-mul-first :
-    (t : ℕ) →
-    run-rows-lts.Need-mul-first
-    (run-entry-below t, run-entry.Post)
-    (run-rows-at t)
-    run-rows.Post
-    run-rows-Inv-loop
-    run-rows-μ-loop
-run-rows-mul-first t c = let o = c .before .before in let z = row-bounds (o .pre .1 .0) (o .args .q) (o .pre .1 .1) in omega arith
+run-rows-mul-first : (t : ℕ) → run-rows-lts.Need-mul-first (
+  run-leaf-rows-reads.Asked,
+  run-leaf-rows-reads.Learnt,
+  run-entry-below t,
+  run-entry.Post,
+) (run-rows-at t) run-rows.Post run-rows-Inv-loop run-rows-μ-loop
+run-rows-mul-first t c = let o = c .before .before .before .before in let z = row-bounds (o .pre .1 .0) (o .args .q) (o .pre .1 .1) in omega arith
 
-run-rows-mul-first-2 :
-    (t : ℕ) →
-    run-rows-lts.Need-mul-first-2
-    (run-entry-below t, run-entry.Post)
-    (run-rows-at t)
-    run-rows.Post
-    run-rows-Inv-loop
-    run-rows-μ-loop
-run-rows-mul-first-2 t c = let o = c .before .before in let z = row-bounds (o .pre .1 .0) (o .args .q) (o .pre .1 .1) in omega arith
+run-rows-mul-first-2 : (t : ℕ) → run-rows-lts.Need-mul-first-2 (
+  run-leaf-rows-reads.Asked,
+  run-leaf-rows-reads.Learnt,
+  run-entry-below t,
+  run-entry.Post,
+) (run-rows-at t) run-rows.Post run-rows-Inv-loop run-rows-μ-loop
+run-rows-mul-first-2 t c = let o = c .before .before .before .before in let z = row-bounds (o .pre .1 .0) (o .args .q) (o .pre .1 .1) in omega arith
 
 run-rows-element-copy-out-first : (t : ℕ) → run-rows-lts.Need-element-copy-out-first (
+  run-leaf-rows-reads.Asked,
+  run-leaf-rows-reads.Learnt,
   run-entry-below t,
   run-entry.Post,
 ) (run-rows-at t) run-rows.Post run-rows-Inv-loop run-rows-μ-loop
-run-rows-element-copy-out-first t c = let o = c .before .before in let z = row-bounds (o .pre .1 .0) (o .args .q) (o .pre .1 .1) in omega arith
+run-rows-element-copy-out-first t c = let o = c .before .before .before .before in let z = row-bounds (o .pre .1 .0) (o .args .q) (o .pre .1 .1) in omega arith
 
-run-rows-mul-columns :
-    (t : ℕ) →
-    run-rows-lts.Need-mul-columns
-    (run-entry-below t, run-entry.Post)
-    (run-rows-at t)
-    run-rows.Post
-    run-rows-Inv-loop
-    run-rows-μ-loop
-run-rows-mul-columns t c = let o = c .before .before .before in let z = row-bounds (o .pre .1 .0) (o .args .q) (o .pre .1 .1) in omega arith
+run-rows-mul-columns : (t : ℕ) → run-rows-lts.Need-mul-columns (
+  run-leaf-rows-reads.Asked,
+  run-leaf-rows-reads.Learnt,
+  run-entry-below t,
+  run-entry.Post,
+) (run-rows-at t) run-rows.Post run-rows-Inv-loop run-rows-μ-loop
+run-rows-mul-columns t c = let o = c .before .before .before .before .before in let z = row-bounds (o .pre .1 .0) (o .args .q) (o .pre .1 .1) in omega arith
 
-run-rows-add-columns :
-    (t : ℕ) →
-    run-rows-lts.Need-add-columns
-    (run-entry-below t, run-entry.Post)
-    (run-rows-at t)
-    run-rows.Post
-    run-rows-Inv-loop
-    run-rows-μ-loop
-run-rows-add-columns t c = let o = c .before .before .before in let z = row-bounds (o .pre .1 .0) (o .args .q) (o .pre .1 .1) in omega arith
+run-rows-add-columns : (t : ℕ) → run-rows-lts.Need-add-columns (
+  run-leaf-rows-reads.Asked,
+  run-leaf-rows-reads.Learnt,
+  run-entry-below t,
+  run-entry.Post,
+) (run-rows-at t) run-rows.Post run-rows-Inv-loop run-rows-μ-loop
+run-rows-add-columns t c = let o = c .before .before .before .before .before in let z = row-bounds (o .pre .1 .0) (o .args .q) (o .pre .1 .1) in omega arith
 
 run-rows-mul-columns-2 : (t : ℕ) → run-rows-lts.Need-mul-columns-2 (
+  run-leaf-rows-reads.Asked,
+  run-leaf-rows-reads.Learnt,
   run-entry-below t,
   run-entry.Post,
 ) (run-rows-at t) run-rows.Post run-rows-Inv-loop run-rows-μ-loop
-run-rows-mul-columns-2 t c = let o = c .before .before .before in let z = row-bounds (o .pre .1 .0) (o .args .q) (o .pre .1 .1) in omega arith
+run-rows-mul-columns-2 t c = let o = c .before .before .before .before .before in let z = row-bounds (o .pre .1 .0) (o .args .q) (o .pre .1 .1) in omega arith
 
 run-rows-element-copy-out-columns : (t : ℕ) → run-rows-lts.Need-element-copy-out-columns (
+  run-leaf-rows-reads.Asked,
+  run-leaf-rows-reads.Learnt,
   run-entry-below t,
   run-entry.Post,
 ) (run-rows-at t) run-rows.Post run-rows-Inv-loop run-rows-μ-loop
-run-rows-element-copy-out-columns t c = let o = c .before .before .before in let z = row-bounds (o .pre .1 .0) (o .args .q) (o .pre .1 .1) in omega arith
+run-rows-element-copy-out-columns t c = let o = c .before .before .before .before .before in let z = row-bounds (o .pre .1 .0) (o .args .q) (o .pre .1 .1) in omega arith
 
-run-rows-mul-rows :
-    (t : ℕ) →
-    run-rows-lts.Need-mul-rows
-    (run-entry-below t, run-entry.Post)
-    (run-rows-at t)
-    run-rows.Post
-    run-rows-Inv-loop
-    run-rows-μ-loop
-run-rows-mul-rows t c = let o = c .before .before .before .before in let z = row-bounds (o .pre .1 .0) (o .args .q) (o .pre .1 .1) in omega arith
+run-rows-mul-rows : (t : ℕ) → run-rows-lts.Need-mul-rows (
+  run-leaf-rows-reads.Asked,
+  run-leaf-rows-reads.Learnt,
+  run-entry-below t,
+  run-entry.Post,
+) (run-rows-at t) run-rows.Post run-rows-Inv-loop run-rows-μ-loop
+run-rows-mul-rows t c = let o = c .before .before .before .before .before .before in let z = row-bounds (o .pre .1 .0) (o .args .q) (o .pre .1 .1) in omega arith
 
-run-rows-add-rows :
-    (t : ℕ) →
-    run-rows-lts.Need-add-rows
-    (run-entry-below t, run-entry.Post)
-    (run-rows-at t)
-    run-rows.Post
-    run-rows-Inv-loop
-    run-rows-μ-loop
-run-rows-add-rows t c = let o = c .before .before .before .before in let z = row-bounds (o .pre .1 .0) (o .args .q) (o .pre .1 .1) in omega arith
+run-rows-add-rows : (t : ℕ) → run-rows-lts.Need-add-rows (
+  run-leaf-rows-reads.Asked,
+  run-leaf-rows-reads.Learnt,
+  run-entry-below t,
+  run-entry.Post,
+) (run-rows-at t) run-rows.Post run-rows-Inv-loop run-rows-μ-loop
+run-rows-add-rows t c = let o = c .before .before .before .before .before .before in let z = row-bounds (o .pre .1 .0) (o .args .q) (o .pre .1 .1) in omega arith
 
-run-rows-mul-rows-2 :
-    (t : ℕ) →
-    run-rows-lts.Need-mul-rows-2
-    (run-entry-below t, run-entry.Post)
-    (run-rows-at t)
-    run-rows.Post
-    run-rows-Inv-loop
-    run-rows-μ-loop
-run-rows-mul-rows-2 t c = let o = c .before .before .before .before in let z = row-bounds (o .pre .1 .0) (o .args .q) (o .pre .1 .1) in omega arith
+run-rows-mul-rows-2 : (t : ℕ) → run-rows-lts.Need-mul-rows-2 (
+  run-leaf-rows-reads.Asked,
+  run-leaf-rows-reads.Learnt,
+  run-entry-below t,
+  run-entry.Post,
+) (run-rows-at t) run-rows.Post run-rows-Inv-loop run-rows-μ-loop
+run-rows-mul-rows-2 t c = let o = c .before .before .before .before .before .before in let z = row-bounds (o .pre .1 .0) (o .args .q) (o .pre .1 .1) in omega arith
 
 run-rows-element-copy-out-rows : (t : ℕ) → run-rows-lts.Need-element-copy-out-rows (
+  run-leaf-rows-reads.Asked,
+  run-leaf-rows-reads.Learnt,
   run-entry-below t,
   run-entry.Post,
 ) (run-rows-at t) run-rows.Post run-rows-Inv-loop run-rows-μ-loop
-run-rows-element-copy-out-rows t c = let o = c .before .before .before .before in let z = row-bounds (o .pre .1 .0) (o .args .q) (o .pre .1 .1) in omega arith
+run-rows-element-copy-out-rows t c = let o = c .before .before .before .before .before .before in let z = row-bounds (o .pre .1 .0) (o .args .q) (o .pre .1 .1) in omega arith
 
-run-rows-loop-holds :
-    (t : ℕ) →
-    run-rows-lts.Need-loop-holds
-    (run-entry-below t, run-entry.Post)
-    (run-rows-at t)
-    run-rows.Post
-    run-rows-Inv-loop
-    run-rows-μ-loop
-run-rows-loop-holds t c = passed-none _ _ _ _ _ _ _ _ _ _ (c .before .before .before .before .before .before .pre .1 .0 .scene .standing .size)
+run-rows-loop-holds : (t : ℕ) → run-rows-lts.Need-loop-holds (
+  run-leaf-rows-reads.Asked,
+  run-leaf-rows-reads.Learnt,
+  run-entry-below t,
+  run-entry.Post,
+) (run-rows-at t) run-rows.Post run-rows-Inv-loop run-rows-μ-loop
+run-rows-loop-holds t c = passed-none _ _ _ _ _ _ _ _ _ _ (c .before .before .before .before .before .before .before .before .pre .1 .0 .scene .standing .size)
 
-run-rows-mul-v :
-    (t : ℕ) →
-    run-rows-lts.Need-mul-v
-    (run-entry-below t, run-entry.Post)
-    (run-rows-at t)
-    run-rows.Post
-    run-rows-Inv-loop
-    run-rows-μ-loop
+run-rows-mul-v : (t : ℕ) → run-rows-lts.Need-mul-v (
+  run-leaf-rows-reads.Asked,
+  run-leaf-rows-reads.Learnt,
+  run-entry-below t,
+  run-entry.Post,
+) (run-rows-at t) run-rows.Post run-rows-Inv-loop run-rows-μ-loop
 run-rows-mul-v t c =
-    let o = c .before .before .before .before .before .before .before .before in
+    let o = c .before .before .before .before .before .before .before .before .before .before in
     let z = row-bounds (o .pre .1 .0) (o .args .q) (o .pre .1 .1) in
     omega arith
 
 run-rows-array-write-v : (t : ℕ) → run-rows-lts.Need-array-write-v (
+  run-leaf-rows-reads.Asked,
+  run-leaf-rows-reads.Learnt,
   run-entry-below t,
   run-entry.Post,
 ) (run-rows-at t) run-rows.Post run-rows-Inv-loop run-rows-μ-loop
 run-rows-array-write-v t c =
-    let o = c .before .before .before .before .before .before .before .before in
+    let o = c .before .before .before .before .before .before .before .before .before .before in
     let z = row-bounds (o .pre .1 .0) (o .args .q) (o .pre .1 .1) in
     omega arith
 
 run-rows-add-run-entry : (t : ℕ) → run-rows-lts.Need-add-run-entry (
+  run-leaf-rows-reads.Asked,
+  run-leaf-rows-reads.Learnt,
   run-entry-below t,
   run-entry.Post,
 ) (run-rows-at t) run-rows.Post run-rows-Inv-loop run-rows-μ-loop
 run-rows-add-run-entry t c =
-    let o = c .before .before .before .before .before .before .before .before in
+    let o = c .before .before .before .before .before .before .before .before .before .before in
     let z = row-bounds (o .pre .1 .0) (o .args .q) (o .pre .1 .1) in
     omega arith
 
 run-rows-add-run-entry-2 : (t : ℕ) → run-rows-lts.Need-add-run-entry-2 (
+  run-leaf-rows-reads.Asked,
+  run-leaf-rows-reads.Learnt,
   run-entry-below t,
   run-entry.Post,
 ) (run-rows-at t) run-rows.Post run-rows-Inv-loop run-rows-μ-loop
 run-rows-add-run-entry-2 t c =
-    let o = c .before .before .before .before .before .before .before .before .before in
+    let o = c .before .before .before .before .before .before .before .before .before .before .before in
     let z = row-bounds (o .pre .1 .0) (o .args .q) (o .pre .1 .1) in
     omega arith
 
 run-rows-run-entry-requires : (t : ℕ) → run-rows-lts.Need-run-entry-requires (
+  run-leaf-rows-reads.Asked,
+  run-leaf-rows-reads.Learnt,
   run-entry-below t,
   run-entry.Post,
 ) (run-rows-at t) run-rows.Post run-rows-Inv-loop run-rows-μ-loop
 run-rows-run-entry-requires t c κs =
-    let o = c .before .before .before .before .before .before .before .before .before in
+    let o = c .before .before .before .before .before .before .before .before .before .before .before in
     let m = o .pre .0 in
     let z = row-bounds (o .pre .1 .0) (o .args .q) (o .pre .1 .1) in
     (omega arith, inner-run (o .pre .1 .0) (o .args .q) (o .pre .1 .1) (c .before .loop-test .taken) (c .before .before .loop .inv))
 
-run-rows-returns :
-    (t : ℕ) →
-    run-rows-lts.Need-returns
-    (run-entry-below t, run-entry.Post)
-    (run-rows-at t)
-    run-rows.Post
-    run-rows-Inv-loop
-    run-rows-μ-loop
-run-rows-returns t c = λ h.
-    let o = c .before .before .before .before .before .before .before .before .before .before .before in
+run-rows-returns-2 : (t : ℕ) → run-rows-lts.Need-returns-2 (
+  run-leaf-rows-reads.Asked,
+  run-leaf-rows-reads.Learnt,
+  run-entry-below t,
+  run-entry.Post,
+) (run-rows-at t) run-rows.Post run-rows-Inv-loop run-rows-μ-loop
+run-rows-returns-2 t c = λ h.
+    let o = c .before .before .before .before .before .before .before .before .before .before .before .before .before in
     let below = c .before .before .before .loop-test .taken in
     let passed = c .before .before .before .before .loop .inv in
     row-stops h (o .args .q) (o .pre .1 .1) passed below _ (c .before .run-entry .ensures (inner-run h (o .args .q) (o .pre .1 .1) below passed))
-    (differ _ _ (c .if1 .taken))
+    (differ _ _ (c .if2 .taken))
 
-run-rows-add-first :
-    (t : ℕ) →
-    run-rows-lts.Need-add-first
-    (run-entry-below t, run-entry.Post)
-    (run-rows-at t)
-    run-rows.Post
-    run-rows-Inv-loop
-    run-rows-μ-loop
+run-rows-add-first : (t : ℕ) → run-rows-lts.Need-add-first (
+  run-leaf-rows-reads.Asked,
+  run-leaf-rows-reads.Learnt,
+  run-entry-below t,
+  run-entry.Post,
+) (run-rows-at t) run-rows.Post run-rows-Inv-loop run-rows-μ-loop
 run-rows-add-first t c =
-    let o = c .before .before .before .before .before .before .before .before .before .before .before in
+    let o = c .before .before .before .before .before .before .before .before .before .before .before .before .before in
     let z = row-room (o .pre .1 .0) (o .args .q) (o .pre .1 .1) (c .before .before .before .loop-test .taken) (c .before .before .before .before .loop .inv) in
     omega arith
 
-run-rows-add-r :
-    (t : ℕ) →
-    run-rows-lts.Need-add-r
-    (run-entry-below t, run-entry.Post)
-    (run-rows-at t)
-    run-rows.Post
-    run-rows-Inv-loop
-    run-rows-μ-loop
+run-rows-add-r : (t : ℕ) → run-rows-lts.Need-add-r (
+  run-leaf-rows-reads.Asked,
+  run-leaf-rows-reads.Learnt,
+  run-entry-below t,
+  run-entry.Post,
+) (run-rows-at t) run-rows.Post run-rows-Inv-loop run-rows-μ-loop
 run-rows-add-r t c =
-    let o = c .before .before .before .before .before .before .before .before .before .before .before in
+    let o = c .before .before .before .before .before .before .before .before .before .before .before .before .before in
     let z = row-bounds (o .pre .1 .0) (o .args .q) (o .pre .1 .1) in
     omega arith
 
-run-rows-loop-less :
-    (t : ℕ) →
-    run-rows-lts.Need-loop-less
-    (run-entry-below t, run-entry.Post)
-    (run-rows-at t)
-    run-rows.Post
-    run-rows-Inv-loop
-    run-rows-μ-loop
+run-rows-loop-less : (t : ℕ) → run-rows-lts.Need-loop-less (
+  run-leaf-rows-reads.Asked,
+  run-leaf-rows-reads.Learnt,
+  run-entry-below t,
+  run-entry.Post,
+) (run-rows-at t) run-rows.Post run-rows-Inv-loop run-rows-μ-loop
 run-rows-loop-less t c = omega arith
 
-run-rows-loop-again :
-    (t : ℕ) →
-    run-rows-lts.Need-loop-again
-    (run-entry-below t, run-entry.Post)
-    (run-rows-at t)
-    run-rows.Post
-    run-rows-Inv-loop
-    run-rows-μ-loop
+run-rows-loop-again : (t : ℕ) → run-rows-lts.Need-loop-again (
+  run-leaf-rows-reads.Asked,
+  run-leaf-rows-reads.Learnt,
+  run-entry-below t,
+  run-entry.Post,
+) (run-rows-at t) run-rows.Post run-rows-Inv-loop run-rows-μ-loop
 run-rows-loop-again t c =
-    let o = c .before .before .before .before .before .before .before .before .before .before .before in
+    let o = c .before .before .before .before .before .before .before .before .before .before .before .before .before in
     let below = c .before .before .before .loop-test .taken in
     let passed = c .before .before .before .before .loop .inv in
     passed-more _ _ _ _ _ _ _ _ _ _ passed (λ h.
     sym (c .before .run-entry .ensures (inner-run h (o .args .q) (o .pre .1 .1) below passed) ∙ inner-says h (o .args .q) (o .pre .1 .1) _)
-    ∙ agree _ _ (c .if1 .left))
+    ∙ agree _ _ (c .if2 .left))
 
-run-rows-returns-2 :
-    (t : ℕ) →
-    run-rows-lts.Need-returns-2
-    (run-entry-below t, run-entry.Post)
-    (run-rows-at t)
-    run-rows.Post
-    run-rows-Inv-loop
-    run-rows-μ-loop
-run-rows-returns-2 t c = λ h.
-    let o = c .before .before .before .before .before .before .before .before in
+run-rows-returns-3 : (t : ℕ) → run-rows-lts.Need-returns-3 (
+  run-leaf-rows-reads.Asked,
+  run-leaf-rows-reads.Learnt,
+  run-entry-below t,
+  run-entry.Post,
+) (run-rows-at t) run-rows.Post run-rows-Inv-loop run-rows-μ-loop
+run-rows-returns-3 t c = λ h.
+    let o = c .before .before .before .before .before .before .before .before .before .before in
     rows-end h (o .args .q) (o .pre .1 .1) (c .before .loop .inv) (c .loop-test .left)
 
 pub +run-entry+run-inner+run-rows-spec : {M : Type 1} → statement M
@@ -664,11 +693,17 @@ pub +run-entry+run-inner+run-rows-spec : {M : Type 1} → statement M
     (run-inner-returns-5 t)
     (run-inner-returns-6 t))
     λ t. run-rows-lts.spec
-    (run-entry-below t, run-entry.Post)
+    (run-leaf-rows-reads.Asked, run-leaf-rows-reads.Learnt, run-entry-below t, run-entry.Post)
     (run-rows-at t)
     run-rows.Post
     run-rows-Inv-loop
     run-rows-μ-loop
+    (run-rows-add-if1 t)
+    (run-rows-mul-if1 t)
+    (run-rows-mul-if1-2 t)
+    (run-rows-element-copy-out-if1 t)
+    (run-rows-run-leaf-rows-requires t)
+    (run-rows-returns t)
     (run-rows-mul-t t)
     (run-rows-add-t t)
     (run-rows-mul-t-2 t)
@@ -690,9 +725,9 @@ pub +run-entry+run-inner+run-rows-spec : {M : Type 1} → statement M
     (run-rows-add-run-entry t)
     (run-rows-add-run-entry-2 t)
     (run-rows-run-entry-requires t)
-    (run-rows-returns t)
+    (run-rows-returns-2 t)
     (run-rows-add-first t)
     (run-rows-add-r t)
     (run-rows-loop-less t)
     (run-rows-loop-again t)
-    (run-rows-returns-2 t)
+    (run-rows-returns-3 t)
