@@ -6,7 +6,7 @@ use Prim.Native.Nat.{ℕ}
 use Rattle.tables.specs.Lists.{same}
 use Rattle.tables.specs.Tables.{columnsOf, tablesOf, rowsWhere}
 use Rattle.tables.specs.Values.{judgedRow}
-use Rattle.tables.specs.Refusals.{Refusal, _if_, firstApplying, Answer, unless, Lent, lend, tablesRefusals, rowRefusal}
+use Rattle.tables.specs.Refusals.{passes, Refusal, _if_, firstApplying, Answer, unless, Lent, lend, tablesRefusals, rowRefusal}
 use Rattle.card.specs.Card.{Card, answer}
 use Rattle.card.specs.Layout.{columnsIn, cardFrom}
 use Rattle.card.specs.Sound.{sound}
@@ -45,7 +45,7 @@ runRefusals card file row = gateRefusals card file ++ (rowRefusal file row ∷ [
 
 -- CHECK looks at a card alone: nothing to answer, or refusal 9
 unfoldable pub checkCall : List ℕ → Answer (Unit {0})
-checkCall card = unless (firstApplying (checkRefusals card)) (λ _. tt)
+checkCall card = passes (checkRefusals card)
 
 -- RUN answers yes or no for one row
 unfoldable pub runCall : List ℕ → List ℕ → ℕ → Answer Bool

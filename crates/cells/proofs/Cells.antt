@@ -3,7 +3,7 @@ use mathlib.Core.Path.{_≡_, refl, sym, ap, ap₂, subst, _∙_}
 use mathlib.Core.Bool.{Bool, true, false, not, cond, _&&_, and-true, and-false}
 use mathlib.Core.List.{List, map}
 use Prim.Native.Nat.{ℕ, zero, suc, _+_, _-_, _*_, _/_, _%_, _≤_, _<_}
-use native.Mathlib.Nat.{le-of-suc-le-suc, not-suc-le-zero, le-trans, mul-le-mul-left, mul-le-mul-right}
+use native.Mathlib.Nat.{le-of-suc-le-suc, not-suc-le-zero}
 use native.Mathlib.Numerals.{add-one}
 use native.Mathlib.Omega.{arith}
 use borrow.Author.Tests.{le-leb, lt-leb, ne-eqb}
@@ -144,9 +144,6 @@ cell-seen file values marks k mark number h p q small =
     go (suc m) = rw (ne-eqb (suc m) 0 (λ e. omega arith))
 
 -- ---- what the code adds up
-
-pub mul-below : (x y m n : ℕ) → x < m → y < n → x * y ≤ m * n
-mul-below x y m n hx hy = le-trans (mul-le-mul-left x (omega arith)) (mul-le-mul-right n (omega arith))
 
 pub cells-next : (file : List ℕ) (n j cells rows columns : ℕ) → n ≡ tableCount file → j < n → cells ≡ cellsBefore file j → rows ≡ sizeAt file j .rows
     → columns ≡ sizeAt file j .columns → cells + rows * columns ≡ cellsBefore file (j + 1)

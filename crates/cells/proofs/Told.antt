@@ -1,10 +1,10 @@
 -- What an enum stands for tells its case.
 use mathlib.Core.Path.{_≡_, refl, sym, ap, _∙_}
-use mathlib.Core.List.{List, [], _∷_}
+use mathlib.Core.List.{[], _∷_}
 use Prim.Native.Nat.{ℕ}
 use native.Mathlib.Omega.{arith}
 use lib.ListN.{getD}
-use Rattle.tables.specs.Refusals.{Answer, Refused, Given}
+use Rattle.tables.specs.Refusals.{Answer, Refused}
 use Rattle.cells.specs.Reasons.{reasonNumber, validityAnswer}
 use Rattle.cells.specs.Claims.{ReasonsClaim}
 use Rattle.cells.specs.declared.Reason.{Reason}

@@ -7,7 +7,7 @@ use Prim.Native.Nat.{ℕ}
 use native.Mathlib.Omega.{arith}
 use Rattle.tables.specs.Tables.{sizesFit, marksFit}
 use Rattle.tables.specs.Refusals.{firstApplying, Refused, Given, unless, tablesRefusals}
-use Rattle.cells.specs.Reasons.{tablesCall}
+use Rattle.tables.specs.Refusals.{tablesCall}
 use Rattle.cells.specs.Code.{Sized}
 use Rattle.cells.proofs.Cells.{sized-is}
 

@@ -1,7 +1,6 @@
 -- The answers that the code gives as enums: what each case stands for.
-use mathlib.Core.List.{List}
 use Prim.Native.Nat.{ℕ}
-use Rattle.tables.specs.Refusals.{firstApplying, Answer, Refused, Given, unless, tablesRefusals}
+use Rattle.tables.specs.Refusals.{Answer, Refused, Given}
 use Rattle.cells.specs.declared.Reason.{Reason}
 use Rattle.cells.specs.declared.Reason.the-variants.{Sizes, Mark, TextLength, Token, Brackets, Grammar, Limits, Names, Unsound, Columns, Row, Short}
 use Rattle.cells.specs.declared.Validity.{Validity}
@@ -26,7 +25,3 @@ reasonNumber Short = 12
 abbrev pub validityAnswer : Validity → Answer (Unit {0})
 validityAnswer Valid = Given tt
 validityAnswer (Invalid x) = Refused (reasonNumber x)
-
--- which it is: refusals 1 and 2
-unfoldable pub tablesCall : List ℕ → Answer (Unit {0})
-tablesCall file = unless (firstApplying (tablesRefusals file)) (λ _. tt)

@@ -4,7 +4,8 @@ ghost use Prim.Native.Nat.{_+_, _*_, _<_};
 ghost use lib.ListN.{length};
 ghost use Rattle.tables.specs.Bytes.{byteAt, word16, word32};
 ghost use Rattle.tables.specs.Tables.{sizeAt, cellCount, sizesFit, sizeFits, marksFit, cellAt};
-ghost use Rattle.cells.specs.Reasons.{reasonNumber, validityAnswer, tablesCall};
+ghost use Rattle.tables.specs.Refusals.{tablesCall};
+ghost use Rattle.cells.specs.Reasons.{reasonNumber, validityAnswer};
 ghost use Rattle.cells.specs.Code.{excess, Sized, Places, seenCell, CellIn};
 
 // Limits on a tables file.
@@ -17,6 +18,9 @@ pub const MOST_ROWS: usize = 1000;
 pub const MOST_CELLS: usize = 8192;
 
 pub const HIGHEST_MARK: usize = 1;
+
+// How many numbers tell where the tables of a file stand.
+pub const PLACES: usize = 3 * MOST_TABLES + 3;
 
 // Why a call refuses, in the order of the published numbers.
 pub enum Reason {
@@ -206,11 +210,11 @@ pub fn check_tables(file: &[u8]) -> Validity
     Validity::Valid
 }
 
-// Where the tables of a file stand: where its values start, where its marks start, and all cells; then of each table its first cell, columns, rows.
-pub fn places(file: &[u8], g: &mut [usize; 27])
+// Where the tables of a file stand: where its values start, where its marks start, and all cells; then of each table its first cell, columns, rows, so
+// that those of table t are at 3 t.
+pub fn places(file: &[u8], g: &mut [usize; PLACES])
     requires { ⌜ Sized (now file) ⌝ ∗ ⌜ length (now g) ≡ 27 ⌝ }
-    ensures holds { λ _. ⌜ Places (now (file .entry)) (now (g .exit)) ⌝ }
-    ensures size { λ _. ⌜ length (now (g .exit)) ≡ 27 ⌝ }
+    ensures { λ _. ⌜ Places (now (file .entry)) (now (g .exit)) ⌝ }
 {
     let n = byte(file, 0);
     let cells = cell_count(file);

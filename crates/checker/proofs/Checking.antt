@@ -1,6 +1,6 @@
 -- The check of a card in an array of numbers: what each test of src/ decides.
 use mathlib.Core.Path.{_≡_, refl, sym, ap, subst, _∙_}
-use mathlib.Core.Bool.{Bool, true, false, cond, _&&_}
+use mathlib.Core.Bool.{Bool, true, false, cond, _&&_, false≢true}
 use mathlib.Core.List.{List, [], _∷_, _++_}
 use mathlib.Core.Logic.{⊎-elim}
 use mathlib.Core.Option.{some}
@@ -82,7 +82,7 @@ module _ (card w : List ℕ) (depth tag n : ℕ) (h : LevelsIn card w depth) (no
 -- ---- answers
 
 pub no-yes : {A : Type 0} → false ≡ true → A
-no-yes e = let z : _≡_ {A = ℕ} 0 1 = cc in absurd (omega arith)
+no-yes e = absurd (false≢true e)
 
 module _ {d columns levels : List ℕ} {s e : ℕ} where
   pub none-fits : (Fitting d columns levels s e → ⊥) → Checks d columns levels s e false

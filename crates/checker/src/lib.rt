@@ -1,4 +1,6 @@
 // A card: CHECK, and its entries as numbers for whoever runs it.
+// Short names: d, the decoded entries; r, where a record starts; s and e, an entry and the number after its inner ones; w, the table of each level, and
+// depth, how many levels there are.
 ghost use mathlib.Core.Path.{_≡_};
 ghost use mathlib.Core.Bool.{true};
 ghost use Prim.Native.Nat.{_+_, _*_, _<_, _≤_};
@@ -23,20 +25,44 @@ pub const MOST_ENTRIES: usize = 192;
 
 pub const MOST_ROW_ENTRIES: usize = 3;
 
+// The judged row and the rows of the row entries around an entry; the numbers that an entry is decoded to, and those of all entries.
+pub const LEVELS: usize = 1 + MOST_ROW_ENTRIES;
+
+pub const FIELDS: usize = 8;
+
+pub const DECODED: usize = FIELDS * MOST_ENTRIES;
+
+// The order of an entry's numbers: its kind first, then these; and where the next entry's end stands.
+pub const END: usize = 1;
+
+pub const TABLE: usize = 2;
+
+pub const COMPARISON: usize = 3;
+
+pub const LEFT_TAG: usize = 4;
+
+pub const LEFT_NUMBER: usize = 5;
+
+pub const RIGHT_TAG: usize = 6;
+
+pub const RIGHT_NUMBER: usize = 7;
+
+pub const NEXT_END: usize = FIELDS + END;
+
 // The bytes of a record, the place of each field in it, and the tag of a constant.
 const RECORD_SIZE: usize = 14;
 
-const TABLE: usize = 2;
+const TABLE_PLACE: usize = 2;
 
-const COMPARISON: usize = 3;
+const COMPARISON_PLACE: usize = 3;
 
-const LEFT: usize = 4;
+const LEFT_PLACE: usize = 4;
 
-const RIGHT: usize = 9;
+const RIGHT_PLACE: usize = 9;
 
 pub const CONSTANT: usize = 255;
 
-// Whether each of the n tables has as many columns as a table may have.
+// Whether each of the n tables has 1 to 16 columns.
 fn columns_fit(card: &[u8], n: usize) -> bool
     requires { ⌜ (n ≡ tablesIn (now card)) × (3 + n ≤ length (now card)) ⌝ }
     ensures { λ r. ⌜ r ≡ all (between 1 mostColumns) (columnsIn (now (card .entry))) ⌝ }
@@ -103,24 +129,24 @@ fn fields_fit(card: &[u8], r: usize, kind: usize) -> bool
     ensures { λ x. ⌜ x ≡ fieldsFit kind (recordFrom (now (card .entry)) r) ⌝ }
 {
     match kind {
-        1 | 2 => zero_bytes(card, r, TABLE, RECORD_SIZE),
-        3 | 4 => zero_bytes(card, r, COMPARISON, RECORD_SIZE),
+        1 | 2 => zero_bytes(card, r, TABLE_PLACE, RECORD_SIZE),
+        3 | 4 => zero_bytes(card, r, COMPARISON_PLACE, RECORD_SIZE),
         5 | 6 => {
-            let op = byte(card, r + COMPARISON);
+            let op = byte(card, r + COMPARISON_PLACE);
             if op < 1 {
                 return false;
             }
             if 6 < op {
                 return false;
             }
-            zero_bytes(card, r, TABLE, COMPARISON)
+            zero_bytes(card, r, TABLE_PLACE, COMPARISON_PLACE)
         }
         7 | 8 => {
-            let before = zero_bytes(card, r, TABLE, LEFT);
+            let before = zero_bytes(card, r, TABLE_PLACE, LEFT_PLACE);
             if !before {
                 return false;
             }
-            zero_bytes(card, r, RIGHT, RECORD_SIZE)
+            zero_bytes(card, r, RIGHT_PLACE, RECORD_SIZE)
         }
         _ => false,
     }
@@ -153,10 +179,9 @@ fn number_at(card: &[u8], r: usize, i: usize) -> usize
 }
 
 // The entries of a card as numbers, eight for each: kind, end, table, comparison, and two values of a tag and a number each.
-fn decode(card: &[u8], d: &mut [usize; 1536])
+fn decode(card: &[u8], d: &mut [usize; DECODED])
     requires { ⌜ Laid (now card) ⌝ ∗ ⌜ length (now d) ≡ 1536 ⌝ }
-    ensures is { λ _. ⌜ Decoded (now (card .entry)) (now (d .exit)) ⌝ }
-    ensures size { λ _. ⌜ length (now (d .exit)) ≡ 1536 ⌝ }
+    ensures { λ _. ⌜ Decoded (now (card .entry)) (now (d .exit)) ⌝ }
 {
     let n = read16(card, 0);
     let kinds = 3 + byte(card, 2);
@@ -164,21 +189,21 @@ fn decode(card: &[u8], d: &mut [usize; 1536])
     let mut i: usize = 0;
     while i < n {
         let r = records + RECORD_SIZE * i;
-        let p = 8 * i;
+        let p = FIELDS * i;
         d[p] = known_kind(card, r, byte(card, kinds + i));
-        d[p + 1] = read16(card, r);
-        d[p + 2] = byte(card, r + TABLE);
-        d[p + 3] = byte(card, r + COMPARISON);
-        d[p + 4] = byte(card, r + LEFT);
-        d[p + 5] = number_at(card, r, LEFT);
-        d[p + 6] = byte(card, r + RIGHT);
-        d[p + 7] = number_at(card, r, RIGHT);
+        d[p + END] = read16(card, r);
+        d[p + TABLE] = byte(card, r + TABLE_PLACE);
+        d[p + COMPARISON] = byte(card, r + COMPARISON_PLACE);
+        d[p + LEFT_TAG] = byte(card, r + LEFT_PLACE);
+        d[p + LEFT_NUMBER] = number_at(card, r, LEFT_PLACE);
+        d[p + RIGHT_TAG] = byte(card, r + RIGHT_PLACE);
+        d[p + RIGHT_NUMBER] = number_at(card, r, RIGHT_PLACE);
         i += 1;
     }
 }
 
 // Whether a value's level and column exist; w has the table of each level.
-fn value_fits(card: &[u8], w: &[usize; 4], depth: usize, tag: usize, n: usize) -> bool
+fn value_fits(card: &[u8], w: &[usize; LEVELS], depth: usize, tag: usize, n: usize) -> bool
     requires { ⌜ LevelsIn (now card) (now w) depth ⌝ ∗ ⌜ n < 4294967296 ⌝ }
     ensures { λ r. ⌜ r ≡ valueFits (columnsIn (now (card .entry))) (take depth (now (w .entry))) (valueIn tag n) ⌝ }
 {
@@ -198,44 +223,56 @@ fn value_fits(card: &[u8], w: &[usize; 4], depth: usize, tag: usize, n: usize) -
 // The entry s, up to e, where it has no inner entries: whether it fits.
 fn check_leaf(
     card: &[u8],
-    d: &[usize; 1536],
+    d: &[usize; DECODED],
     s: usize,
     e: usize,
-    w: &[usize; 4],
+    w: &[usize; LEVELS],
     depth: usize,
 ) -> bool
     requires { ⌜ Checkable (now card) (now d) (now w) s e depth ⌝ ∗ ⌜ (5 ≤ kindIn (now d) s) × (kindIn (now d) s ≤ 8) ⌝ }
     ensures { λ r. ⌜ Checks (now (d .entry)) (columnsIn (now (card .entry))) (take depth (now (w .entry))) s e r ⌝ }
 {
-    if d[8 * s + 1] != e {
+    if d[FIELDS * s + END] != e {
         return false;
     }
     if e != s + 1 {
         return false;
     }
-    let left = value_fits(card, w, depth, d[8 * s + 4], d[8 * s + 5]);
+    let left = value_fits(
+        card,
+        w,
+        depth,
+        d[FIELDS * s + LEFT_TAG],
+        d[FIELDS * s + LEFT_NUMBER],
+    );
     if !left {
         return false;
     }
-    if 6 < d[8 * s] {
+    if 6 < d[FIELDS * s] {
         return true;
     }
-    value_fits(card, w, depth, d[8 * s + 6], d[8 * s + 7])
+    value_fits(
+        card,
+        w,
+        depth,
+        d[FIELDS * s + RIGHT_TAG],
+        d[FIELDS * s + RIGHT_NUMBER],
+    )
 }
 
 // The entries from s up to e: whether they are one entry with its inner ones, which fits the card's tables and these levels.
 fn check_entry(
     card: &[u8],
-    d: &[usize; 1536],
+    d: &[usize; DECODED],
     s: usize,
     e: usize,
-    w: &[usize; 4],
+    w: &[usize; LEVELS],
     depth: usize,
 ) -> bool
     requires { ⌜ Checkable (now card) (now d) (now w) s e depth ⌝ }
     ensures { λ r. ⌜ Checks (now (d .entry)) (columnsIn (now (card .entry))) (take depth (now (w .entry))) s e r ⌝ }
 {
-    let k = d[8 * s];
+    let k = d[FIELDS * s];
     match k {
         1 | 2 => check_pair(card, d, s, e, w, depth),
         3 | 4 => check_rows(card, d, s, e, w, depth),
@@ -247,22 +284,22 @@ fn check_entry(
 // The same where s has two inner entries.
 fn check_pair(
     card: &[u8],
-    d: &[usize; 1536],
+    d: &[usize; DECODED],
     s: usize,
     e: usize,
-    w: &[usize; 4],
+    w: &[usize; LEVELS],
     depth: usize,
 ) -> bool
     requires { ⌜ Checkable (now card) (now d) (now w) s e depth ⌝ ∗ ⌜ (1 ≤ kindIn (now d) s) × (kindIn (now d) s ≤ 2) ⌝ }
     ensures { λ r. ⌜ Checks (now (d .entry)) (columnsIn (now (card .entry))) (take depth (now (w .entry))) s e r ⌝ }
 {
-    if d[8 * s + 1] != e {
+    if d[FIELDS * s + END] != e {
         return false;
     }
     if e <= s + 1 {
         return false;
     }
-    let m = d[8 * s + 9];
+    let m = d[FIELDS * s + NEXT_END];
     if m <= s + 1 {
         return false;
     }
@@ -279,22 +316,22 @@ fn check_pair(
 // The same where s ranges over the rows of a table.
 fn check_rows(
     card: &[u8],
-    d: &[usize; 1536],
+    d: &[usize; DECODED],
     s: usize,
     e: usize,
-    w: &[usize; 4],
+    w: &[usize; LEVELS],
     depth: usize,
 ) -> bool
     requires { ⌜ Checkable (now card) (now d) (now w) s e depth ⌝ ∗ ⌜ (3 ≤ kindIn (now d) s) × (kindIn (now d) s ≤ 4) ⌝ }
     ensures { λ r. ⌜ Checks (now (d .entry)) (columnsIn (now (card .entry))) (take depth (now (w .entry))) s e r ⌝ }
 {
-    if d[8 * s + 1] != e {
+    if d[FIELDS * s + END] != e {
         return false;
     }
     if e <= s + 1 {
         return false;
     }
-    let t = d[8 * s + 2];
+    let t = d[FIELDS * s + TABLE];
     if t < 1 {
         return false;
     }
@@ -310,11 +347,10 @@ fn check_rows(
 }
 
 // Whether a card is sound; if so, d has its entries.
-pub fn is_sound(card: &[u8], d: &mut [usize; 1536]) -> bool
+pub fn is_sound(card: &[u8], d: &mut [usize; DECODED]) -> bool
     requires { ⌜ length (now d) ≡ 1536 ⌝ }
     ensures is { λ r. ⌜ r ≡ sound (now (card .entry)) ⌝ }
     ensures decoded { λ r. ⌜ (r ≡ true → Decoded (now (card .entry)) (now (d .exit))) ⌝ }
-    ensures size { λ r. ⌜ length (now (d .exit)) ≡ 1536 ⌝ }
 {
     let laid = laid_out(card);
     if !laid {
@@ -335,7 +371,7 @@ pub enum Checked {
 pub fn check(card: &[u8]) -> Checked
     ensures { λ r. ⌜ checkedAnswer r ≡ checkCall (now (card .entry)) ⌝ }
 {
-    let mut d = [0usize; 1536];
+    let mut d = [0usize; DECODED];
     let sound = is_sound(card, &mut d);
     if sound {
         return Checked::Good;

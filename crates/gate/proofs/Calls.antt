@@ -10,7 +10,8 @@ use Rattle.tables.specs.Lists.{tabulate, same}
 use Rattle.tables.specs.Bytes.{byteAt}
 use Rattle.tables.specs.Tables.{tableCount, sizeAt, columnsOf, rowCount}
 use Rattle.tables.specs.Refusals.{_if_, firstApplying, Answer, Refused, Given, Lent, tablesRefusals}
-use Rattle.cells.specs.Reasons.{reasonNumber, validityAnswer, tablesCall}
+use Rattle.tables.specs.Refusals.{tablesCall}
+use Rattle.cells.specs.Reasons.{reasonNumber, validityAnswer}
 use Rattle.cells.specs.Code.{Sized}
 use Rattle.cells.specs.declared.Reason.{Reason}
 use Rattle.cells.specs.declared.Validity.{Validity}

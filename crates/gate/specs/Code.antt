@@ -3,7 +3,7 @@ use mathlib.Core.Path.{_≡_}
 use mathlib.Core.Bool.{true}
 use mathlib.Core.List.{List}
 use Prim.Native.Nat.{ℕ}
-use Rattle.tables.specs.Refusals.{Answer, Refused, Given, firstApplying, unless}
+use Rattle.tables.specs.Refusals.{passes, Answer, Refused, Given}
 use Rattle.cells.specs.Reasons.{reasonNumber}
 use Rattle.cells.specs.Code.{Sized, Places}
 use Rattle.card.specs.Sound.{sound}
@@ -26,4 +26,4 @@ preparedAnswer Ready = Given tt
 preparedAnswer (NotReady x) = Refused (reasonNumber x)
 
 unfoldable pub prepareCall : List ℕ → List ℕ → Answer (Unit {0})
-prepareCall card file = unless (firstApplying (gateRefusals card file)) (λ _. tt)
+prepareCall card file = passes (gateRefusals card file)

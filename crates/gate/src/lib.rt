@@ -10,8 +10,12 @@ ghost use Rattle.checker.specs.Code.{Laid};
 ghost use Rattle.gate.specs.Answers.{ranAnswer, listedAnswer};
 ghost use Rattle.gate.specs.Code.{Opened, preparedAnswer, prepareCall};
 ghost use Rattle.gate.specs.declared.Prepared.{Prepared};
+use cells::MOST_ROWS;
+use cells::PLACES;
 use cells::Reason;
 use cells::Validity;
+use checker::DECODED;
+use checker::LEVELS;
 
 // Whether the card was made for this number of tables and these columns.
 fn fits_tables(card: &[u8], file: &[u8]) -> bool
@@ -38,7 +42,7 @@ enum Prepared {
 }
 
 // What RUN and LIST look at first: refusals 1, 2, 9 and 10. Where none applies, d has the card's entries and g the tables' places.
-fn prepare(card: &[u8], file: &[u8], d: &mut [usize; 1536], g: &mut [usize; 27]) -> Prepared
+fn prepare(card: &[u8], file: &[u8], d: &mut [usize; DECODED], g: &mut [usize; PLACES]) -> Prepared
     requires { ⌜ length (now d) ≡ 1536 ⌝ ∗ ⌜ length (now g) ≡ 27 ⌝ }
     ensures answer { λ r. ⌜ preparedAnswer r ≡ prepareCall (now (card .entry)) (now (file .entry)) ⌝ }
     ensures opened { λ r. ⌜ (r ≡ Prepared.Ready → Opened (now (card .entry)) (now (file .entry)) (now (d .exit)) (now (g .exit))) ⌝ }
@@ -69,8 +73,8 @@ pub enum Ran {
 pub fn run(card: &[u8], file: &[u8], row: usize) -> Ran
     ensures { λ r. ⌜ ranAnswer r ≡ runCall (now (card .entry)) (now (file .entry)) row ⌝ }
 {
-    let mut d = [0usize; 1536];
-    let mut g = [0usize; 27];
+    let mut d = [0usize; DECODED];
+    let mut g = [0usize; PLACES];
     let prepared = prepare(card, file, &mut d, &mut g);
     if let Prepared::NotReady(x) = prepared {
         return Ran::NotRun(x);
@@ -91,9 +95,9 @@ pub fn run(card: &[u8], file: &[u8], row: usize) -> Ran
 fn keep_rows(
     card: &[u8],
     file: &[u8],
-    d: &[usize; 1536],
-    g: &[usize; 27],
-    kept: &mut [u32; 1000],
+    d: &[usize; DECODED],
+    g: &[usize; PLACES],
+    kept: &mut [u32; MOST_ROWS],
 ) -> usize
     requires { ⌜ Opened (now card) (now file) (now d) (now g) ⌝ ∗ ⌜ length (now kept) ≡ 1000 ⌝ }
     ensures rows { λ k. ⌜ take k (now (kept .exit)) ≡ yesRows (now (card .entry)) (now (file .entry)) ⌝ }
@@ -103,7 +107,7 @@ fn keep_rows(
     let n = cells::read16(card, 0);
     let columns = g[4];
     let rows = g[5];
-    let mut w = [0usize; 4];
+    let mut w = [0usize; LEVELS];
     let mut first: usize = 0;
     let mut k: usize = 0;
     let mut row: usize = 0;
@@ -121,7 +125,7 @@ fn keep_rows(
 }
 
 // The first k elements of kept to the start of out.
-fn copy_rows(kept: &[u32; 1000], k: usize, out: &mut [u32])
+fn copy_rows(kept: &[u32; MOST_ROWS], k: usize, out: &mut [u32])
     requires { ⌜ length (now kept) ≡ 1000 ⌝ ∗ ⌜ k ≤ 1000 ⌝ ∗ ⌜ k ≤ length (now out) ⌝ }
     ensures { λ _. ⌜ now (out .exit) ≡ take k (now (kept .entry)) ++ drop k (now (out .entry)) ⌝ }
 {
@@ -142,14 +146,14 @@ pub fn list(card: &[u8], file: &[u8], out: &mut [u32]) -> Listed
     ensures answer { λ r. ⌜ listedAnswer r ≡ listCall (now (card .entry)) (now (file .entry)) (now (out .entry)) .result ⌝ }
     ensures written { λ r. ⌜ now (out .exit) ≡ listCall (now (card .entry)) (now (file .entry)) (now (out .entry)) .buffer ⌝ }
 {
-    let mut d = [0usize; 1536];
-    let mut g = [0usize; 27];
+    let mut d = [0usize; DECODED];
+    let mut g = [0usize; PLACES];
     let prepared = prepare(card, file, &mut d, &mut g);
     if let Prepared::NotReady(x) = prepared {
         return Listed::NotListed(x);
     }
     // The rows are kept here first, since nothing may be written before it is known that all of them fit.
-    let mut kept = [0u32; 1000];
+    let mut kept = [0u32; MOST_ROWS];
     let k = keep_rows(card, file, &d, &g, &mut kept);
     if out.len() < k {
         return Listed::NotListed(Reason::Short);

@@ -1,4 +1,6 @@
 // What a sound card says at a row: its entries, decoded, are run over the cells of the tables.
+// Short names: d, the decoded entries; g, where the tables stand; s and e, an entry and the number after its inner ones; w, for each level the number
+// of its row's first cell, and depth, how many levels there are; q, what row entries answer where no row decides.
 ghost use mathlib.Core.Path.{_≡_};
 ghost use mathlib.Core.Bool.{true, false};
 ghost use Prim.Native.Nat.{_+_, _*_, _<_, _≤_};
@@ -6,10 +8,21 @@ ghost use Rattle.tables.specs.Values.{comparisonOf, holds, byNumbers};
 ghost use Rattle.cells.specs.Code.{fromExcess, seenCell};
 ghost use Rattle.checker.specs.Code.{kindIn};
 ghost use Rattle.runner.specs.Code.{ValueReady, Sees, LeafReady, LeafAnswers, Runnable, Answers, rowKind};
+use cells::PLACES;
 use cells::Seen;
+use checker::COMPARISON;
+use checker::DECODED;
+use checker::FIELDS;
+use checker::LEFT_NUMBER;
+use checker::LEFT_TAG;
+use checker::LEVELS;
+use checker::NEXT_END;
+use checker::RIGHT_NUMBER;
+use checker::RIGHT_TAG;
+use checker::TABLE;
 
 // What is seen of the cell or the constant that a value stands for; w has the first cell of each level's row.
-fn look(g: &[usize; 27], file: &[u8], w: &[usize; 4], tag: usize, n: usize) -> Seen
+fn look(g: &[usize; PLACES], file: &[u8], w: &[usize; LEVELS], tag: usize, n: usize) -> Seen
     requires { ⌜ ValueReady (now g) (now file) (now w) tag n ⌝ }
     ensures { λ r. ⌜ Sees (now (g .entry)) (now (file .entry)) (now (w .entry)) tag n r ⌝ }
 {
@@ -48,15 +61,33 @@ fn cells_hold(unknown: bool, op: usize, x: Seen, y: Seen) -> bool
 }
 
 // What an entry without inner entries answers.
-fn run_leaf(d: &[usize; 1536], g: &[usize; 27], file: &[u8], s: usize, w: &[usize; 4]) -> bool
+fn run_leaf(
+    d: &[usize; DECODED],
+    g: &[usize; PLACES],
+    file: &[u8],
+    s: usize,
+    w: &[usize; LEVELS],
+) -> bool
     requires { ⌜ LeafReady (now d) (now g) (now file) (now w) s ⌝ }
     ensures { λ r. ⌜ LeafAnswers (now (d .entry)) (now (g .entry)) (now (file .entry)) (now (w .entry)) s r ⌝ }
 {
-    let k = d[8 * s];
-    let x = look(g, file, w, d[8 * s + 4], d[8 * s + 5]);
+    let k = d[FIELDS * s];
+    let x = look(
+        g,
+        file,
+        w,
+        d[FIELDS * s + LEFT_TAG],
+        d[FIELDS * s + LEFT_NUMBER],
+    );
     if k < 7 {
-        let y = look(g, file, w, d[8 * s + 6], d[8 * s + 7]);
-        return cells_hold(k == 6, d[8 * s + 3], x, y);
+        let y = look(
+            g,
+            file,
+            w,
+            d[FIELDS * s + RIGHT_TAG],
+            d[FIELDS * s + RIGHT_NUMBER],
+        );
+        return cells_hold(k == 6, d[FIELDS * s + COMPARISON], x, y);
     }
     if k == 7 {
         return x.blank;
@@ -67,19 +98,19 @@ fn run_leaf(d: &[usize; 1536], g: &[usize; 27], file: &[u8], s: usize, w: &[usiz
 // What the entry s answers, which asks for some row of its table, or for every row, where its inner entry has no inner entries of its own: no call
 // is made for each row. q is the answer where no row decides.
 fn run_leaf_rows(
-    d: &[usize; 1536],
-    g: &[usize; 27],
+    d: &[usize; DECODED],
+    g: &[usize; PLACES],
     file: &[u8],
     s: usize,
     e: usize,
-    w: &[usize; 4],
+    w: &[usize; LEVELS],
     depth: usize,
     q: bool,
 ) -> bool
     requires { ⌜ Runnable (now d) (now g) (now file) (now w) s e depth ⌝ ∗ ⌜ kindIn (now d) s ≡ rowKind q ⌝ ∗ ⌜ 4 < kindIn (now d) (s + 1) ⌝ }
     ensures { λ r. ⌜ Answers (now (d .entry)) (now (g .entry)) (now (file .entry)) (now (w .entry)) s e depth r ⌝ }
 {
-    let t = d[8 * s + 2];
+    let t = d[FIELDS * s + TABLE];
     let mut first = g[3 * t];
     let columns = g[3 * t + 1];
     let rows = g[3 * t + 2];
@@ -99,18 +130,18 @@ fn run_leaf_rows(
 
 // What the entry s, with the inner ones up to e, answers.
 pub fn run_entry(
-    d: &[usize; 1536],
-    g: &[usize; 27],
+    d: &[usize; DECODED],
+    g: &[usize; PLACES],
     file: &[u8],
     s: usize,
     e: usize,
-    w: &[usize; 4],
+    w: &[usize; LEVELS],
     depth: usize,
 ) -> bool
     requires { ⌜ Runnable (now d) (now g) (now file) (now w) s e depth ⌝ }
     ensures { λ r. ⌜ Answers (now (d .entry)) (now (g .entry)) (now (file .entry)) (now (w .entry)) s e depth r ⌝ }
 {
-    if 4 < d[8 * s] {
+    if 4 < d[FIELDS * s] {
         return run_leaf(d, g, file, s, w);
     }
     run_inner(d, g, file, s, e, w, depth)
@@ -118,21 +149,21 @@ pub fn run_entry(
 
 // The same where s has inner entries.
 fn run_inner(
-    d: &[usize; 1536],
-    g: &[usize; 27],
+    d: &[usize; DECODED],
+    g: &[usize; PLACES],
     file: &[u8],
     s: usize,
     e: usize,
-    w: &[usize; 4],
+    w: &[usize; LEVELS],
     depth: usize,
 ) -> bool
     requires { ⌜ Runnable (now d) (now g) (now file) (now w) s e depth ⌝ ∗ ⌜ kindIn (now d) s ≤ 4 ⌝ }
     ensures { λ r. ⌜ Answers (now (d .entry)) (now (g .entry)) (now (file .entry)) (now (w .entry)) s e depth r ⌝ }
 {
-    let k = d[8 * s];
+    let k = d[FIELDS * s];
     match k {
         1 => {
-            let m = d[8 * s + 9];
+            let m = d[FIELDS * s + NEXT_END];
             let left = run_entry(d, g, file, s + 1, m, w, depth);
             if !left {
                 return false;
@@ -140,7 +171,7 @@ fn run_inner(
             run_entry(d, g, file, m, e, w, depth)
         }
         2 => {
-            let m = d[8 * s + 9];
+            let m = d[FIELDS * s + NEXT_END];
             let left = run_entry(d, g, file, s + 1, m, w, depth);
             if left {
                 return true;
@@ -154,22 +185,22 @@ fn run_inner(
 
 // The same where s asks for some row of its table, or for every row.
 fn run_rows(
-    d: &[usize; 1536],
-    g: &[usize; 27],
+    d: &[usize; DECODED],
+    g: &[usize; PLACES],
     file: &[u8],
     s: usize,
     e: usize,
-    w: &[usize; 4],
+    w: &[usize; LEVELS],
     depth: usize,
     q: bool,
 ) -> bool
     requires { ⌜ Runnable (now d) (now g) (now file) (now w) s e depth ⌝ ∗ ⌜ kindIn (now d) s ≡ rowKind q ⌝ }
     ensures { λ r. ⌜ Answers (now (d .entry)) (now (g .entry)) (now (file .entry)) (now (w .entry)) s e depth r ⌝ }
 {
-    if 4 < d[8 * (s + 1)] {
+    if 4 < d[FIELDS * (s + 1)] {
         return run_leaf_rows(d, g, file, s, e, w, depth, q);
     }
-    let t = d[8 * s + 2];
+    let t = d[FIELDS * s + TABLE];
     let mut first = g[3 * t];
     let columns = g[3 * t + 1];
     let rows = g[3 * t + 2];

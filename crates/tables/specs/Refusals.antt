@@ -33,6 +33,10 @@ unfoldable pub unless : {A : Type 0} → Option ℕ → (Unit {0} → A) → Ans
 unless (some n) answer = Refused n
 unless none answer = Given (answer tt)
 
+-- a call that only looks: nothing to answer, or the first refusal that applies
+abbrev pub passes : List Refusal → Answer (Unit {0})
+passes refusals = unless (firstApplying refusals) (λ _. tt)
+
 -- ---- calls that write their answer into a lent buffer
 
 -- how many elements the answer has, or a refusal; and what the buffer holds afterwards
@@ -66,6 +70,9 @@ module _ {A : Type 0} where
 -- 1 and 2: what any call that is given a tables file looks at first
 unfoldable pub tablesRefusals : List ℕ → List Refusal
 tablesRefusals file = (1 if not (sizesFit file)) ∷ (2 if not (marksFit file)) ∷ []
+
+unfoldable pub tablesCall : List ℕ → Answer (Unit {0})
+tablesCall file = passes (tablesRefusals file)
 
 -- refusal 11: table 1 has no such row
 unfoldable pub rowRefusal : List ℕ → ℕ → Refusal

@@ -1,11 +1,12 @@
 use mathlib.Core.Path.{_≡_, sym}
 use Prim.Native.Nat.{_≤_, _*_, _-_, _+_}
+use native.Mathlib.Nat.{mul-le-mul}
 use native.Mathlib.Omega.{arith}
 use lib.ListN.{length, length-set}
 use Rattle.tables.specs.Tables.{cellsBefore}
 use Rattle.cells.specs.Code.{Holds, placeOf}
 use Rattle.cells.proofs.Holding.{holds-same}
-use Rattle.cells.proofs.Cells.{cells-none, cells-next, places-start, places-step, first-room, mul-below}
+use Rattle.cells.proofs.Cells.{cells-none, cells-next, places-start, places-step, first-room}
 use Rattle.cells.proofs.places.Statement.{statement}
 use Rattle.cells.proofs.places.Tie as tie
 
@@ -101,7 +102,7 @@ element-write-g-6 : tie.Need-element-write-g-6 Inv-loop μ-loop
 element-write-g-6 c = omega arith
 
 mul-first : tie.Need-mul-first Inv-loop μ-loop
-mul-first c = omega (arith, mul-below (c .table-rows .result) (c .before .table-columns .result) 65536 256 (omega arith) (omega arith))
+mul-first c = omega (arith, mul-le-mul {n₁ = c .table-rows .result} {m₁ = c .before .table-columns .result} {n₂ = 65536} {m₂ = 256} (omega arith) (omega arith))
 
 add-first : tie.Need-add-first Inv-loop μ-loop
 add-first c =
@@ -130,8 +131,7 @@ loop-again c =
     )
 
 returns : tie.Need-returns Inv-loop μ-loop
-returns c =
-    (holds-same _ (3 * c .before .loop .j + 3) _ _ (c .before .loop .inv .1) (omega (arith, c .before .before .before .byte .ensures .0)), c .before .loop .inv .2)
+returns c = holds-same _ (3 * c .before .loop .j + 3) _ _ (c .before .loop .inv .1) (omega (arith, c .before .before .before .byte .ensures .0))
 
 pub places-spec : {M : Type 1} → statement M
 places-spec =

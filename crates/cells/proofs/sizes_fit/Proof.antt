@@ -1,11 +1,12 @@
 use mathlib.Core.Path.{_≡_, sym, _∙_}
 use mathlib.Core.Bool.{true}
 use Prim.Native.Nat.{ℕ, _≤_, _<_, _*_, _-_}
+use native.Mathlib.Nat.{mul-le-mul}
 use native.Mathlib.Omega.{arith}
 use borrow.Author.Count.{below-more}
 use borrow.Author.Tests.{not-true, not-false}
 use Rattle.tables.specs.Tables.{sizeAt, cellsBefore, sizeFits}
-use Rattle.cells.proofs.Cells.{cells-none, sizes-no, sizes-one, sizes-last, mul-below, cells-next, cells-end, cells-no}
+use Rattle.cells.proofs.Cells.{cells-none, sizes-no, sizes-one, sizes-last, cells-next, cells-end, cells-no}
 use Rattle.cells.proofs.sizes_fit.Statement.{statement}
 use Rattle.cells.proofs.sizes_fit.Tie as tie
 
@@ -52,10 +53,10 @@ table-columns-requires : tie.Need-table-columns-requires Inv-loop μ-loop
 table-columns-requires c κs = omega arith
 
 mul-cells : tie.Need-mul-cells Inv-loop μ-loop
-mul-cells c = omega (arith, mul-below (c .before .table-rows .result) (c .table-columns .result) 65536 256 (omega arith) (omega arith))
+mul-cells c = omega (arith, mul-le-mul {n₁ = c .before .table-rows .result} {m₁ = c .table-columns .result} {n₂ = 65536} {m₂ = 256} (omega arith) (omega arith))
 
 add-cells : tie.Need-add-cells Inv-loop μ-loop
-add-cells c = omega (arith, mul-below (c .before .table-rows .result) (c .table-columns .result) 65536 256 (omega arith) (omega arith))
+add-cells c = omega (arith, mul-le-mul {n₁ = c .before .table-rows .result} {m₁ = c .table-columns .result} {n₂ = 65536} {m₂ = 256} (omega arith) (omega arith))
 
 add-j : tie.Need-add-j Inv-loop μ-loop
 add-j c = omega arith
@@ -70,7 +71,7 @@ loop-again c = (
   cells-next (c .before .before .before .before .before .before .before .before .before .before .before .before .args .file .now) _ _ _ _ _
       (c .before .before .before .before .before .before .before .before .before .byte .ensures .0) (c .before .before .before .before .loop-test .taken)
       (c .before .before .before .before .before .loop .inv .2) (c .before .table-rows .ensures .0) (c .table-columns .ensures .0),
-  omega (arith, mul-below (c .before .table-rows .result) (c .table-columns .result) 65536 256 (omega arith) (omega arith)),
+  omega (arith, mul-le-mul {n₁ = c .before .table-rows .result} {m₁ = c .table-columns .result} {n₂ = 65536} {m₂ = 256} (omega arith) (omega arith)),
 )
 
 returns-6 : tie.Need-returns-6 Inv-loop μ-loop

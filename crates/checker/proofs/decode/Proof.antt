@@ -178,7 +178,7 @@ loop-again c =
     )
 
 returns : tie.Need-returns Inv-loop μ-loop
-returns c = (holds-same _ _ _ _ (c .before .loop .inv .2) (omega arith), c .before .loop .inv .1)
+returns c = holds-same _ _ _ _ (c .before .loop .inv .2) (omega arith)
 
 pub decode-spec : {M : Type 1} → statement M
 decode-spec =

@@ -14,7 +14,7 @@ laid-out-requires c κs = search needs
 returns : tie.Need-returns
 returns c =
     let e = sym (c .before .laid-out .ensures) ∙ not-true _ (c .if1 .taken) in
-    (sym (sound-not-laid _ e), (no-yes, c .before .before .before .pre))
+    (sym (sound-not-laid _ e), no-yes)
 
 decode-requires : tie.Need-decode-requires
 decode-requires c κs =
@@ -32,14 +32,14 @@ check-entry-requires c κs =
     let b = c .before .before .before .before .before in
     let h = laid-is _ (sym (b .before .laid-out .ensures) ∙ not-false _ (b .if1 .left)) in
     let n = c .before .before .read16 .ensures .0 in
-    record { levels = first-level h; decoded = c .before .before .before .decode .ensures .0; started = omega arith; within = omega arith }
+    record { levels = first-level h; decoded = c .before .before .before .decode .ensures; started = omega arith; within = omega arith }
 
 returns-2 : tie.Need-returns-2
 returns-2 c =
     let b = c .before .before .before .before .before .before in
     let e = sym (b .before .laid-out .ensures) ∙ not-false _ (b .if1 .left) in
-    let (d, size) = c .before .before .before .before .decode .ensures in
-    (sound-checks _ _ d e (c .before .before .before .read16 .ensures .0) (c .check-entry .ensures), (λ _. d, size))
+    let d = c .before .before .before .before .decode .ensures in
+    (sound-checks _ _ d e (c .before .before .before .read16 .ensures .0) (c .check-entry .ensures), λ _. d)
 
 pub is-sound-spec : {M : Type 1} → statement M
 is-sound-spec =

@@ -57,8 +57,8 @@ returns-4 c =
         sized = checked-sized _ _ (told .enum-told .given .1) (told .before .before .check-tables .ensures);
         sound-is = is-sound;
         fits = fits;
-        decoded = sound .is-sound .ensures .1 .0 yes;
-        places = c .places .ensures .0;
+        decoded = sound .is-sound .ensures .1 yes;
+        places = c .places .ensures;
       },
     )
 
