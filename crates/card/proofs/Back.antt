@@ -16,7 +16,7 @@ use Rattle.tables.specs.Tables.{mostTables, mostColumns}
 use Rattle.tables.specs.Values.{constantTag, judgedLevels, Value, Constant, Column, Comparison, Eq, Ne, Lt, Le, Gt, Ge, comparisonNumber, And, Or, Some, All}
 use Rattle.card.specs.Card.{mostRowEntries, AsNo, AsYes, Leaf, CompareLeaf, BlankLeaf, NotBlankLeaf, Card, LeafEntry, PairEntry, RowEntry, entries, valueFits, leafFits, rowEntryFits, cardFits}
 use Rattle.card.specs.Layout.{Head, LeafHead, PairHead, RowHead, kindOf, valueBytes, noValue, recordBytes, cardBytes, valueOf, valueFrom, zeros, headFrom, inside, entryFrom, cardFrom}
-use Rattle.card.specs.Sound.{mostEntries, columnsFit, sound, Sound}
+use Rattle.card.specs.Sound.{mostEntries, columnsFit, laid, sound, Sound}
 use Rattle.tables.proofs.Values.{comparison-back}
 use Rattle.tables.proofs.Tests.{is-true, both, bounds}
 use Rattle.card.proofs.Places.{at, at0, skip-to, from16, from32, bits-small, signed-bits}
@@ -182,7 +182,7 @@ module _ (bs : List ℕ) (s : Sound bs) where
   sound-holds = ap cardFrom (s .bytes) ∙ card-back (s .columns) (s .card) short (s .sized) (s .fits)
 
   pub sound-complete : T (sound bs)
-  unfolding sound
+  unfolding sound laid
   sound-complete =
       rw (sound-holds, s .bytes, count-back (s .columns) (s .card) short, columns-back, tables-back, card-length) (search (and-i, eqb-refl))
 

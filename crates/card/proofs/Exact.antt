@@ -14,7 +14,7 @@ use Rattle.tables.specs.Bytes.{between, byteAt, word16, word32, bytes16, bytes3
 use Rattle.tables.specs.Values.{constantTag, judgedLevels, Constant, Column, comparisonNumber, comparisonOf, Connective, And, Or, Quantifier, Some, All}
 use Rattle.card.specs.Card.{Interpretation, AsNo, AsYes, Leaf, CompareLeaf, BlankLeaf, NotBlankLeaf, Card, LeafEntry, PairEntry, RowEntry, entries, cardFits}
 use Rattle.card.specs.Layout.{recordSize, Head, LeafHead, PairHead, RowHead, kindOf, valueBytes, noValue, fieldBytes, recordBytes, kindBytes, recordsFrom, cardBytes, cardLength, entryCount, tablesIn, columnsIn, kindAt, recordAt, endAt, valueFrom, zeros, headFrom, Taken, inside, entryFrom, cardFrom}
-use Rattle.card.specs.Sound.{mostEntries, columnsFit, holdsFitting, sound, Sound}
+use Rattle.card.specs.Sound.{mostEntries, columnsFit, holdsFitting, laid, sound, Sound}
 use Rattle.tables.proofs.Tests.{both, bounds}
 use Rattle.card.proofs.Places.{tabulated, to16, to32, in-range}
 use Rattle.card.proofs.Walk.{kindPlace, recordPlace}
@@ -290,15 +290,14 @@ holds-one columns none t = absurd t
 holds-one columns (some c) t = (c, refl, t)
 
 pub sound-passed : (bs : List ℕ) → T (sound bs) → Passed bs
-unfolding sound
+unfolding sound laid
 sound-passed bs t =
-    let long = eqb (length bs) (cardLength (tablesIn bs) (entryCount bs)) in
-    let holds = holdsFitting (columnsIn bs) (cardFrom bs) in
-    let (few, t1) = both (between 1 mostEntries (entryCount bs)) (columnsFit (columnsIn bs) && (long && holds)) t in
-    let (sized, t2) = both (columnsFit (columnsIn bs)) (long && holds) t1 in
-    let (whole, t3) = both long holds t2 in
-    let (c, held, fits) = holds-one (columnsIn bs) (cardFrom bs) t3 in
-    record { card = c; few = few; sized = sized; long = eqb→eq _ _ whole; held = held; fits = fits }
+    let whole = eqb (length bs) (cardLength (tablesIn bs) (entryCount bs)) in
+    let (layout, t1) = both (between 1 mostEntries (entryCount bs) && (columnsFit (columnsIn bs) && whole)) (holdsFitting (columnsIn bs) (cardFrom bs)) t in
+    let (few, t2) = both (between 1 mostEntries (entryCount bs)) (columnsFit (columnsIn bs) && whole) layout in
+    let (sized, long) = both (columnsFit (columnsIn bs)) whole t2 in
+    let (c, held, fits) = holds-one (columnsIn bs) (cardFrom bs) t1 in
+    record { card = c; few = few; sized = sized; long = eqb→eq _ _ long; held = held; fits = fits }
 
 -- what passes the test is sound, and its columns and its card are those that it holds
 module _ (bs : List ℕ) (b : Bytes bs) (t : T (sound bs)) where

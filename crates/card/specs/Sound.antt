@@ -27,13 +27,16 @@ abbrev pub holdsFitting : List ℕ → Option Card → Bool
 holdsFitting columns none = false
 holdsFitting columns (some c) = cardFits columns judgedLevels c
 
--- the test that CHECK makes: the numbers of entries, tables and columns, no spare bytes, and one card that fits
-unfoldable pub sound : List ℕ → Bool
-sound bs =
+-- the layout: the numbers of entries, tables and columns are within the limits, and there are no spare bytes
+unfoldable pub laid : List ℕ → Bool
+laid bs =
     between 1 mostEntries (entryCount bs)
     && (columnsFit (columnsIn bs)
-    && (eqb (length bs) (cardLength (tablesIn bs) (entryCount bs))
-    && holdsFitting (columnsIn bs) (cardFrom bs)))
+    && eqb (length bs) (cardLength (tablesIn bs) (entryCount bs)))
+
+-- the test that CHECK makes: the layout, and one card that fits
+unfoldable pub sound : List ℕ → Bool
+sound bs = laid bs && holdsFitting (columnsIn bs) (cardFrom bs)
 
 -- the same, said from the card to its bytes and not back: the bytes of a card with as many entries, tables and columns as there may be, which fits
 -- them (`T` says of a test that it is true)

@@ -20,8 +20,8 @@ use Rattle.tables.specs.Values.{constantTag, judgedLevels, Connective, And, Or,
 use Rattle.cells.specs.Code.{fromExcess}
 use Rattle.card.specs.Card.{mostRowEntries, Leaf, Card, LeafEntry, PairEntry, RowEntry, valueFits, leafFits, rowEntryFits, cardFits}
 use Rattle.card.specs.Layout.{LeafHead, PairHead, RowHead, entryCount, tablesIn, columnsIn, kindAt, recordAt, endAt, headFrom, cardFrom}
-use Rattle.card.specs.Sound.{mostEntries, columnsFit, holdsFitting, sound}
-use Rattle.checker.specs.Code.{laid, Laid, Decoded, valueIn, kindIn, endIn, tableIn, leftIn, rightIn, headIn, Coded, coded-leaf, coded-pair, coded-row, Fitting, Checks, LevelsIn, Checkable}
+use Rattle.card.specs.Sound.{laid, holdsFitting, sound}
+use Rattle.checker.specs.Code.{Laid, Decoded, valueIn, kindIn, endIn, tableIn, leftIn, rightIn, headIn, Coded, coded-leaf, coded-pair, coded-row, Fitting, Checks, LevelsIn, Checkable}
 use Rattle.tables.proofs.Tests.{is-true, both, bounds}
 use Rattle.tables.proofs.Tabulated.{tabulate-at}
 use Rattle.checker.proofs.Coded.{head-1, head-2, head-3, head-4, head-5, head-6, head-7, head-8, kind-pair, kind-row, kind-leaf, coded-less, coded-end, pair-of, row-of, leaf-of, card-coded, coded-card}
@@ -313,16 +313,10 @@ same-answer true b f g = sym (f refl)
 same-answer false true f g = g refl
 same-answer false false f g = refl
 
--- where the first three tests hold, the last decides
-last-test : (a b c d : Bool) → a && (b && c) ≡ true → a && (b && (c && d)) ≡ d
-last-test true true true d e = refl
-last-test true true false d e = no-yes e
-last-test true false c d e = no-yes e
-last-test false b c d e = no-yes e
-
+-- where a card is laid out, its entries decide
 sound-held : (card : List ℕ) → laid card ≡ true → sound card ≡ holdsFitting (columnsIn card) (cardFrom card)
-unfolding sound laid
-sound-held card e = last-test (between 1 mostEntries (entryCount card)) (columnsFit (columnsIn card)) _ _ e
+unfolding sound
+sound-held card e = rw e
 
 -- table 1 at level 0
 pub first-level : {card : List ℕ} → Laid card → LevelsIn card (1 ∷ 0 ∷ 0 ∷ 0 ∷ []) 1

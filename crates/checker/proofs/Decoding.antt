@@ -23,8 +23,8 @@ use Rattle.tables.proofs.Tests.{is-true, is-so, refuted, both, bounds, between-
 use Rattle.tables.proofs.Tabulated.{tabulate-length, all-each, all-of, all-no}
 use Rattle.card.specs.Card.{AsNo, AsYes, CompareLeaf, BlankLeaf, NotBlankLeaf}
 use Rattle.card.specs.Layout.{recordSize, tablePlace, comparisonPlace, leftPlace, rightPlace, Head, LeafHead, PairHead, RowHead, cardLength, entryCount, tablesIn, columnsIn, kindAt, recordAt, endAt, valueOf, valueFrom, zeros, headFrom}
-use Rattle.card.specs.Sound.{mostEntries, columnsFit, sound}
-use Rattle.checker.specs.Code.{laid, Laid, recordFrom, fieldsFit, knownKind, numberIn, valueIn, numberFrom, fieldsOf, fieldOf, Decoded, kindIn, endIn, headIn}
+use Rattle.card.specs.Sound.{laid, mostEntries, columnsFit, sound}
+use Rattle.checker.specs.Code.{Laid, recordFrom, fieldsFit, knownKind, numberIn, valueIn, numberFrom, fieldsOf, fieldOf, Decoded, kindIn, endIn, headIn}
 use Rattle.card.proofs.Places.{in-range, bits-small, signed-bits}
 
 -- ---- the layout
@@ -90,16 +90,10 @@ module _ (card : List ℕ) where
       rw (bn, bt, bl) (e ∙ sym (and-true (all (between 1 mostColumns) (columnsIn card))))
 
 -- a sound card is laid out
-first-three : (a b c d : Bool) → T (a && (b && (c && d))) → T (a && (b && c))
-first-three true true true d t = tt
-first-three true true false d t = t
-first-three true false c d t = t
-first-three false b c d t = t
-
 module _ (card : List ℕ) where
   sound-says : T (sound card) → T (laid card)
-  unfolding sound laid
-  sound-says t = first-three (between 1 mostEntries (entryCount card)) (columnsFit (columnsIn card)) _ _ t
+  unfolding sound
+  sound-says t = both (laid card) _ t .0
 
   pub sound-laid : sound card ≡ true → laid card ≡ true
   sound-laid e = is-true (laid card) (sound-says (is-so (sound card) e))

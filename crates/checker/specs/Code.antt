@@ -13,19 +13,12 @@ use Rattle.tables.specs.Tables.{mostTables, mostColumns}
 use Rattle.tables.specs.Values.{constantTag, Value, Constant, Column, comparisonOf, Connective, And, Or, Quantifier, Some, All}
 use Rattle.cells.specs.Code.{excess, fromExcess, Holds}
 use Rattle.card.specs.Card.{AsNo, AsYes, Leaf, CompareLeaf, BlankLeaf, NotBlankLeaf, Card, LeafEntry, PairEntry, RowEntry, cardFits}
-use Rattle.card.specs.Layout.{recordSize, tablePlace, comparisonPlace, leftPlace, rightPlace, Head, LeafHead, PairHead, RowHead, cardLength, entryCount, tablesIn, columnsIn, kindAt, recordAt, zeros}
-use Rattle.card.specs.Sound.{mostEntries, columnsFit}
+use Rattle.card.specs.Layout.{recordSize, tablePlace, comparisonPlace, leftPlace, rightPlace, Head, LeafHead, PairHead, RowHead, cardLength, entryCount, tablesIn, kindAt, recordAt, zeros}
+use Rattle.card.specs.Sound.{mostEntries}
 
 -- ---- the layout
 
--- the numbers of entries, tables and columns are within the limits, and there are no spare bytes
-unfoldable pub laid : List ℕ → Bool
-laid card =
-    between 1 mostEntries (entryCount card)
-    && (columnsFit (columnsIn card)
-    && eqb (length card) (cardLength (tablesIn card) (entryCount card)))
-
--- and what that says
+-- what the layout says
 pub record Laid (card : List ℕ) : Type 0 where
   pub entries-low : 1 ≤ entryCount card
   pub entries-high : entryCount card ≤ mostEntries
