@@ -79,7 +79,7 @@ module _ (card file d g : List ℕ) (o : Opened card file d g) where
         levels = judgedLevels;
         env = judgedRow (tablesOf file) row;
         card = passed .card;
-        scene = record { sized = o .sized; places = o .places; standing = levels };
+        readable = record { sized = o .sized; places = o .places; standing = levels };
         coded = rw whole whole-card;
         deep = refl;
         few = omega (arith, laid-out card (o .sound-is) .entries-high);

@@ -123,16 +123,16 @@ module _ {g file w : List ℕ} {tag n : ℕ} (h : ValueReady g file w tag n) (no
       (ltb→lt tag (length (h .levels)) p, bounds 1 columns n q)
 
   pub level-low : (tag < 4) × (1 ≤ n)
-  level-low = let few = h .scene .standing .few in let c = column-there in (omega arith, c .1 .0)
+  level-low = let few = h .readable .standing .few in let c = column-there in (omega arith, c .1 .0)
 
   pub cell-there : CellIn file (getD g 0 0) (getD g 1 0) (getD w tag 0 + (n - 1))
   cell-there =
       let c = column-there in
-      let x = h .scene .standing .at tag (c .0) .within in
+      let x = h .readable .standing .at tag (c .0) .within in
       record {
-        sized = h .scene .sized;
-        values-at = values-of file g (h .scene .places);
-        marks-at = marks-of file g (h .scene .places);
+        sized = h .readable .sized;
+        values-at = values-of file g (h .readable .places);
+        marks-at = marks-of file g (h .readable .places);
         within = omega arith;
       }
 
@@ -140,4 +140,4 @@ module _ {g file w : List ℕ} {tag n : ℕ} (h : ValueReady g file w tag n) (no
   cell-is =
       let c = column-there in
       rw (value-column tag n not-constant)
-      (sym (row-cell file (getD w tag 0) (getD (h .levels) tag 0) (getD (h .env) tag []) n (h .scene .standing .at tag (c .0)) (c .1 .0) (c .1 .1)))
+      (sym (row-cell file (getD w tag 0) (getD (h .levels) tag 0) (getD (h .env) tag []) n (h .readable .standing .at tag (c .0)) (c .1 .0) (c .1 .1)))

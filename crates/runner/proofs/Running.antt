@@ -25,7 +25,7 @@ use Rattle.card.specs.Layout.{LeafHead, PairHead, RowHead}
 use Rattle.card.specs.Sound.{mostEntries}
 use Rattle.checker.specs.Code.{kindIn, tableIn, comparisonIn, leftIn, rightIn, headIn, Coded, coded-leaf, coded-pair, coded-row}
 use Rattle.checker.proofs.Coded.{head-1, head-2, head-3, head-4, head-5, head-6, head-7, head-8, kind-is, kind-pair, kind-row, kind-leaf, coded-less, coded-end, PairParts, RowParts, pair-of, row-of}
-use Rattle.runner.specs.Code.{rowFrom, LevelAt, Scene, ValueReady, LeafReady, Runnable, rowKind}
+use Rattle.runner.specs.Code.{rowFrom, LevelAt, Readable, ValueReady, LeafReady, Runnable, rowKind}
 use Rattle.runner.proofs.Rows.{TableAt, table-at, row-at, levels-more}
 
 -- ---- an entry without inner ones
@@ -106,10 +106,10 @@ module _ {d g file w : List ℕ} {s : ℕ} (h : LeafReady d g file w s) where
   right-fits k = right-by d (columnsOf file) (h .levels) s which k (h .fits)
 
   abbrev pub left-ready : ValueReady g file w (getD d (8 * s + 4) 0) (getD d (8 * s + 5) 0)
-  left-ready = record { levels = h .levels; env = h .env; scene = h .scene; fits = left-fits }
+  left-ready = record { levels = h .levels; env = h .env; readable = h .readable; fits = left-fits }
 
   abbrev pub right-ready : kindIn d s < 7 → ValueReady g file w (getD d (8 * s + 6) 0) (getD d (8 * s + 7) 0)
-  right-ready k = record { levels = h .levels; env = h .env; scene = h .scene; fits = right-fits k }
+  right-ready k = record { levels = h .levels; env = h .env; readable = h .readable; fits = right-fits k }
 
   module _ (x : Seen) (left : seenCell x ≡ cellOf (h .env) (leftIn d s)) where
     pub compare-answer : kindIn d s < 7 → (y : Seen) (r : Bool) → seenCell y ≡ cellOf (h .env) (rightIn d s)
@@ -253,7 +253,7 @@ module _ {d g file w : List ℕ} {s e depth : ℕ} (h : Runnable d g file w s e 
     leaf-few = let z = start in omega arith
 
     abbrev pub leaf-ready : LeafReady d g file w s
-    leaf-ready = record { levels = h .levels; env = h .env; leaf = leaf-here .leaf; scene = h .scene; head = leaf-here .head; few = leaf-few; fits = leaf-fits }
+    leaf-ready = record { levels = h .levels; env = h .env; leaf = leaf-here .leaf; readable = h .readable; head = leaf-here .head; few = leaf-few; fits = leaf-fits }
 
     pub leaf-answer : (r : Bool) → r ≡ leafSays (h .env) (leaf-here .leaf) → r ≡ answer (tablesOf file) (h .env) (h .card)
     unfolding answer
@@ -291,7 +291,7 @@ module _ {d g file w : List ℕ} {s e depth : ℕ} (h : Runnable d g file w s e 
           levels = h .levels;
           env = h .env;
           card = pair-here .left;
-          scene = h .scene;
+          readable = h .readable;
           coded = left-coded;
           deep = h .deep;
           few = left-few;
@@ -304,7 +304,7 @@ module _ {d g file w : List ℕ} {s e depth : ℕ} (h : Runnable d g file w s e 
           levels = h .levels;
           env = h .env;
           card = pair-here .right;
-          scene = h .scene;
+          readable = h .readable;
           coded = right-coded;
           deep = h .deep;
           few = h .few;
@@ -342,13 +342,13 @@ module _ {d g file w : List ℕ} {s e depth : ℕ} (h : Runnable d g file w s e 
     table-here =
         let z = columns-count file in
         let t = table-there in
-        table-at file g (h .scene .places) (h .scene .sized) (tableIn d s) (omega arith) (omega arith)
+        table-at file g (h .readable .places) (h .readable .sized) (tableIn d s) (omega arith) (omega arith)
 
     pub row-bounds : RowBounds s e depth (tableIn d s) (rowsAt g (tableIn d s))
     row-bounds =
         let z = columns-count file in
         let t = table-there in
-        let n = h .scene .sized .tables-high in
+        let n = h .readable .sized .tables-high in
         let p = h .deep in
         record {
           low = t .0 .0;
@@ -366,15 +366,15 @@ module _ {d g file w : List ℕ} {s e depth : ℕ} (h : Runnable d g file w s e 
       row-level = row-at file (tableIn d s) _ _ _ r first table-here below (passed .first-is)
 
       pub row-room : first + columnsAt g (tableIn d s) ≤ mostCells
-      row-room = let z = row-level .within in let y = table-here .columns-are in let x = h .scene .sized .cells-high in omega arith
+      row-room = let z = row-level .within in let y = table-here .columns-are in let x = h .readable .sized .cells-high in omega arith
 
-      pub inner-scene : Scene g file (set v depth first) (h .levels ++ (tableIn d s ∷ [])) (h .env ▸ rowFrom file first (columnsAt g (tableIn d s)))
-      inner-scene =
+      pub inner-readable : Readable g file (set v depth first) (h .levels ++ (tableIn d s ∷ [])) (h .env ▸ rowFrom file first (columnsAt g (tableIn d s)))
+      inner-readable =
           record {
-            sized = h .scene .sized;
-            places = h .scene .places;
+            sized = h .readable .sized;
+            places = h .readable .places;
             standing =
-                levels-more file w (h .levels) (h .env) v depth first (tableIn d s) _ (h .scene .standing) (h .deep) (row-bounds .deep)
+                levels-more file w (h .levels) (h .env) v depth first (tableIn d s) _ (h .readable .standing) (h .deep) (row-bounds .deep)
                 (passed .long) (passed .same) row-level;
           }
 
@@ -390,7 +390,7 @@ module _ {d g file w : List ℕ} {s e depth : ℕ} (h : Runnable d g file w s e 
             levels = h .levels ++ (tableIn d s ∷ []);
             env = h .env ▸ rowFrom file first (columnsAt g (tableIn d s));
             card = row-here .inner;
-            scene = inner-scene;
+            readable = inner-readable;
             coded = row-here .inner-coded;
             deep = inner-deep;
             few = h .few;

@@ -35,8 +35,8 @@ pub record Levels (file w levels : List ℕ) (env : Env) : Type 0 where
   pub rows-too : length env ≡ length levels
   pub at : (l : ℕ) → l < length levels → LevelAt file (getD w l 0) (getD levels l 0) (getD env l [])
 
--- g has the places of the tables
-pub record Scene (g file w levels : List ℕ) (env : Env) : Type 0 where
+-- the cells of a file can be read: its sizes are right, g has the places of its tables, and each level stands at a row
+pub record Readable (g file w levels : List ℕ) (env : Env) : Type 0 where
   pub sized : Sized file
   pub places : Places file g
   pub standing : Levels file w levels env
@@ -46,7 +46,7 @@ pub record Scene (g file w levels : List ℕ) (env : Env) : Type 0 where
 pub record ValueReady (g file w : List ℕ) (tag n : ℕ) : Type 0 where
   pub levels : List ℕ
   pub env : Env
-  pub scene : Scene g file w levels env
+  pub readable : Readable g file w levels env
   pub fits : T (valueFits (columnsOf file) levels (valueIn tag n))
 
 abbrev pub Sees : (g file w : List ℕ) (tag n : ℕ) → Seen → Type 0
@@ -56,7 +56,7 @@ pub record LeafReady (d g file w : List ℕ) (s : ℕ) : Type 0 where
   pub levels : List ℕ
   pub env : Env
   pub leaf : Leaf
-  pub scene : Scene g file w levels env
+  pub readable : Readable g file w levels env
   pub head : headIn d s ≡ some (LeafHead leaf)
   pub few : s < mostEntries
   pub fits : T (leafFits (columnsOf file) levels leaf)
@@ -68,7 +68,7 @@ pub record Runnable (d g file w : List ℕ) (s e depth : ℕ) : Type 0 where
   pub levels : List ℕ
   pub env : Env
   pub card : Card
-  pub scene : Scene g file w levels env
+  pub readable : Readable g file w levels env
   pub coded : Coded d s e card
   pub deep : depth ≡ length levels
   pub few : e ≤ mostEntries

@@ -521,7 +521,7 @@ run-rows-loop-holds : (t : ℕ) → run-rows-lts.Need-loop-holds (
   run-entry-below t,
   run-entry.Post,
 ) (run-rows-at t) run-rows.Post run-rows-Inv-loop run-rows-μ-loop
-run-rows-loop-holds t c = passed-none _ _ _ _ _ _ _ _ _ _ (c .before .before .before .before .before .before .before .before .pre .1 .0 .scene .standing .size)
+run-rows-loop-holds t c = passed-none _ _ _ _ _ _ _ _ _ _ (c .before .before .before .before .before .before .before .before .pre .1 .0 .readable .standing .size)
 
 run-rows-mul-v : (t : ℕ) → run-rows-lts.Need-mul-v (
   run-leaf-rows-reads.Asked,

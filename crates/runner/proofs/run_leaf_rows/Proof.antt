@@ -57,7 +57,7 @@ element-copy-out-rows : tie.Need-element-copy-out-rows Inv-loop μ-loop
 element-copy-out-rows c = let o = c .before .before .before .before in let z = row-bounds (o .pre .0) (o .args .q) (o .pre .1 .0) in omega arith
 
 loop-holds : tie.Need-loop-holds Inv-loop μ-loop
-loop-holds c = passed-none _ _ _ _ _ _ _ _ _ _ (c .before .before .before .before .before .before .pre .0 .scene .standing .size)
+loop-holds c = passed-none _ _ _ _ _ _ _ _ _ _ (c .before .before .before .before .before .before .pre .0 .readable .standing .size)
 
 mul-v : tie.Need-mul-v Inv-loop μ-loop
 mul-v c = let o = c .before .before .before .before .before .before .before .before in let z = row-bounds (o .pre .0) (o .args .q) (o .pre .1 .0) in omega arith
