@@ -71,6 +71,7 @@ module _ {A : Type 0} where
 unfoldable pub tablesRefusals : List ℕ → List Refusal
 tablesRefusals file = (1 if not (sizesFit file)) ∷ (2 if not (marksFit file)) ∷ []
 
+-- a tables file looked at by itself: nothing to answer, or refusal 1 or 2
 unfoldable pub tablesCall : List ℕ → Answer (Unit {0})
 tablesCall file = passes (tablesRefusals file)
 
