@@ -1,4 +1,5 @@
-"""RUN and LIST of the library against the same in plain C (plain.c), on the same bytes: the best of several turns\nand of several ways to link, and their ratio.
+"""RUN and LIST of the library against the same in plain C (plain.c), on the same bytes: the best of several turns and of several ways to link, and their
+ratio. READ of the library alone: how its time grows with the text, and how much stack it takes.
 
 A call is timed whole: both look at the tables and check the card each time, and for RUN of one row that is most of the time. So RUN is also compared with
 plain C that scans the marks as the library does, to the end and many at a time.
@@ -15,7 +16,8 @@ sys.path.insert(0, str(ROOT / "tests" / "model"))
 import generate  # noqa: E402
 import model  # noqa: E402
 
-CRATE = "roskudla_gate"
+GATE = "roskudla_gate"
+READER = "roskudla"
 SEED = 7
 PADDINGS = (0, 16, 32, 48)
 
@@ -41,10 +43,10 @@ def cases():
     )
 
 
-def built(folder, name, *words):
-    """A program of this folder, linked with the library, from its sources and other words for gcc."""
+def built(folder, crate, name, *words):
+    """A program of this folder, linked with a crate's archive, from its sources and other words for gcc."""
     paths = [str(ROOT / "bench" / word) if word.endswith(".c") else word for word in words]
-    archive = str(ROOT / "target" / "staticlib" / f"lib{CRATE}.a")
+    archive = str(ROOT / "target" / "staticlib" / f"lib{crate}.a")
     subprocess.run(["gcc", "-O3", "-march=x86-64", "-std=c11", "-Wall", "-Wextra", "-pthread", "-o", str(folder / name), *paths, archive], check=True)
     return folder / name
 
@@ -70,7 +72,7 @@ def deepest_card():
 
 def timers(folder, name, *words):
     """The timing program, linked so that its code lies in several ways."""
-    return [built(folder, f"{name}_{padding}", "time.c", "plain.c", f"-DPADDING={padding}", *words) for padding in PADDINGS]
+    return [built(folder, GATE, f"{name}_{padding}", "time.c", "plain.c", f"-DPADDING={padding}", *words) for padding in PADDINGS]
 
 
 def best_times(programs, folder, card, file, row):
@@ -91,16 +93,43 @@ def show_times(folder):
 
 
 def show_stack(folder):
-    program = built(folder, "stack", "stack.c")
+    program = built(folder, GATE, "stack", "stack.c")
     check, run, listed, nothing = printed(program, folder, deepest_card(), generate.tables_file([(1, [[1], [2]])]))
     print(f"stack touched on the deepest card, in bytes: CHECK {check:.0f}, RUN {run:.0f}, LIST {listed:.0f}; a thread that calls nothing, {nothing:.0f}")
 
 
+def texts():
+    """Name and text for READ: short, long, and with as many brackets and NOTs as fit, at several lengths."""
+    nested = "(" * 32 + "m.1=1" + ")" * 32
+    yield "short", "m.2 < 5"
+    yield "NOT IN", "m.1 NOT IN (SELECT v.1 FROM 1 v WHERE v.2 > 3990)"
+    yield "64 parts", "NOT " + " OR ".join(["m.1 <> -1"] * 32)
+    yield "64 parts, each in another", "NOT " * 63 + "m.1=1"
+    yield "three FROMs", "EXISTS (FROM 1 v WHERE m.1 IN (SELECT w.1 FROM 1 w WHERE w.2 = ALL (SELECT x.2 FROM 1 x WHERE x.1 > v.1)))"
+    for count in (125, 250, 500):
+        yield f"{count} tests joined", " OR ".join(["1=1"] * count)
+    for count in (14, 28, 56):
+        yield f"{count} tests, 32 brackets each", " OR ".join([nested] * count)
+    for count in (255, 511, 1023):
+        yield f"{count} NOTs", "NOT " * count + "1=1"
+
+
+def show_reading(folder):
+    program = built(folder, READER, "read", "read.c")
+    file = generate.tables_file([(2, [])])
+    print(f"{'text':28} {'bytes':>6} {'READ ns':>9} {'ns a byte':>9} {'stack':>7} {'answer':>7}")
+    for title, text in texts():
+        time, stack, status = printed(program, folder, text.encode(), file)
+        print(f"{title:28} {len(text):6} {time:9.0f} {time / len(text):9.2f} {stack:7.0f} {status:7.0f}")
+
+
 def main():
-    subprocess.run(["rt", "staticlib", CRATE], cwd=ROOT, check=True, stdout=subprocess.DEVNULL)
+    for crate in (GATE, READER):
+        subprocess.run(["rt", "staticlib", crate], cwd=ROOT, check=True, stdout=subprocess.DEVNULL)
     with tempfile.TemporaryDirectory() as name:
         show_times(pathlib.Path(name))
         show_stack(pathlib.Path(name))
+        show_reading(pathlib.Path(name))
 
 
 if __name__ == "__main__":

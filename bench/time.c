@@ -1,10 +1,7 @@
 /* time CARD TABLES ROW: the best time of one RUN and of one LIST, in nanoseconds, by the library and by plain C, taken by turns. */
-#define _POSIX_C_SOURCE 199309L
+#define _GNU_SOURCE
 #include "plain.h"
-#include <stdio.h>
-#include <stdlib.h>
-#include <string.h>
-#include <time.h>
+#include "shared.h"
 
 uint32_t roskudla_run(const uint8_t *card, size_t card_len, const uint8_t *tables, size_t tables_len, size_t row, uint8_t *answer);
 uint32_t roskudla_list(const uint8_t *card, size_t card_len, const uint8_t *tables, size_t tables_len, uint32_t *rows, size_t rows_len, size_t *count);
@@ -26,19 +23,6 @@ enum { TURNS = 15, ROOM = 1000 };
 static const double TURN_NANOSECONDS = 4e6;
 static File card, tables;
 static size_t row;
-
-static void read_file(File *file, const char *path) {
-    FILE *stream = fopen(path, "rb");
-    if (!stream) exit(2);
-    file->length = fread(file->bytes, 1, sizeof file->bytes, stream);
-    fclose(stream);
-}
-
-static double now(void) {
-    struct timespec t;
-    clock_gettime(CLOCK_MONOTONIC, &t);
-    return t.tv_sec * 1e9 + t.tv_nsec;
-}
 
 static double run_time(Run *run, long times) {
     double start = now();
@@ -78,8 +62,8 @@ static void agree(void) {
 
 int main(int count, char **words) {
     if (count != 4) return 2;
-    read_file(&card, words[1]);
-    read_file(&tables, words[2]);
+    card.length = read_file(card.bytes, sizeof card.bytes, words[1]);
+    tables.length = read_file(tables.bytes, sizeof tables.bytes, words[2]);
     row = (size_t)atol(words[3]);
     agree();
     double best[4] = {1e18, 1e18, 1e18, 1e18};

@@ -1,13 +1,12 @@
 """CHECK, RUN and LIST as built, against the reference model: damaged cards and tables, sizes and numbers at their ends, random draws.
 
-Exit status 0 when all answers and all lent lists agree, and every sort of answer was seen.
+Exit status 0 when all answers and all lent lists agree, and every sort of answer was seen, in each group those that belong to it.
 """
-import collections
 import itertools
 import random
-import sys
 import tempfile
 
+import compare
 import library
 
 import cases  # noqa: E402  (library adds the model's folder to the path)
@@ -19,46 +18,29 @@ DRAWS_OF_EACH_CALL = 4000
 LAST_ROW = 2**64 - 1
 ENDS = (-2**31, -2**31 + 1, -1, 0, 1, 2**31 - 2, 2**31 - 1)
 UNTOUCHED = cases.UNTOUCHED_NUMBER
-WANTED = {
-    "CHECK": ("given sound", "refused 9"),
-    "RUN": ("given True", "given False", "refused 1", "refused 2", "refused 9", "refused 10", "refused 11"),
-    "LIST": ("given", "refused 1", "refused 2", "refused 9", "refused 10", "refused 12"),
-}
 
 
-class Disagreement(Exception):
-    """The library and the model answer differently."""
+def run_sorts(*refusals):
+    """The sorts of answer that RUN has to have given: yes, no, and these refusals."""
+    return ("given True", "given False") + compare.refusal_sorts(*refusals)
 
 
-class Comparison:
-    """Runs cases on the library and the model, and counts the sorts of answers."""
+def list_sorts(*refusals):
+    """The sorts of answer that LIST has to have given: rows, and these refusals."""
+    return ("given",) + compare.refusal_sorts(*refusals)
 
-    def __init__(self, gate):
-        self.gate = gate
-        self.counts = collections.Counter()
 
-    def answer(self, case):
-        if case.call == "CHECK":
-            return cases.Expected(self.gate.check(case.source))
-        if case.call == "RUN":
-            return cases.Expected(self.gate.run(case.source, case.file, case.row))
-        return cases.Expected(*self.gate.list_rows(case.source, case.file, case.buffer))
+CHECK_SORTS = ("given sound",) + compare.refusal_sorts(9)
+WANTED = {"CHECK": CHECK_SORTS, "RUN": run_sorts(1, 2, 9, 10, 11), "LIST": list_sorts(1, 2, 9, 10, 12)}
 
-    def one(self, case):
-        wanted = cases.expected(case)
-        got = self.answer(case)
-        if got != wanted:
-            raise Disagreement(f"{case}\n  got    {got}\n  wanted {wanted}")
-        result = wanted.result
-        if isinstance(result, model.Refused):
-            sort = f"refused {result.number}"
-        else:
-            sort = "given" if case.call == "LIST" else f"given {result}"
-        self.counts[case.call, sort] += 1
 
-    def all(self, some):
-        for case in some:
-            self.one(case)
+def answer_of(gate, case):
+    """The gate's answer to a case."""
+    if case.call == "CHECK":
+        return cases.Expected(gate.check(case.source))
+    if case.call == "RUN":
+        return cases.Expected(gate.run(case.source, case.file, case.row))
+    return cases.Expected(*gate.list_rows(case.source, case.file, case.buffer))
 
 
 # ---- bytes of every value, and lengths
@@ -115,46 +97,40 @@ def damaged_files():
     file = generate.tables_file(SHAPE)
     for changed in itertools.chain(each_byte(file), each_length(file)):
         yield cases.Case("RUN", sheet, changed, row=0)
+        yield cases.Case("RUN", sheet, changed, row=1)
         yield cases.Case("LIST", sheet, changed, buffer=(UNTOUCHED,) * 2)
 
 
 # ---- sizes, rows and numbers at their ends
 
-def numbered_tables(sizes, bad_mark=None, more=0):
-    """A file in which each cell has a number of its own, with a mark that is too high at a place, and more bytes than fit, or fewer."""
-    cells = sum(columns * rows for columns, rows in sizes)
-    marks = bytearray(cells)
-    if bad_mark is not None and cells:
-        marks[bad_mark] = 2
-    whole = bytes([len(sizes)]) + b"".join(bytes([columns]) + rows.to_bytes(2, "little") for columns, rows in sizes)
-    whole += b"".join(cell.to_bytes(4, "little") for cell in range(cells)) + marks
-    return whole[:len(whole) + more] if more < 0 else whole + bytes(more)
+def limit_cards(sizes):
+    """Two cards for tables of these sizes.
 
-
-LIMIT_SIZES = (
-    [(1, 1000)], [(1, 1001)], [(16, 512)], [(16, 513)], [(8, 1000), (16, 12)], [(8, 1000), (16, 12), (1, 0)], [(8, 1000), (16, 12), (1, 1)],
-    [(1, 1)] * 8, [(1, 1)] * 9, [(1, 1000)] * 8, [(1, 0)] * 8, [(1, 0)], [(16, 0)], [(17, 0)], [(0, 0)])
+    One says yes where the last column of table 1 is below a number from its middle, the other where it is below the last column of some row of the last table.
+    """
+    columns = [count for count, _ in sizes]
+    last = model.TaggedValue(0, columns[0])
+    middle = model.TaggedValue(model.CONSTANT_TAG, sizes[0][1] * columns[0] // 2)
+    of_last_table = model.row_entry(3, len(sizes), model.comparison_entry(5, 3, last, model.TaggedValue(1, columns[-1])))
+    return [model.card_bytes(entry, columns) for entry in (model.comparison_entry(5, 3, last, middle), of_last_table)]
 
 
 def limit_cases():
-    """The most rows, cells and tables, none, and one too many, each with a wrong length and with a mark too high in the first cell or in the last."""
-    for sizes in LIMIT_SIZES:
-        columns = [count for count, _ in sizes]
+    """The most rows, cells, columns and tables, none, and one too many; the refusals of these tables are those that document 01 states."""
+    for sizes, file, refusal in cases.limit_files():
+        sheets = limit_cards(sizes or [(1, 0)])
+        if refusal is not None:
+            for row in (0, LAST_ROW):
+                yield compare.Stated(cases.Case("RUN", sheets[0], file, row=row), f"refused {refusal}")
+            yield compare.Stated(cases.Case("LIST", sheets[1], file, buffer=(UNTOUCHED,) * 3), f"refused {refusal}")
+            continue
         rows = sizes[0][1]
-        last = model.TaggedValue(0, columns[0])
-        middle = model.TaggedValue(model.CONSTANT_TAG, rows * columns[0] // 2)
-        of_last_table = model.row_entry(3, len(sizes), model.comparison_entry(5, 3, last, model.TaggedValue(1, columns[-1])))
-        sheets = [model.card_bytes(entry, columns) for entry in (model.comparison_entry(5, 3, last, middle), of_last_table)]
-        sound = numbered_tables(sizes)
         for sheet in sheets:
             for row in (0, 1, rows // 2, rows - 2, rows - 1, rows, rows + 1, 2**16, 2**32, 2**63, LAST_ROW):
                 if row >= 0:
-                    yield cases.Case("RUN", sheet, sound, row=row)
+                    yield cases.Case("RUN", sheet, file, row=row)
             for more in (-1, 0, 1):
-                yield cases.fitting("LIST", sheet, sound, more)
-        for file in [numbered_tables(sizes, more=more) for more in (-1, 1)] + [numbered_tables(sizes, place) for place in (0, -1)]:
-            yield cases.Case("RUN", sheets[0], file, row=0)
-            yield cases.Case("LIST", sheets[0], file, buffer=(UNTOUCHED,) * 3)
+                yield cases.fitting("LIST", sheet, file, more)
 
 
 def end_cases():
@@ -196,11 +172,8 @@ def largest_cards():
 
 def refusal_cases():
     """Every set of refusals of RUN and of LIST together."""
-    for call in ("RUN", "LIST"):
-        refusals = cases.REFUSALS_OF[call]
-        for count in range(len(refusals) + 1):
-            for chosen in itertools.combinations(refusals, count):
-                yield cases.refusal_set_case(call, chosen)
+    yield from compare.refusal_sets("RUN", "given True")
+    yield from compare.refusal_sets("LIST", "given")
 
 
 # ---- random draws
@@ -214,27 +187,25 @@ def drawn_cases():
     yield from itertools.chain(cases.card_byte_cases(), cases.card_limit_cases(), cases.row_number_cases(), cases.columns_cases())
 
 
-GROUPS = (damaged_cards, damaged_files, limit_cases, end_cases, room_cases, largest_cards, refusal_cases, drawn_cases)
+GROUPS = (
+    (damaged_cards, {"CHECK": CHECK_SORTS, "RUN": run_sorts(9, 10), "LIST": list_sorts(9, 10)}),
+    (damaged_files, {"RUN": run_sorts(1, 2), "LIST": list_sorts(1, 2)}),
+    (limit_cases, {"RUN": run_sorts(1, 2, 11), "LIST": list_sorts(1, 2, 12)}),
+    (end_cases, {"RUN": run_sorts(), "LIST": list_sorts()}),
+    (room_cases, {"LIST": list_sorts(12)}),
+    (largest_cards, {"LIST": list_sorts(9)}),
+    (refusal_cases, {"RUN": ("given True",) + compare.refusal_sorts(1, 2, 9, 10, 11), "LIST": list_sorts(1, 2, 9, 10, 12)}),
+    (drawn_cases, WANTED),
+)
 
 
 def main():
     with tempfile.TemporaryDirectory() as folder:
-        comparison = Comparison(library.Gate(library.build(folder)))
-        for group in GROUPS:
-            before = sum(comparison.counts.values())
-            comparison.all(group())
-            print(f"{group.__name__}: {sum(comparison.counts.values()) - before} answers agree")
-    missing = [(call, sort) for call, sorts in WANTED.items() for sort in sorts if comparison.counts[call, sort] == 0]
-    for call in WANTED:
-        sorts = ", ".join(f"{sort} {count}" for (of, sort), count in sorted(comparison.counts.items()) if of == call)
-        print(f"{call}: {sorts}")
-    if missing:
-        raise Disagreement(f"never seen: {missing}")
+        gate = library.Gate(library.build("roskudla_gate", folder))
+        comparison = compare.Comparison(lambda case: answer_of(gate, case))
+        comparison.groups(GROUPS)
+    comparison.demand(WANTED)
 
 
 if __name__ == "__main__":
-    try:
-        main()
-    except (Disagreement, library.OutsideWritten) as error:
-        print(error)
-        sys.exit(1)
+    compare.end_with(main)

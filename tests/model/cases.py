@@ -59,12 +59,35 @@ def expected(case):
     return Expected(len(answer), tuple(answer) + case.buffer[len(answer):])
 
 
+def outcome_of(case, stated):
+    """A short name for the sort of answer that is stated for a case."""
+    if isinstance(stated.result, model.Refused):
+        return f"refused {stated.result.number}"
+    return "given" if case.call in LENDING_CALLS else f"given {stated.result}"
+
+
 def outcome(case):
-    """A short name for the sort of answer."""
-    result = expected(case).result
-    if isinstance(result, model.Refused):
-        return f"refused {result.number}"
-    return "given" if case.call in LENDING_CALLS else f"given {result}"
+    """The same for the model's answer."""
+    return outcome_of(case, expected(case))
+
+
+# ---- parts as numbers
+
+PART_NUMBERS = 8
+
+
+def numbers_of(parts):
+    """The fields of the parts in document 01's order, a value as its tag and its number: eight numbers for each part."""
+    return tuple(
+        number
+        for part in parts
+        for number in (part.kind, part.comparison, part.table, part.end, part.left.tag, part.left.number, part.right.tag, part.right.number))
+
+
+def parts_from(numbers):
+    """The parts whose fields these numbers are, eight for each."""
+    fields = [numbers[place:place + PART_NUMBERS] for place in range(0, len(numbers), PART_NUMBERS)]
+    return tuple(model.Part(*part[:4], model.TaggedValue(*part[4:6]), model.TaggedValue(*part[6:])) for part in fields)
 
 
 # ---- building cases
@@ -289,16 +312,34 @@ def text_length_cases():
 
 # ---- targeted cases: tables
 
+def sized_tables(sizes, values, marks, more):
+    """A file with these sizes, value bytes and mark bytes, and `more` bytes behind them (or fewer, below 0)."""
+    head = bytes([len(sizes)]) + b"".join(bytes([columns]) + rows.to_bytes(2, "little") for columns, rows in sizes)
+    whole = head + values + marks
+    return whole[:len(whole) + more] if more < 0 else whole + bytes(more)
+
+
+def cell_count(sizes):
+    """The cells of tables of these sizes."""
+    return sum(columns * rows for columns, rows in sizes)
+
+
 def zero_tables(sizes, first_mark=0, more=0):
     """A file whose cells are all 0, with the first mark given, and `more` bytes than fit (or fewer, below 0)."""
-    cells = sum(columns * rows for columns, rows in sizes)
-    head = bytes([len(sizes)])
-    for columns, rows in sizes:
-        head += bytes([columns]) + rows.to_bytes(2, "little")
-    body = bytearray(5 * cells)
+    cells = cell_count(sizes)
+    marks = bytearray(cells)
     if cells:
-        body[4 * cells] = first_mark
-    return (head + bytes(body) + bytes(max(0, more)))[:len(head) + len(body) + more]
+        marks[0] = first_mark
+    return sized_tables(sizes, bytes(4 * cells), bytes(marks), more)
+
+
+def numbered_tables(sizes, bad_mark=None, more=0):
+    """A file in which each cell has a number of its own, with a mark that is too high at a place, and `more` bytes than fit (or fewer, below 0)."""
+    cells = cell_count(sizes)
+    marks = bytearray(cells)
+    if bad_mark is not None:
+        marks[bad_mark] = 2
+    return sized_tables(sizes, b"".join(cell.to_bytes(4, "little") for cell in range(cells)), bytes(marks), more)
 
 
 def table_limit_cases():
@@ -307,8 +348,7 @@ def table_limit_cases():
     for sizes in ([(16, 512), (1, 1)], [(16, 512), (1, 0)], [(1, 1000)], [(1, 1001)], [(16, 513)], [(1, 1000)] * 8, [(1, 256)]):
         for more in (-1, 0, 1):
             case = Case("JUDGE", b"m.1=0", zero_tables(sizes, 2, more))
-            cells = sum(columns * rows for columns, rows in sizes)
-            if cells <= 1000 or outcome(case) == "refused 1":
+            if cell_count(sizes) <= 1000 or outcome(case) == "refused 1":
                 cases.append(case)
     file = zero_tables([(1, 257)])
     cases += [Case("JUDGE", b"m.1=0", file, row=row) for row in (256, 257)]
@@ -321,6 +361,29 @@ def table_limit_cases():
             cases.append(fitting("READ", b"m.%d=1" % column, bytes([1, columns, 0, 0])))
             cases.append(fitting("READ", b"EXISTS(FROM 2 v WHERE v.%d IS NULL)" % column, bytes([2, 3, 0, 0, columns, 0, 0])))
     return cases
+
+
+ALLOWED_SIZES = (
+    [(1, 0)], [(1, 1000)], [(16, 0)], [(16, 512)], [(8, 1000), (16, 12)], [(8, 1000), (16, 12), (1, 0)],
+    [(1, 0)] * 8, [(1, 1)] * 8, [(1, 1000)] * 8, [(2, 1)] + [(1, 0)] * 6 + [(16, 1)])
+REFUSED_SIZES = (
+    [], [(1, 0)] * 9, [(1, 1)] * 9, [(0, 0)], [(0, 1)], [(17, 0)], [(17, 1)], [(1, 1001)], [(16, 513)], [(8, 1000), (16, 12), (1, 1)],
+    [(1, 0)] * 7 + [(0, 0)], [(1, 0)] * 7 + [(17, 0)], [(1, 0)] * 7 + [(1, 1001)])
+
+
+def limit_files():
+    """Files at the limits of tables, columns, rows and cells, as triples: sizes, file, and the refusal that document 01 states for it, or None.
+
+    Each of the sizes comes with the length that fits, with a byte less and a byte more, and with a mark too high in the first cell and in the last.
+    """
+    for sizes in ALLOWED_SIZES + REFUSED_SIZES:
+        allowed = sizes in ALLOWED_SIZES
+        yield sizes, numbered_tables(sizes), None if allowed else 1
+        for more in (-1, 1):
+            yield sizes, numbered_tables(sizes, more=more), 1
+        if cell_count(sizes) > 0:
+            for place in (0, -1):
+                yield sizes, numbered_tables(sizes, place), 2 if allowed else 1
 
 
 # ---- targeted cases: cards

@@ -15,6 +15,7 @@ use Rattle.tables.specs.Values.{constantTag, judgedLevels, Constant, Column, co
 use Rattle.card.specs.Card.{Interpretation, AsNo, AsYes, Leaf, CompareLeaf, BlankLeaf, NotBlankLeaf, Card, LeafEntry, PairEntry, RowEntry, entries, cardFits}
 use Rattle.card.specs.Layout.{recordSize, Head, LeafHead, PairHead, RowHead, kindOf, valueBytes, noValue, fieldBytes, recordBytes, kindBytes, recordsFrom, cardBytes, cardLength, entryCount, tablesIn, columnsIn, kindAt, recordAt, endAt, valueFrom, zeros, headFrom, Taken, inside, entryFrom, cardFrom}
 use Rattle.card.specs.Sound.{mostEntries, columnsFit, holdsFitting, laid, sound, Sound}
+use Rattle.tables.proofs.Values.{comparison-number}
 use Rattle.tables.proofs.Tests.{both, bounds}
 use Rattle.card.proofs.Places.{tabulated, to16, to32, in-range}
 use Rattle.card.proofs.Walk.{kindPlace, recordPlace}
@@ -61,14 +62,7 @@ all-zero (suc n) g f t =
     ap₂ _∷_ (eqb→eq (g (f 0)) 0 p) (all-zero n g (λ k. f (suc k)) q)
 
 comparison-exact : (n : ℕ) → T (between 1 6 n) → comparisonNumber (comparisonOf n) ≡ n
-comparison-exact zero t = absurd t
-comparison-exact (suc zero) t = refl
-comparison-exact (suc (suc zero)) t = refl
-comparison-exact (suc (suc (suc zero))) t = refl
-comparison-exact (suc (suc (suc (suc zero)))) t = refl
-comparison-exact (suc (suc (suc (suc (suc zero))))) t = refl
-comparison-exact (suc (suc (suc (suc (suc (suc zero)))))) t = refl
-comparison-exact (suc (suc (suc (suc (suc (suc (suc n))))))) t = absurd (omega (arith, bounds 1 6 (suc (suc (suc (suc (suc (suc (suc n))))))) t))
+comparison-exact n t = let (low, high) = bounds 1 6 n t in comparison-number n low high
 
 -- the record r with this kind is the entry h
 record Says (r : List ℕ) (kind : ℕ) (h : Head) : Type 0 where

@@ -3,8 +3,8 @@
 use mathlib.Core.Path.{_≡_}
 use mathlib.Core.Bool.{cond}
 use mathlib.Core.List.{List, [], _∷_}
-use Prim.Native.Nat.{ℕ, zero, suc, _+_, _*_, _/_, _%_, _<_, _≤_}
-use lib.IntN.{ℤ, subℕ}
+use Prim.Native.Nat.{ℕ, zero, suc, _+_, _*_, _/_, _%_, _-_, _<_, _≤_}
+use lib.IntN.{ℤ, pos, negsuc, subℕ}
 use lib.ListN.{length, getD}
 use Rattle.tables.specs.Tables.{mostTables, mostColumns, mostRows, mostCells, Cell, Blank, Present, tableCount, sizeAt, cellsBefore, cellCount, valuesAt, marksAt}
 use Rattle.cells.specs.declared.Seen.{Seen}
@@ -18,6 +18,10 @@ excess n = (n + 2147483648) % 4294967296
 -- and the signed number back
 abbrev pub fromExcess : ℕ → ℤ
 fromExcess n = subℕ n 2147483648
+
+abbrev pub toExcess : ℤ → ℕ
+toExcess (pos n) = n + 2147483648
+toExcess (negsuc n) = 2147483647 - n
 
 -- ---- arrays
 

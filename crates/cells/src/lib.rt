@@ -22,6 +22,9 @@ pub const HIGHEST_MARK: usize = 1;
 // How many numbers tell where the tables of a file stand.
 pub const PLACES: usize = 3 * MOST_TABLES + 3;
 
+// A signed number of 32 bits is kept plus this, so that signed numbers are compared as unsigned ones.
+pub const EXCESS: usize = 2147483648;
+
 // Why a call refuses, in the order of the published numbers.
 pub enum Reason {
     Sizes,
@@ -88,14 +91,14 @@ pub fn read32(bytes: &[u8], i: usize) -> usize
         + 16777216 * byte(bytes, i + 3)
 }
 
-// The signed number of the four bytes from i on, plus 2 ^ 31: so that signed numbers are compared as unsigned ones.
+// The signed number of the four bytes from i on, plus EXCESS.
 pub fn read_excess(bytes: &[u8], i: usize) -> usize
     requires { ⌜ i + 3 < length (now bytes) ⌝ }
     ensures is { λ r. ⌜ r ≡ excess (word32 (now (bytes .entry)) i) ⌝ }
     ensures small { λ r. ⌜ r < 4294967296 ⌝ }
     ensures whole { λ r. ⌜ word32 (now (bytes .entry)) i < 4294967296 ⌝ }
 {
-    (read32(bytes, i) + 2147483648) % 4294967296
+    (read32(bytes, i) + EXCESS) % 4294967296
 }
 
 // The columns of a table; j counts the tables from 0.

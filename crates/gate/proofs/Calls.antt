@@ -9,17 +9,15 @@ use lib.ListN.{length, getD, drop}
 use Rattle.tables.specs.Lists.{tabulate, same}
 use Rattle.tables.specs.Bytes.{byteAt}
 use Rattle.tables.specs.Tables.{tableCount, sizeAt, columnsOf, rowCount}
-use Rattle.tables.specs.Refusals.{_if_, firstApplying, Answer, Refused, Given, Lent, tablesRefusals}
-use Rattle.tables.specs.Refusals.{tablesCall}
+use Rattle.tables.specs.Refusals.{_if_, firstApplying, Answer, Refused, Given, Lent, tablesRefusals, tablesCall}
 use Rattle.cells.specs.Reasons.{reasonNumber, validityAnswer}
-use Rattle.cells.specs.Code.{Sized}
 use Rattle.cells.specs.declared.Reason.{Reason}
 use Rattle.cells.specs.declared.Validity.{Validity}
 use Rattle.tables.proofs.Refusals.{first-nil, first-one, first-none, first-append, first-found, unless-none, unless-some}
 use Rattle.tables.proofs.Tests.{is-true, refuted}
 use Rattle.tables.proofs.Tabulated.{tabulate-length, tabulate-at, tabulate-same}
 use Rattle.tables.proofs.Sizes.{columns-are, column-at, columns-count, same-is, same-refl}
-use Rattle.cells.proofs.Valid.{given-none, refused-some, valid-none, invalid-some, valid-sized}
+use Rattle.cells.proofs.Valid.{given-none, refused-some, tables-refuse, tables-pass}
 use Rattle.card.specs.Layout.{tablesIn, columnsIn}
 use Rattle.card.specs.Sound.{sound}
 use Rattle.card.specs.Calls.{saysYes, yesRows, checkRefusals, fitsTables, gateRefusals, runCall, listCall}
@@ -58,12 +56,6 @@ module _ (card file : List ℕ) where
 
 -- ---- what is looked at first
 
-valid : (file : List ℕ) (r : Validity) → r ≡ Validity.Valid → validityAnswer r ≡ tablesCall file → Given tt ≡ tablesCall file
-valid file r e p = sym (ap validityAnswer e) ∙ p
-
-pub checked-sized : (file : List ℕ) (r : Validity) → r ≡ Validity.Valid → validityAnswer r ≡ tablesCall file → Sized file
-checked-sized file r e p = valid-sized file (valid file r e p)
-
 pub not-ready : {A : Type 0} (x : Reason) → Prepared.NotReady x ≡ Prepared.Ready → A
 not-ready x e = let z : _≡_ {A = ℕ} 0 1 = cc in absurd (omega arith)
 
@@ -71,21 +63,18 @@ module _ (card file : List ℕ) where
   pub prepare-tables : (r : Validity) (x : Reason) → r ≡ Validity.Invalid x → validityAnswer r ≡ tablesCall file
       → Refused (reasonNumber x) ≡ prepareCall card file
   unfolding prepareCall gateRefusals
-  prepare-tables r x e p = sym (unless-some _ _ (first-found (tablesRefusals file) _ (invalid-some file (sym (ap validityAnswer e) ∙ p))))
+  prepare-tables r x e p = sym (unless-some _ _ (first-found (tablesRefusals file) _ (tables-refuse file r x e p)))
 
   module _ (r : Validity) (e : r ≡ Validity.Valid) (p : validityAnswer r ≡ tablesCall file) where
-    tables-pass : firstApplying (tablesRefusals file) ≡ none
-    tables-pass = valid-none file (valid file r e p)
-
     pub prepare-unsound : sound card ≡ false → Refused 9 ≡ prepareCall card file
     unfolding prepareCall gateRefusals checkRefusals
-    prepare-unsound s = sym (unless-some _ _ (first-append (tablesRefusals file) _ tables-pass ∙ first-one 9 (not (sound card)) _ (ap not s)))
+    prepare-unsound s = sym (unless-some _ _ (first-append (tablesRefusals file) _ (tables-pass file r e p) ∙ first-one 9 (not (sound card)) _ (ap not s)))
 
     module _ (s : sound card ≡ true) where
       gate-last : firstApplying (gateRefusals card file) ≡ firstApplying ((10 if not (fitsTables card file)) ∷ [])
       unfolding gateRefusals checkRefusals
       gate-last =
-          first-append (tablesRefusals file) _ tables-pass
+          first-append (tablesRefusals file) _ (tables-pass file r e p)
           ∙ first-append (checkRefusals card) _ (first-none 9 (not (sound card)) [] (ap not s) first-nil)
 
       pub prepare-columns : fitsTables card file ≡ false → Refused 10 ≡ prepareCall card file

@@ -1,4 +1,4 @@
--- What the C functions give back: a number that is 0 or a refusal's, and the answer through a pointer, which a refusal leaves as it was.
+-- What the C functions give back: a number that is 0 or a refusal's, and the answer through pointers; a refusal leaves what they point to as it was.
 use mathlib.Core.Bool.{Bool, true, false}
 use Prim.Native.Nat.{ℕ}
 use Rattle.tables.specs.Refusals.{Answer, Refused, Given}

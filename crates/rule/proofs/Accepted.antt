@@ -72,7 +72,7 @@ limits-are a e = go (leb (parts a) mostParts) (leb (fromsDeep a) mostFroms) refl
     go true false f g h = let z : _≡_ {A = ℕ} 0 1 = cc in absurd (omega arith)
     go false q f g h = let z : _≡_ {A = ℕ} 0 1 = cc in absurd (omega arith)
 
-limits-of : (a : WrittenCondition) → parts a ≤ mostParts → fromsDeep a ≤ mostFroms → limitsFit a ≡ true
+pub limits-of : (a : WrittenCondition) → parts a ≤ mostParts → fromsDeep a ≤ mostFroms → limitsFit a ≡ true
 unfolding limitsFit
 limits-of a p q = rw (le-leb (parts a) mostParts p, le-leb (fromsDeep a) mostFroms q)
 

@@ -20,7 +20,7 @@ module _ {A : Type 0} where
   bind-ind P none f z h = z
   bind-ind P (some x) f z h = h x refl
 
-  or-ind : (P : Option A → Type 0) (o o′ : Option A) → P o → P o′ → P (o <|> o′)
+  pub or-ind : (P : Option A → Type 0) (o o′ : Option A) → P o → P o′ → P (o <|> o′)
   or-ind P none o′ p q = q
   or-ind P (some x) o′ p q = p
 

@@ -3,6 +3,7 @@ pub mod Computed
 pub mod Every
 pub mod Found
 pub mod Reading
+pub mod Steps
 pub mod Constants
 pub mod Fits
 pub mod Parts

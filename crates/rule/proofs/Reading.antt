@@ -15,7 +15,7 @@ use Rattle.tables.specs.Values.{Comparison, Eq, Ne, And, Or, Quantifier, Some, 
 use Rattle.rule.specs.Tokens.{Fixed, Compares, Letter, Number, AND, OR, NOT, EXISTS, FROM, WHERE, Open, Close}
 use Rattle.rule.specs.Condition.{Join, Not, WrittenValue, From, Over, WrittenCondition}
 use Rattle.rule.specs.Grammar.{Tokens, IsValue, number, column, IsCondition, one-conjunction, joined-by-or, IsConjunction, one-factor, joined-by-and, IsFactor, not-factor, one-test, IsTest, bracketed, exists, is-null, is-not-null, compared, some-of, all-of, is-in, not-in, IsList, list, Reads}
-use Rattle.rule.specs.Reader.{expect, readNumber, readLetter, readFrom, Opening, Bracket, OfExists, OfList, closed, Start, Whole, Around, startList, start, Goal, condition, conjunction, factor, test, more-or, more-and, Found, branch, started, closing, read, enough, atEnd, readAll}
+use Rattle.rule.specs.Reader.{expect, readNumber, readLetter, readFrom, Opening, Bracket, OfExists, OfList, closed, Start, Whole, Around, startList, start, Goal, condition, conjunction, factor, test, more-or, more-and, Found, branch, started, closing, read, depthFor, reading, atEnd, readAll}
 use Rattle.rule.specs.Claims.{ReadingClaim}
 use Rattle.rule.proofs.Found.{bind-ind, expect-at, Promised, nothing, whole, around, start-promised, null-found, not-null-found, compared-found, list-found, some-found, all-found, in-found, not-in-found}
 
@@ -125,6 +125,13 @@ mutual
 
   list-inside : {ts rest : Tokens} {s : WrittenValue} {f : From} {w : WrittenCondition} → IsList ts s f w rest → length rest ≤ length ts
   list-inside (list v r) = omega (arith, value-inside v, condition-inside r)
+
+module _ (d : ℕ) (ts : Tokens) (x : WrittenCondition × Tokens) where
+  pub conjunction-left : read d conjunction ts ≡ some x → length (x .1) ≤ length ts
+  conjunction-left e = conjunction-inside (met conjunction ts x e (sound d conjunction ts))
+
+  pub factor-left : read d factor ts ≡ some x → length (x .1) ≤ length ts
+  factor-left e = factor-inside (met factor ts x e (sound d factor ts))
 
 -- a chain that is read so far goes on from here, at a depth that is enough
 record Goes (d : ℕ) (g : Goal) (ts : Tokens) (more : Goal) (rest : Tokens) : Type 0 where
@@ -291,16 +298,16 @@ mutual
 -- ---- all the tokens
 
 pub read-complete : (ts : Tokens) (a : WrittenCondition) → Reads ts a → readAll ts ≡ some a
-unfolding readAll expect
-read-complete ts a r = ap (_>>= atEnd) (or-ends refl (condition-goes r (enough ts) (le-refl (enough ts)) refl))
+unfolding readAll reading expect
+read-complete ts a r = ap (_>>= atEnd) (or-ends refl (condition-goes r (depthFor condition ts) (le-refl (depthFor condition ts)) refl))
 
 abbrev ReadsSome : Tokens → Option WrittenCondition → Type 0
 ReadsSome ts none = Unit {0}
 ReadsSome ts (some a) = Reads ts a
 
 reads-some : (ts : Tokens) → ReadsSome ts (readAll ts)
-unfolding readAll
-reads-some ts = bind-ind (ReadsSome ts) (read (enough ts) condition ts) atEnd tt (λ x e. go (x .1) (met condition ts x e (sound (enough ts) condition ts)))
+unfolding readAll reading
+reads-some ts = bind-ind (ReadsSome ts) (reading condition ts) atEnd tt (λ x e. go (x .1) (met condition ts x e (sound (depthFor condition ts) condition ts)))
   where
     go : {a : WrittenCondition} (rest : Tokens) → IsCondition ts a rest → ReadsSome ts (atEnd (a, rest))
     go [] c = c

@@ -180,10 +180,14 @@ edges =
     ∷ accepted (bytes "EXISTS (FROM 1 a WHERE EXISTS (FROM 1 b WHERE EXISTS (FROM 1 c WHERE a.1 = b.2)))")
     ∷ accepted (bytes "EXISTS (FROM 1 a WHERE 1 = 1) AND EXISTS (FROM 1 b WHERE 1 = 1) OR EXISTS (FROM 1 c WHERE 1 = 1) OR EXISTS (FROM 1 d WHERE 1 = 1)")
     ∷ (bytes "EXISTS (FROM 1 a WHERE EXISTS (FROM 1 b WHERE EXISTS (FROM 1 c WHERE EXISTS (FROM 1 d WHERE 1 = 1))))" refused 7)
+    ∷ accepted (bytes "1 IN (SELECT 1 FROM 1 a WHERE 1 IN (SELECT 1 FROM 1 b WHERE 1 IN (SELECT 1 FROM 1 c WHERE 1 = 1)))")
+    ∷ (bytes "1 IN (SELECT 1 FROM 1 a WHERE 1 IN (SELECT 1 FROM 1 b WHERE 1 IN (SELECT 1 FROM 1 c WHERE 1 IN (SELECT 1 FROM 1 d WHERE 1 = 1))))" refused 7)
     -- names: a negative column, an absent table or column, a letter outside its FROM, the selected value inside it
     ∷ (bytes "m.-1 = 1" refused 8) ∷ (bytes "m.3 = 1" refused 8) ∷ (bytes "m.0 = 1" refused 8) ∷ (bytes "EXISTS (FROM 4 v WHERE 1 = 1)" refused 8)
     ∷ (bytes "EXISTS (FROM 2 v WHERE v.2 = 1)" refused 8) ∷ (bytes "v.1 IN (SELECT v.1 FROM 2 v WHERE 1 = 1)" refused 8) ∷ accepted (bytes "m.2 IN (SELECT m.1 FROM 2 m WHERE m.1 = 1)")
-    -- NOT before NOT, and no test without its value
+    -- the nearest binding: table 1 has two columns, table 2 has one
+    ∷ (bytes "EXISTS (FROM 1 v WHERE EXISTS (FROM 2 v WHERE v.2 = 1))" refused 8) ∷ accepted (bytes "EXISTS (FROM 2 v WHERE EXISTS (FROM 1 v WHERE v.2 = 1))")
+    -- NOT before NOT, NOT before nothing, and a bracket that is left open
     ∷ accepted (bytes "NOT NOT 1 = 1") ∷ (bytes "NOT" refused 6) ∷ (bytes "(1 = 1" refused 6) ∷ []
 
 abbrev pub refusalAt : Edge → Option ℕ

@@ -118,7 +118,8 @@ started (some (Around o us)) around = around o us
 abbrev pub closing : Opening → WrittenCondition × Tokens → Found
 closing o w = expect Close (w .1) >>= (λ rest. some (closed o (w .0), rest))
 
--- a reading at the front of some tokens, taken as far as OR and AND go on; depth bounds how deep the calls go
+-- a reading at the front of some tokens, taken as far as OR and AND go on; depth bounds how deep the calls go. Nothing but this file and its
+-- proofs speaks of depths
 unfoldable pub read : ℕ → Goal → Tokens → Found
 read zero goal ts = none
 read (suc depth) condition ts = read depth conjunction ts >>= (λ a. read depth (more-or (a .0)) (a .1))
@@ -130,13 +131,22 @@ read (suc depth) (more-and a) ts =
 read (suc depth) factor ts = branch (expect NOT ts) (λ us. read depth factor us >>= (λ a. some (Not (a .0), a .1))) (λ _. read depth test ts)
 read (suc depth) test ts = started (start ts) (λ o us. read depth condition us >>= closing o)
 
--- a depth that is never used up
-abbrev pub enough : Tokens → ℕ
-enough ts = 8 * length ts + 5
+-- a depth that no reading of a goal uses up
+abbrev pub depthFor : Goal → Tokens → ℕ
+depthFor condition ts = 8 * length ts + 5
+depthFor conjunction ts = 8 * length ts + 4
+depthFor factor ts = 8 * length ts + 3
+depthFor test ts = 8 * length ts + 2
+depthFor (more-or a) ts = 8 * length ts + 1
+depthFor (more-and a) ts = 8 * length ts + 1
+
+-- a reading at a depth that is enough: how deep is never used up
+unfoldable pub reading : Goal → Tokens → Found
+reading goal ts = read (depthFor goal ts) goal ts
 
 abbrev pub atEnd : WrittenCondition × Tokens → Option WrittenCondition
 atEnd x = elim (x .1) [ [] ↦ some (x .0) | t ∷ ts ↦ none ]
 
 -- the reading of all the tokens; none: refusal 6
 unfoldable pub readAll : Tokens → Option WrittenCondition
-readAll ts = read (enough ts) condition ts >>= atEnd
+readAll ts = reading condition ts >>= atEnd

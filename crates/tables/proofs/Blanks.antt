@@ -2,9 +2,9 @@
 use mathlib.Core.Path.{_≡_, refl, sym, ap, ap₂, _∙_}
 use mathlib.Core.List.{List}
 use Prim.Native.Nat.{ℕ, zero, suc, _+_, _*_, _<_}
-use lib.ListN.{length, getD, take}
+use lib.ListN.{length, getD}
 use Rattle.tables.specs.Lists.{tabulate}
-use Rattle.tables.specs.Tables.{Size, tableCount, sizeAt, sizes, cellsBefore, valueBits, markOf, Row, Table, cellFrom, cellAt, tableFrom, tablesOf}
+use Rattle.tables.specs.Tables.{Size, tableCount, sizeAt, sizes, cellsBefore, valueBits, markOf, cellFrom, cellAt, tableFrom, tablesOf}
 use Rattle.tables.specs.Claims.{BlanksClaim}
 use Rattle.tables.proofs.Tabulated.{tabulate-length, tabulate-at, tabulate-same}
 

@@ -1,7 +1,8 @@
 use mathlib.Core.Path.{sym, _∙_}
 use borrow.Author.Tests.{not-true, not-false}
+use Rattle.cells.proofs.Valid.{checked-sized}
 use Rattle.gate.proofs.Judged.{laid-out}
-use Rattle.gate.proofs.Calls.{checked-sized, not-ready, prepare-tables, prepare-unsound, prepare-columns, prepare-ready}
+use Rattle.gate.proofs.Calls.{not-ready, prepare-tables, prepare-unsound, prepare-columns, prepare-ready}
 use borrow.Author.Needs.{needs}
 use Rattle.gate.proofs.prepare.Statement.{statement}
 use Rattle.gate.proofs.prepare.Tie as tie

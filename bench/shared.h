@@ -1,0 +1,40 @@
+/* What the programs here share: a file read whole, the time, and how many bytes of its stack a thread has touched after a call. */
+#ifndef SHARED_H
+#define SHARED_H
+#include <pthread.h>
+#include <stdint.h>
+#include <stdio.h>
+#include <stdlib.h>
+#include <string.h>
+#include <sys/mman.h>
+#include <time.h>
+
+enum { STACK_SIZE = 1 << 20, UNTOUCHED = 0xA5 };
+
+static inline size_t read_file(uint8_t *bytes, size_t most, const char *path) {
+    FILE *stream = fopen(path, "rb");
+    if (!stream) exit(2);
+    size_t length = fread(bytes, 1, most, stream);
+    fclose(stream);
+    return length;
+}
+
+static inline double now(void) {
+    struct timespec t;
+    clock_gettime(CLOCK_MONOTONIC, &t);
+    return t.tv_sec * 1e9 + t.tv_nsec;
+}
+
+static inline size_t touched(void *(*call)(void *)) {
+    uint8_t *stack = mmap(NULL, STACK_SIZE, PROT_READ | PROT_WRITE, MAP_PRIVATE | MAP_ANONYMOUS, -1, 0);
+    if (stack == MAP_FAILED) exit(2);
+    memset(stack, UNTOUCHED, STACK_SIZE);
+    pthread_attr_t attributes;
+    pthread_t thread;
+    pthread_attr_init(&attributes);
+    if (pthread_attr_setstack(&attributes, stack, STACK_SIZE) || pthread_create(&thread, &attributes, call, NULL) || pthread_join(thread, NULL)) exit(2);
+    size_t below = 0;
+    while (below < STACK_SIZE && stack[below] == UNTOUCHED) below++;
+    return STACK_SIZE - below;
+}
+#endif

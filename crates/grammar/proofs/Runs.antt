@@ -1,0 +1,95 @@
+-- What readValue and readFrom find at a place, by the numbers that stand there.
+use mathlib.Core.Path.{_≡_, refl}
+use mathlib.Core.List.{List}
+use mathlib.Core.Option.{none, some}
+use Prim.Native.Nat.{ℕ, _+_, _-_, _<_, _≤_}
+use native.Mathlib.Omega.{arith}
+use borrow.Author.Tests.{ne-eqb}
+use lib.ListN.{getD}
+use Rattle.tables.specs.Lists.{_>>=_}
+use Rattle.rule.specs.Tokens.{Point}
+use Rattle.rule.specs.Condition.{Named}
+use Rattle.rule.specs.Reader.{expect, readNumber, readValue, readFrom}
+use Rattle.grammar.specs.Code.{tokensFrom, Moved, ValueIs, FromIs}
+use Rattle.grammar.proofs.Tokens.{there, by-kind, number-here, letter-here, expect-to, expect-no, number-to, number-no, letter-to, letter-no}
+
+-- a place before one whose number is not 0
+pub moved : (s : List ℕ) (at last next : ℕ) → at ≤ last → next ≡ last + 1 → 0 < getD s last 0 → Moved s at next
+moved s at last next p e h = let l = there s last h in record { later = omega arith; within = omega arith }
+
+-- ---- a value: t, u and n stand here and behind
+
+module _ (s : List ℕ) (at t : ℕ) (is : t ≡ getD s at 0) where
+  pub plain-value : 256 ≤ t → ValueIs s at 0 (t - 256) (at + 1)
+  unfolding readValue
+  plain-value h = record { found = rw (is, number-here s at (omega arith)); moved = moved s at at (at + 1) (omega arith) refl (omega arith) }
+
+  pub no-value : t ≤ 70 → readValue (tokensFrom s at) ≡ none
+  unfolding readValue
+  no-value h = by-kind s at (λ ts. readValue ts ≡ none) refl (λ l. refl) (λ _ l. refl) (λ h′ l. absurd (omega arith)) (λ l. absurd (omega arith))
+
+  module _ (low : 70 < t) (high : t < 256) where
+    letter-value : readValue (tokensFrom s at) ≡ (expect Point (tokensFrom s (at + 1)) >>= (λ us. readNumber us >>= (λ n. some (Named t (n .0), n .1))))
+    unfolding readValue
+    letter-value = rw (is, letter-here s at (omega arith) (omega arith))
+
+    pub no-point : (u : ℕ) → u ≡ getD s (at + 1) 0 → (u ≡ 15 → ⊥) → readValue (tokensFrom s at) ≡ none
+    no-point u e f = rw (letter-value, expect-no s (at + 1) 15 (λ q. f (omega arith)))
+
+    module _ (n : ℕ) (point : 15 ≡ getD s (at + 1) 0) (behind : n ≡ getD s (at + 2) 0) where
+      pub no-column : n < 256 → readValue (tokensFrom s at) ≡ none
+      no-column h = rw (letter-value, expect-to s (at + 1) 15 (at + 2) (omega arith) (omega arith) (omega arith) (omega arith), number-no s (at + 2) (omega arith))
+
+      pub named-value : 256 ≤ n → ValueIs s at t (n - 256) (at + 3)
+      named-value h = record {
+        found = rw (letter-value, expect-to s (at + 1) 15 (at + 2) (omega arith) (omega arith) (omega arith) (omega arith), number-to s (at + 2) (at + 3) (omega arith) (omega arith), ne-eqb t 0 (omega arith), behind);
+        moved = moved s at (at + 2) (at + 3) (omega arith) (omega arith) (omega arith);
+      }
+
+-- ---- FROM number letter WHERE: f, n, x and w stand here and behind
+
+module _ (s : List ℕ) (at : ℕ) where
+  pub no-from : (f : ℕ) → f ≡ getD s at 0 → (f ≡ 11 → ⊥) → readFrom (tokensFrom s at) ≡ none
+  unfolding readFrom
+  no-from f e g = rw (expect-no s at 11 (λ q. g (omega arith)))
+
+  module _ (n : ℕ) (here : 11 ≡ getD s at 0) (table : n ≡ getD s (at + 1) 0) where
+    pub no-table : n < 256 → readFrom (tokensFrom s at) ≡ none
+    unfolding readFrom
+    no-table h = rw (expect-to s at 11 (at + 1) refl (omega arith) (omega arith) (omega arith), number-no s (at + 1) (omega arith))
+
+    module _ (x : ℕ) (high : 256 ≤ n) (letter : x ≡ getD s (at + 2) 0) where
+      pub no-letter : (70 < x → x < 256 → ⊥) → readFrom (tokensFrom s at) ≡ none
+      unfolding readFrom
+      no-letter h =
+          rw (
+            expect-to s at 11 (at + 1) refl (omega arith) (omega arith) (omega arith),
+            number-to s (at + 1) (at + 2) (omega arith) (omega arith),
+            letter-no s (at + 2) (λ l m. h (omega arith) (omega arith)),
+          )
+
+      module _ (w : ℕ) (low : 70 < x) (small : x < 256) (last : w ≡ getD s (at + 3) 0) where
+        pub no-where : (w ≡ 12 → ⊥) → readFrom (tokensFrom s at) ≡ none
+        unfolding readFrom
+        no-where h =
+            rw (
+              expect-to s at 11 (at + 1) refl (omega arith) (omega arith) (omega arith),
+              number-to s (at + 1) (at + 2) (omega arith) (omega arith),
+              letter-to s (at + 2) (at + 3) (omega arith) (omega arith) (omega arith),
+              expect-no s (at + 3) 12 (λ q. h (omega arith)),
+            )
+
+        pub a-from : w ≡ 12 → FromIs s at (n - 256) x (at + 4)
+        unfolding readFrom
+        a-from h = record {
+          found =
+              rw (
+                expect-to s at 11 (at + 1) refl (omega arith) (omega arith) (omega arith),
+                number-to s (at + 1) (at + 2) (omega arith) (omega arith),
+                letter-to s (at + 2) (at + 3) (omega arith) (omega arith) (omega arith),
+                expect-to s (at + 3) 12 (at + 4) (omega arith) (omega arith) (omega arith) (omega arith),
+                table,
+                letter,
+              );
+          moved = moved s at (at + 3) (at + 4) (omega arith) (omega arith) (omega arith);
+        }

@@ -1,0 +1,219 @@
+-- What a factor, a test, a condition in brackets and all the tokens read as, from what is read inside.
+use mathlib.Core.Path.{_≡_, refl, sym, ap, _∙_}
+use mathlib.Core.List.{List, _++_}
+use mathlib.Core.Option.{Option, none, some}
+use Prim.Native.Nat.{ℕ, suc, _+_, _*_, _-_, _≤_, _<_}
+use native.Mathlib.Omega.{arith}
+use lib.ListN.{length, take, getD}
+use Rattle.tables.specs.Lists.{_>>=_}
+use Rattle.rule.specs.Tokens.{Close}
+use Rattle.rule.specs.Condition.{Atom, Join, Not, Exists, Listed, WrittenCondition, parts, fromsDeep}
+use Rattle.rule.specs.Grammar.{Tokens}
+use Rattle.rule.specs.Reader.{expect, Opening, Bracket, closed, Start, start, condition, factor, test, Found, branch, started, closing, reading, atEnd, readAll}
+use Rattle.rule.proofs.Steps.{reading-factor, reading-test, reading-all}
+use Rattle.lexer.specs.Code.{tokensIn}
+use Rattle.grammar.specs.Code.{noteNumbers, notNumbers, noted, underNots, tokensFrom, WholeIs, AroundIs, BracketIs, NotsTo, Reads, ReadsAs, closedReading, WholeReading}
+use Rattle.grammar.specs.declared.Note.{Note}
+use Rattle.grammar.specs.declared.Step.{Step}
+use Rattle.grammar.specs.declared.Step.the-variants.{Next, NoReading}
+use Rattle.grammar.proofs.Tokens.{there, from-here, from-end, expect-yes, expect-no}
+use Rattle.grammar.proofs.Noting.{Noted, both-noted, one-noted, noted-nots, parts-nots, deep-nots, nots-not}
+
+-- ---- a factor: NOTs, and a test
+
+-- so many NOTs around what is read
+abbrev negate : ℕ → WrittenCondition × Tokens → Found
+negate k a = some (underNots k (a .0), a .1)
+
+-- up to a place there are NOTs, of which the last are not read yet
+pub record Negated (s : List ℕ) (at i : ℕ) : Type 0 where
+  pub later : at ≤ i
+  pub within : i ≤ length s
+  pub so-far : reading factor (tokensFrom s at) ≡ (reading factor (tokensFrom s i) >>= negate (i - at))
+
+around-nots : (k : ℕ) (o : Found) → ((o >>= negate 1) >>= negate k) ≡ (o >>= negate (suc k))
+around-nots k none = refl
+around-nots k (some x) = ap (λ (a : WrittenCondition). some (a, x .1)) (nots-not k (x .0))
+
+no-nots : (k : ℕ) (o : Found) → k ≡ 0 → o ≡ (o >>= negate k)
+no-nots k none e = refl
+no-nots k (some x) e = rw e
+
+module _ (s : List ℕ) (at : ℕ) where
+  pub negated-none : at ≤ length s → Negated s at at
+  negated-none h = record { later = omega arith; within = h; so-far = no-nots (at - at) (reading factor (tokensFrom s at)) (omega arith) }
+
+  module _ {i : ℕ} (f : Negated s at i) where
+    pub negated-once : getD s i 0 ≡ 3 → Negated s at (i + 1)
+    negated-once t =
+        let l : i < length s = there s i (omega arith) in
+        let k : i + 1 - at ≡ suc (i - at) = omega (arith, f .later) in
+        let e : reading factor (tokensFrom s i) ≡ (reading factor (tokensFrom s (i + 1)) >>= negate 1) =
+        reading-factor (tokensFrom s i) ∙ ap (λ (o : Option Tokens). branch o (λ us. reading factor us >>= negate 1) (λ _. reading test (tokensFrom s i))) (expect-yes s i 3 (omega arith) (omega arith) t) in
+        record {
+          later = omega (arith, f .later);
+          within = omega arith;
+          so-far = f .so-far ∙ ap (_>>= negate (i - at)) e ∙ around-nots (i - at) (reading factor (tokensFrom s (i + 1)))
+              ∙ ap (λ (n : ℕ). reading factor (tokensFrom s (i + 1)) >>= negate n) (sym k);
+        }
+
+    pub negated-test : (getD s i 0 ≡ 3 → ⊥) → NotsTo s at i
+    negated-test t =
+        let e : reading factor (tokensFrom s i) ≡ reading test (tokensFrom s i) =
+        reading-factor (tokensFrom s i) ∙ ap (λ (o : Option Tokens). branch o (λ us. reading factor us >>= negate 1) (λ _. reading test (tokensFrom s i))) (expect-no s i 3 t) in
+        record { later = f .later; within = f .within; skipped = f .so-far ∙ ap (_>>= negate (i - at)) e }
+
+module _ {s : List ℕ} {at i : ℕ} (t : NotsTo s at i) where
+  pub factor-not : reading test (tokensFrom s i) ≡ none → reading factor (tokensFrom s at) ≡ none
+  factor-not e = t .skipped ∙ ap (_>>= negate (i - at)) e
+
+  pub factor-reads : {w : ℕ} {old mid new : List ℕ} {next n d : ℕ} → Reads (reading test (tokensFrom s i)) s i w old mid next n d
+      → (n + (i - at) ≤ 64 → take (8 * (n + (i - at))) new ≡ take (8 * n) mid ++ notNumbers (i - at))
+      → Reads (reading factor (tokensFrom s at)) s at w old new next (n + (i - at)) d
+  factor-reads {w} {old} {mid} {new} {next} {n} {d} r put =
+      let a : WrittenCondition = r .tree in
+      let h : at ≤ i = t .later in
+      let p : n ≡ w + parts a = r .count in
+      let u : n + i ≤ next + w = r .used in
+      let x : Noted old mid w n (noted a) = record { first = r .notes } in
+      let y : Noted mid new n (n + (i - at)) (notNumbers (i - at)) = record { first = put } in
+      let noting = both-noted (omega arith) x y in
+      record {
+        tree = underNots (i - at) a;
+        reads = t .skipped ∙ ap (_>>= negate (i - at)) (r .reads);
+        moved = record { later = omega (arith, r .moved .later); within = r .moved .within };
+        count = rw (parts-nots (i - at) a) (omega arith);
+        froms = r .froms ∙ sym (deep-nots (i - at) a);
+        used = omega arith;
+        notes = rw (noted-nots (i - at) a) (noting .first);
+      }
+
+-- ---- a condition has at least as many parts as FROMs
+
+deep-parts : (a : WrittenCondition) → fromsDeep a ≤ parts a
+unfolding fromsDeep parts
+deep-parts (Atom x) = omega arith
+deep-parts (Join j a b) = omega (arith, deep-parts a, deep-parts b)
+deep-parts (Not a) = omega (arith, deep-parts a)
+deep-parts (Exists f a) = omega (arith, deep-parts a)
+deep-parts (Listed q op l s f a) = omega (arith, deep-parts a)
+
+pub shallow : {found : Found} {s : List ℕ} {at w : ℕ} {old new : List ℕ} {next n d : ℕ} → Reads found s at w old new next n d → d ≤ n
+shallow r = omega (arith, r .count, r .froms, deep-parts (r .tree))
+
+-- ---- a condition in brackets
+
+module _ {s : List ℕ} {at w : ℕ} {old new : List ℕ} {next n d : ℕ} (r : Reads (reading condition (tokensFrom s at)) s at w old new next n d) where
+  pub closed-reads : getD s next 0 ≡ 14 → Reads (closedReading (tokensFrom s at)) s at w old new (next + 1) n d
+  closed-reads t =
+      let l : next < length s = there s next (omega arith) in
+      record {
+        tree = r .tree;
+        reads = ap (_>>= closing Bracket) (r .reads) ∙ ap (_>>= (λ rest. some (r .tree, rest))) (expect-yes s next 14 (omega arith) (omega arith) t);
+        moved = record { later = omega (arith, r .moved .later); within = omega arith };
+        count = r .count;
+        froms = r .froms;
+        used = omega (arith, r .used);
+        notes = r .notes;
+      }
+
+  pub closed-not : (getD s next 0 ≡ 14 → ⊥) → closedReading (tokensFrom s at) ≡ none
+  closed-not t = ap (_>>= closing Bracket) (r .reads) ∙ ap (_>>= (λ rest. some (r .tree, rest))) (expect-no s next 14 t)
+
+pub unread-not : (ts : Tokens) → reading condition ts ≡ none → closedReading ts ≡ none
+unread-not ts e = ap (_>>= closing Bracket) e
+
+-- ---- a test, by its start
+
+-- what stands around a condition in brackets
+abbrev put-around : Opening → WrittenCondition × Tokens → Found
+put-around op a = some (closed op (a .0), a .1)
+
+closing-around : (op : Opening) (o : Found) → (o >>= closing op) ≡ ((o >>= closing Bracket) >>= put-around op)
+closing-around op none = refl
+closing-around op (some x) = go (expect Close (x .1))
+  where
+    go : (o : Option Tokens) → (o >>= (λ rest. put-around op (x .0, rest))) ≡ ((o >>= (λ rest. put-around Bracket (x .0, rest))) >>= put-around op)
+    go none = refl
+    go (some rest) = refl
+
+module _ (s : List ℕ) (at : ℕ) where
+  begins : {o : Option Start} → start (tokensFrom s at) ≡ o → reading test (tokensFrom s at) ≡ started o (λ op us. reading condition us >>= closing op)
+  begins e = reading-test (tokensFrom s at) ∙ ap (λ (o : Option Start). started o (λ op us. reading condition us >>= closing op)) e
+
+  pub test-not : start (tokensFrom s at) ≡ none → reading test (tokensFrom s at) ≡ none
+  test-not e = begins e
+
+  pub whole-reads : {note : Note} {next : ℕ} → WholeIs s at (start (tokensFrom s at)) note next → {w : ℕ} {old new : List ℕ} → (w < 64 → take (8 * (w + 1)) new ≡ take (8 * w) old ++ noteNumbers note)
+      → Reads (reading test (tokensFrom s at)) s at w old new next (w + 1) 0
+  whole-reads {note} {next} f {w} {old} {new} put =
+      record {
+        tree = f .whole;
+        reads = begins (f .found);
+        moved = f .moved;
+        count = omega (arith, f .one);
+        froms = sym (f .flat);
+        used = omega (arith, f .moved .later);
+        notes = (one-noted note (sym (f .notes)) put) .first;
+      }
+
+  bracket-same : {next : ℕ} → BracketIs s at (start (tokensFrom s at)) next → reading test (tokensFrom s at) ≡ closedReading (tokensFrom s next)
+  bracket-same f = begins (f .found)
+
+  pub bracket-reads : {next : ℕ} → BracketIs s at (start (tokensFrom s at)) next → (w : ℕ) (old new : List ℕ) (r : Step) → ReadsAs (closedReading (tokensFrom s next)) s next w old new r
+      → ReadsAs (reading test (tokensFrom s at)) s at w old new r
+  bracket-reads f w old new NoReading e = bracket-same f ∙ e
+  bracket-reads f w old new (Next behind n d) r =
+      record {
+        tree = r .tree;
+        reads = bracket-same f ∙ r .reads;
+        moved = record { later = omega (arith, f .moved .later, r .moved .later); within = r .moved .within };
+        count = r .count;
+        froms = r .froms;
+        used = omega (arith, f .moved .later, r .used);
+        notes = r .notes;
+      }
+
+  module _ {note : Note} {next : ℕ} (f : AroundIs s at (start (tokensFrom s at)) note next) where
+    around-same : reading test (tokensFrom s at) ≡ (closedReading (tokensFrom s next) >>= put-around (f .opening))
+    around-same = begins (f .found) ∙ closing-around (f .opening) (reading condition (tokensFrom s next))
+
+    pub around-not : closedReading (tokensFrom s next) ≡ none → reading test (tokensFrom s at) ≡ none
+    around-not e = around-same ∙ ap (_>>= put-around (f .opening)) e
+
+    pub around-reads : {w : ℕ} {old mid new : List ℕ} {behind n d : ℕ} → Reads (closedReading (tokensFrom s next)) s next w old mid behind n d
+        → (n < 64 → take (8 * (n + 1)) new ≡ take (8 * n) mid ++ noteNumbers note) → Reads (reading test (tokensFrom s at)) s at w old new behind (n + 1) (d + 1)
+    around-reads {w} {old} {mid} {new} {behind} {n} {d} r put =
+        let a : WrittenCondition = r .tree in
+        let x : Noted old mid w n (noted a) = record { first = r .notes } in
+        let noting = both-noted {n = n} (omega arith) x (one-noted note refl put) in
+        record {
+          tree = closed (f .opening) a;
+          reads = around-same ∙ ap (_>>= put-around (f .opening)) (r .reads);
+          moved = record { later = omega (arith, f .moved .later, r .moved .later); within = r .moved .within };
+          count = omega (arith, f .one a, r .count);
+          froms = omega (arith, f .deeper a, r .froms);
+          used = omega (arith, f .moved .later, r .used);
+          notes = rw (f .notes a) (noting .first);
+        }
+
+-- ---- all the tokens
+
+pub all-not : (s : List ℕ) → reading condition (tokensFrom s 0) ≡ none → readAll (tokensIn s) ≡ none
+all-not s e = reading-all (tokensIn s) ∙ ap (_>>= atEnd) e
+
+module _ {s old new : List ℕ} {next n d : ℕ} (r : Reads (reading condition (tokensFrom s 0)) s 0 0 old new next n d) where
+  pub all-reads : next ≡ length s → WholeReading s new n d
+  all-reads e =
+      record {
+        tree = r .tree;
+        reads = reading-all (tokensIn s) ∙ ap (_>>= atEnd) (r .reads) ∙ ap (λ (ts : Tokens). atEnd (r .tree, ts)) (from-end s next (omega arith));
+        count = omega (arith, r .count);
+        froms = r .froms;
+        notes = r .notes;
+      }
+
+  pub all-more : (next ≡ length s → ⊥) → readAll (tokensIn s) ≡ none
+  all-more h =
+      let l : next < length s = omega (arith, r .moved .within) in
+      reading-all (tokensIn s) ∙ ap (_>>= atEnd) (r .reads) ∙ ap (λ (ts : Tokens). atEnd (r .tree, ts)) (from-here s next l)

@@ -1,0 +1,88 @@
+-- A comparison, and behind it another value, or SOME or ALL and a list.
+use mathlib.Core.Path.{refl}
+use native.Mathlib.Omega.{arith}
+use Prim.Native.Nat.{_+_}
+use Rattle.grammar.proofs.Begun.{value-is, value-missing}
+use Rattle.grammar.proofs.Following.{nothing-compared, a-comparison, a-some-list, an-all-list}
+use borrow.Author.Needs.{needs}
+use Rattle.grammar.proofs.start_comparison.Statement.{statement}
+use Rattle.grammar.proofs.start_comparison.Tie as tie
+
+token-requires : tie.Need-token-requires
+token-requires c κs = search needs
+
+sub-comparison : tie.Need-sub-comparison
+sub-comparison c = search needs
+
+add-token : tie.Need-add-token
+add-token c = search needs
+
+token-requires-2 : tie.Need-token-requires-2
+token-requires-2 c κs = search needs
+
+add-start-list : tie.Need-add-start-list
+add-start-list c = search needs
+
+start-list-requires : tie.Need-start-list-requires
+start-list-requires c κs = (c .before .before .before .before .pre .0, (omega (arith, c .before .token2 .ensures .1 (omega arith)), (omega arith, omega arith)))
+
+returns : tie.Need-returns
+returns c =
+    let a = c .before .before .before .before .before .args in
+    a-some-list (a .letter) (a .number) (a .s .now) (a .at) _ (c .before .before .before .token .ensures .0) (omega arith) (omega arith) (omega arith) (c .start-list .result) (c .start-list .ensures)
+
+add-start-list-2 : tie.Need-add-start-list-2
+add-start-list-2 c = search needs
+
+start-list-requires-2 : tie.Need-start-list-requires-2
+start-list-requires-2 c κs = (c .before .before .before .before .before .pre .0, (omega (arith, c .before .before .token2 .ensures .1 (omega arith)), (omega arith, omega arith)))
+
+returns-2 : tie.Need-returns-2
+returns-2 c =
+    let a = c .before .before .before .before .before .before .args in
+    an-all-list (a .letter) (a .number) (a .s .now) (a .at) _ (c .before .before .before .before .token .ensures .0) (omega arith) (omega arith) (omega arith) (c .start-list2 .result) (c .start-list2 .ensures)
+
+add-read-value : tie.Need-add-read-value
+add-read-value c = search needs
+
+read-value-requires : tie.Need-read-value-requires
+read-value-requires c κs = search needs
+
+enum-known-right-letter : tie.Need-enum-known-right-letter
+enum-known-right-letter c = search needs
+
+enum-told : tie.Need-enum-told
+enum-told c = search needs
+
+returns-3 : tie.Need-returns-3
+returns-3 c =
+    let a = c .before .before .before .before .before .before .before .before .args in
+    nothing-compared _ (a .s .now) (a .at) (c .before .before .before .before .before .before .before .before .pre .1 .1 .0) (c .before .before .before .before .before .before .before .before .pre .1 .1 .1) (λ e. omega arith) (λ e. omega arith)
+    (value-missing (a .s .now) (a .at + 1) (c .enum-told .given .1) (c .before .before .read-value .ensures))
+
+returns-4 : tie.Need-returns-4
+returns-4 c =
+    let a = c .before .before .before .before .before .before .before .before .before .args in
+    let v = value-is (a .s .now) (a .at + 1) (c .before .right-letter .given .1) (c .before .before .before .read-value .ensures) in
+    a-comparison (a .letter) (a .number) (a .s .now) (a .at) _ (c .before .before .before .before .before .before .before .token .ensures .0) (omega arith) (omega arith) _ _ _ v _ refl
+
+pub start-comparison-spec : {M : Type 1} → statement M
+start-comparison-spec =
+    tie.close
+    (tie.spec
+    token-requires
+    sub-comparison
+    add-token
+    token-requires-2
+    add-start-list
+    start-list-requires
+    returns
+    add-start-list-2
+    start-list-requires-2
+    returns-2
+    add-read-value
+    read-value-requires
+    enum-known-right-letter
+    enum-told
+    returns-3
+    returns-4)

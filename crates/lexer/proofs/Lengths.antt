@@ -1,0 +1,117 @@
+-- How many bytes a token takes: at least one, and no more than there are.
+use mathlib.Core.Path.{_≡_, refl}
+use mathlib.Core.Bool.{Bool, true, false, _&&_}
+use mathlib.Core.List.{List, [], _∷_}
+use mathlib.Core.Option.{Option, none, some}
+use Prim.Native.Nat.{ℕ, suc, _+_, _≤_}
+use native.Mathlib.Omega.{arith}
+use lib.Dec.{T, eqb, leb, leb→le}
+use lib.IntN.{ℤ, pos, negℤ}
+use lib.ListN.{length}
+use Rattle.tables.specs.Lists.{same, all, only}
+use Rattle.tables.specs.Bytes.{between, inRange}
+use Rattle.tables.proofs.Tests.{both, bounds, is-so}
+use Rattle.rule.specs.Tokens.{Letter, Number, Lexed, Spelling, bytes, begins, takeWhile, words, wordIn, signs, signIn, spelled, numberFrom, firstToken}
+use Rattle.lexer.proofs.Runs.{run-length}
+
+-- the token found, if any, takes at least one byte and at most so many
+abbrev pub Takes : ℕ → Option Lexed → Type 0
+Takes most none = Unit {0}
+Takes most (some x) = (1 ≤ x .1) × (x .1 ≤ most)
+
+takes-more : (a b : ℕ) (x : Option Lexed) → a ≤ b → Takes a x → Takes b x
+takes-more a b none h t = tt
+takes-more a b (some x) h t = (t .0, omega (arith, t .1, h))
+
+word-takes : (ss : List Spelling) (w : List ℕ) → 1 ≤ length w → Takes (length w) (wordIn ss w)
+unfolding wordIn
+word-takes [] w h = tt
+word-takes (s ∷ ss) w h = go (same (s .text) w) (word-takes ss w h)
+  where
+    go : (t : Bool) → Takes (length w) (wordIn ss w) → Takes (length w) (elim t [ true ↦ some (s .token, length w) | false ↦ wordIn ss w ])
+    go true r = (h, omega arith)
+    go false r = r
+
+number-takes : (sign : ℕ → ℤ) (before : ℕ) (ds : List ℕ) → Takes (before + length ds) (numberFrom sign before ds)
+unfolding numberFrom
+number-takes sign before ds = go (between 1 10 (length ds) && inRange (sign (spelled 0 ds))) refl
+  where
+    go : (t : Bool) → (between 1 10 (length ds) && inRange (sign (spelled 0 ds))) ≡ t → Takes (before + length ds) (only t (Number (sign (spelled 0 ds)), before + length ds))
+    go true e =
+        let (p, q) = bounds 1 10 (length ds) (both (between 1 10 (length ds)) (inRange (sign (spelled 0 ds))) (is-so _ e) .0) in (omega arith, omega arith)
+    go false e = tt
+
+begins-length : (a b : List ℕ) → T (begins a b) → length a ≤ length b
+begins-length [] b h = omega arith
+begins-length (x ∷ a) [] h = absurd h
+begins-length (x ∷ a) (y ∷ b) h = let r = begins-length a b (both (eqb x y) (begins a b) h .1) in omega (arith, r)
+
+abbrev not-empty : Spelling → Bool
+not-empty s = leb 1 (length (s .text))
+
+no-sign-empty : T (all not-empty signs)
+unfolding signs bytes
+no-sign-empty = tt
+
+sign-takes : (ss : List Spelling) (l : List ℕ) → T (all not-empty ss) → Takes (length l) (signIn ss l)
+unfolding signIn
+sign-takes [] l f = tt
+sign-takes (s ∷ ss) l f =
+    let (p, q) = both (not-empty s) (all not-empty ss) f in
+    go (begins (s .text) l) refl (leb→le 1 (length (s .text)) p) (sign-takes ss l q)
+  where
+    go : (t : Bool) → begins (s .text) l ≡ t → 1 ≤ length (s .text) → Takes (length l) (signIn ss l)
+        → Takes (length l) (elim t [ true ↦ some (s .token, length (s .text)) | false ↦ signIn ss l ])
+    go true e h r = (h, begins-length (s .text) l (is-so _ e))
+    go false e h r = r
+
+-- the run that starts at a byte of the class
+run-starts : (p : ℕ → Bool) (b : ℕ) (bs : List ℕ) → p b ≡ true → 1 ≤ length (takeWhile p (b ∷ bs))
+unfolding takeWhile
+run-starts p b bs e = rw (takeWhile, e) (omega arith)
+
+-- ---- by the class of the first byte
+
+module _ (b : ℕ) (bs : List ℕ) where
+  abbrev capitals : List ℕ
+  capitals = takeWhile (between 65 90) (b ∷ bs)
+
+  abbrev digits : List ℕ
+  digits = takeWhile (between 48 57) (b ∷ bs)
+
+  abbrev more : List ℕ
+  more = takeWhile (between 48 57) bs
+
+  capital-takes : between 65 90 b ≡ true → Takes (suc (length bs)) (wordIn words capitals)
+  capital-takes e =
+      takes-more (length capitals) (suc (length bs)) (wordIn words capitals) (run-length (between 65 90) (b ∷ bs)) (word-takes words capitals (run-starts (between 65 90) b bs e))
+
+  digit-takes : Takes (suc (length bs)) (numberFrom pos 0 digits)
+  digit-takes = takes-more (0 + length digits) (suc (length bs)) (numberFrom pos 0 digits) (omega (arith, run-length (between 48 57) (b ∷ bs))) (number-takes pos 0 digits)
+
+  minus-takes : Takes (suc (length bs)) (numberFrom (λ n. negℤ (pos n)) 1 more)
+  minus-takes =
+      takes-more (1 + length more) (suc (length bs)) (numberFrom (λ n. negℤ (pos n)) 1 more) (omega (arith, run-length (between 48 57) bs)) (number-takes (λ n. negℤ (pos n)) 1 more)
+
+  pub first-takes : Takes (suc (length bs)) (firstToken b bs)
+  unfolding firstToken
+  first-takes = go (between 65 90 b) refl (between 97 122 b) (between 48 57 b) (eqb b 45)
+    where
+      go : (capital : Bool) → between 65 90 b ≡ capital → (small digit minus : Bool)
+          → Takes (suc (length bs)) (elim capital [
+            | true ↦ wordIn words capitals
+            | false ↦
+                elim small [
+                  | true ↦ some (Letter b, 1)
+                  | false ↦
+                      elim digit [
+                        | true ↦ numberFrom pos 0 digits
+                        | false ↦ elim minus [ true ↦ numberFrom (λ n. negℤ (pos n)) 1 more | false ↦ signIn signs (b ∷ bs) ]
+                      ]
+                ]
+          ])
+      go true e small digit minus = capital-takes e
+      go false e true digit minus = (omega arith, omega arith)
+      go false e false true minus = digit-takes
+      go false e false false true = minus-takes
+      go false e false false false = sign-takes signs (b ∷ bs) no-sign-empty

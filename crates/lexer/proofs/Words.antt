@@ -1,0 +1,170 @@
+-- A word is found by the number that it spells in base 256: no byte of a word or of a run of capitals is 0, so no two spell the same number.
+use mathlib.Core.Path.{_≡_, refl, sym, ap, ap₂, subst, _∙_}
+use mathlib.Core.Bool.{Bool, true, false, cond, _&&_}
+use mathlib.Core.List.{List, [], _∷_, _++_}
+use mathlib.Core.Option.{Option, none, some}
+use Prim.Native.Nat.{ℕ, _+_, _*_, _-_, _≤_, _<_}
+use native.Mathlib.Omega.{arith}
+use borrow.Author.Tests.{eqb-true, eqb-false, eq-eqb, ne-eqb, lt-ltb, leb-true, leb-false}
+use lib.Ieee.Fits.{and-i}
+use lib.Dec.{T, eqb, leb, leb→le}
+use lib.ListN.{length, take, drop, take-append-drop, length-drop}
+use Rattle.tables.specs.Lists.{same, all}
+use Rattle.tables.specs.Bytes.{between}
+use Rattle.tables.proofs.Tests.{both, bounds, between-yes, is-so, is-true, refuted}
+use Rattle.tables.proofs.Sizes.{same-is, same-refl}
+use Rattle.rule.specs.Tokens.{Token, Fixed, Compares, Letter, Number, Spelling, Lexed, bytes, takeWhile, words, wordIn}
+use Rattle.lexer.proofs.Runs.{run-take}
+use Rattle.lexer.specs.Code.{tokenOf, codeOf, inBase, wordCode}
+
+abbrev value : ℕ → List ℕ → ℕ
+value n l = inBase 256 0 n l
+
+abbrev Digits : List ℕ → Type 0
+Digits l = T (all (between 1 255) l)
+
+-- ---- what two runs spell
+
+value-up : (n : ℕ) (l : List ℕ) → n ≤ value n l
+value-up n [] = omega arith
+value-up n (b ∷ bs) = omega (arith, value-up (256 * n + (b - 0)) bs)
+
+value-append : (n : ℕ) (a b : List ℕ) → value n (a ++ b) ≡ value (value n a) b
+value-append n [] b = refl
+value-append n (x ∷ a) b = value-append (256 * n + (x - 0)) a b
+
+-- runs of one length that spell the same are the same
+same-value : (a b : List ℕ) (n m : ℕ) → Digits a → Digits b → length a ≡ length b → value n a ≡ value m b → (n ≡ m) × (a ≡ b)
+same-value [] [] n m da db l e = (e, refl)
+same-value [] (y ∷ b) n m da db l e = absurd (omega (arith, l))
+same-value (x ∷ a) [] n m da db l e = absurd (omega (arith, l))
+same-value (x ∷ a) (y ∷ b) n m da db l e =
+    let (dx, da′) = both (between 1 255 x) (all (between 1 255) a) da in
+    let (dy, db′) = both (between 1 255 y) (all (between 1 255) b) db in
+    let (p, q) = same-value a b (256 * n + (x - 0)) (256 * m + (y - 0)) da′ db′ (omega (arith, l)) e in
+    let hx = bounds 1 255 x dx in
+    let hy = bounds 1 255 y dy in
+    let x-y : x ≡ y = omega (arith, p, hx .0, hx .1, hy .0, hy .1) in (omega (arith, p, x-y), ap₂ _∷_ x-y q)
+
+-- a run that spells 0 is empty
+no-value : (l : List ℕ) → Digits l → value 0 l ≡ 0 → l ≡ []
+no-value [] d e = refl
+no-value (x ∷ l) d e =
+    let h = bounds 1 255 x (both (between 1 255 x) (all (between 1 255) l) d .0) in
+    absurd (omega (arith, h .0, value-up (256 * 0 + (x - 0)) l, e))
+
+digits-append : (a b : List ℕ) → Digits (a ++ b) → Digits a × Digits b
+digits-append [] b d = (tt, d)
+digits-append (x ∷ a) b d =
+    let (p, q) = both (between 1 255 x) (all (between 1 255) (a ++ b)) d in
+    let (r, s) = digits-append a b q in (and-i (between 1 255 x) (all (between 1 255) a) p r, s)
+
+-- the longer run has the other at its end
+value-of-longer : (a b : List ℕ) → Digits a → Digits b → length a ≤ length b → value 0 a ≡ value 0 b → a ≡ b
+value-of-longer a b da db h e =
+    let k = length b - length a in
+    let whole = take-append-drop k b in
+    let (df, dr) = digits-append (take k b) (drop k b) (subst Digits (sym whole) db) in
+    let long : length a ≡ length (drop k b) = omega (arith, length-drop k b) in
+    let (p, q) = same-value a (drop k b) 0 (value 0 (take k b)) da dr long (e ∙ ap (value 0) (sym whole) ∙ value-append 0 (take k b) (drop k b)) in
+    q ∙ ap (λ (l : List ℕ). l ++ drop k b) (sym (no-value (take k b) df (sym p))) ∙ whole
+
+value-one : (a b : List ℕ) → Digits a → Digits b → value 0 a ≡ value 0 b → a ≡ b
+value-one a b da db e = go (leb (length a) (length b)) refl
+  where
+    go : (t : Bool) → leb (length a) (length b) ≡ t → a ≡ b
+    go true l = value-of-longer a b da db (leb-true (length a) (length b) l) e
+    go false l = let m = leb-false (length a) (length b) l in sym (value-of-longer b a db da (omega arith) (sym e))
+
+-- ---- words
+
+-- comparing two runs is comparing what they spell
+same-by-value : (a b : List ℕ) → Digits a → Digits b → same a b ≡ eqb (value 0 a) (value 0 b)
+same-by-value a b da db = go (eqb (value 0 a) (value 0 b)) refl
+  where
+    go : (t : Bool) → eqb (value 0 a) (value 0 b) ≡ t → same a b ≡ t
+    go true e = ap (same a) (sym (value-one a b da db (eqb-true (value 0 a) (value 0 b) e))) ∙ is-true (same a a) (same-refl a)
+    go false e = refuted (same a b) (λ t. eqb-false (value 0 a) (value 0 b) e (ap (value 0) (same-is a b t)))
+
+-- what the laws below ask of a word
+abbrev word-token : Token → Bool
+word-token (Fixed k) = between 1 15 k
+word-token (Compares op) = false
+word-token (Letter x) = false
+word-token (Number n) = false
+
+abbrev fits-word : Spelling → Bool
+fits-word s = word-token (s .token) && (all (between 1 255) (s .text) && leb (length (s .text)) 6)
+
+every-word-fits : T (all fits-word words)
+unfolding words bytes
+every-word-fits = tt
+
+word-code-back : (t : Token) → T (word-token t) → (tokenOf (codeOf t) ≡ t) × (0 < codeOf t)
+unfolding tokenOf
+word-code-back (Fixed k) h = let (p, q) = bounds 1 15 k h in (rw (lt-ltb k 65 (omega arith)), p)
+word-code-back (Compares op) h = absurd h
+word-code-back (Letter x) h = absurd h
+word-code-back (Number n) h = absurd h
+
+first-word : (s : Spelling) (ss : List Spelling) → T (all fits-word (s ∷ ss)) → T (word-token (s .token)) × Digits (s .text) × (length (s .text) ≤ 6) × T (all fits-word ss)
+first-word s ss h =
+    let (p, rest) = both (fits-word s) (all fits-word ss) h in
+    let (t, q) = both (word-token (s .token)) (all (between 1 255) (s .text) && leb (length (s .text)) 6) p in
+    let (d, l) = both (all (between 1 255) (s .text)) (leb (length (s .text)) 6) q in (t, d, leb→le (length (s .text)) 6 l, rest)
+
+-- the word with a number; 0: none
+abbrev numbered-word : ℕ → ℕ → Option Lexed
+numbered-word c n = cond (eqb c 0) none (some (tokenOf c, n))
+
+word-by-value : (ss : List Spelling) (w : List ℕ) → T (all fits-word ss) → Digits w → wordIn ss w ≡ numbered-word (wordCode ss (value 0 w)) (length w)
+unfolding wordIn wordCode
+word-by-value [] w f d = refl
+word-by-value (s ∷ ss) w f d =
+    let (t, ds, short, rest) = first-word s ss f in
+    let (is, low) = word-code-back (s .token) t in
+    go (eqb (value 0 (s .text)) (value 0 w)) (same-by-value (s .text) w ds d) is low (word-by-value ss w rest d)
+  where
+    go : (t : Bool) → same (s .text) w ≡ t → tokenOf (codeOf (s .token)) ≡ s .token → 0 < codeOf (s .token)
+        → wordIn ss w ≡ numbered-word (wordCode ss (value 0 w)) (length w)
+        → elim (same (s .text) w) [ true ↦ some (s .token, length w) | false ↦ wordIn ss w ] ≡ numbered-word (cond t (codeOf (s .token)) (wordCode ss (value 0 w))) (length w)
+    go true e is low r = rw (e, ne-eqb (codeOf (s .token)) 0 (λ z. omega (arith, z, low)), is)
+    go false e is low r = rw (e) r
+
+too-long : (ss : List Spelling) (w : List ℕ) → T (all fits-word ss) → 6 < length w → none ≡ wordIn ss w
+unfolding wordIn
+too-long [] w f h = refl
+too-long (s ∷ ss) w f h =
+    let (t, ds, short, rest) = first-word s ss f in
+    let differ = refuted (same (s .text) w) (λ u. omega (arith, h, short, ap length (same-is (s .text) w u))) in
+    rw (wordIn, differ) (too-long ss w rest h)
+
+-- ---- the word from i up to e, whose bytes are those of a run of capitals
+
+digits-run : (l : List ℕ) → Digits (takeWhile (between 65 90) l)
+unfolding takeWhile
+digits-run [] = tt
+digits-run (b ∷ bs) = go (between 65 90 b) refl (digits-run bs)
+  where
+    go : (t : Bool) → between 65 90 b ≡ t → Digits (takeWhile (between 65 90) bs) → Digits (elim t [ true ↦ b ∷ takeWhile (between 65 90) bs | false ↦ [] ])
+    go true e d =
+        let (p, q) = bounds 65 90 b (is-so (between 65 90 b) e) in
+        and-i (between 1 255 b) (all (between 1 255) (takeWhile (between 65 90) bs)) (is-so (between 1 255 b) (between-yes 1 255 b (omega arith) (omega arith))) d
+    go false e d = tt
+
+module _ (l : List ℕ) (i e : ℕ) (h : e - i ≡ length (takeWhile (between 65 90) l)) where
+  pub word-long : 6 < e - i → none ≡ wordIn words (takeWhile (between 65 90) l)
+  word-long m = too-long words (takeWhile (between 65 90) l) every-word-fits (omega (arith, h))
+
+  module _ (n c : ℕ) (v : n ≡ inBase 256 0 0 (take (e - i) l)) (w : c ≡ wordCode words n) where
+    code-is : c ≡ wordCode words (value 0 (takeWhile (between 65 90) l))
+    code-is = w ∙ ap (wordCode words) (v ∙ ap (value 0) (ap (λ (k : ℕ). take k l) h ∙ run-take (between 65 90) l))
+
+    by-value : wordIn words (takeWhile (between 65 90) l) ≡ numbered-word c (e - i)
+    by-value = word-by-value words (takeWhile (between 65 90) l) every-word-fits (digits-run l) ∙ sym (ap₂ numbered-word code-is h)
+
+    pub word-none : c ≡ 0 → none ≡ wordIn words (takeWhile (between 65 90) l)
+    word-none z = sym (by-value ∙ rw (eq-eqb c 0 z) refl)
+
+    pub word-found : (c ≡ 0 → ⊥) → some (tokenOf c, e - i) ≡ wordIn words (takeWhile (between 65 90) l)
+    word-found z = sym (by-value ∙ rw (ne-eqb c 0 z) refl)

@@ -1,0 +1,83 @@
+-- What the functions of src/ promise one another and their callers, in the terms of the code: a token as a number. The contract of a public call
+-- cites nothing of this file.
+use mathlib.Core.Bool.{cond}
+use mathlib.Core.List.{List, [], _∷_, map}
+use mathlib.Core.Option.{Option, none, some}
+use Prim.Native.Nat.{ℕ, zero, suc, _+_, _*_, _-_, _<_, _≤_}
+use lib.Dec.{eqb, ltb}
+use lib.ListN.{length, take}
+use Rattle.tables.specs.Bytes.{byteAt}
+use Rattle.tables.specs.Values.{comparisonNumber, comparisonOf}
+use Rattle.cells.specs.Code.{fromExcess, toExcess}
+use Rattle.rule.specs.Tokens.{Token, Fixed, Compares, Letter, Number, Spelling, Lexed}
+use Rattle.rule.specs.Grammar.{Tokens}
+use Rattle.lexer.specs.declared.Lexeme.{Lexeme}
+use Rattle.lexer.specs.declared.Lexeme.the-variants.{Token as LexedToken, NoToken}
+use Rattle.lexer.specs.declared.Tokenized.{Tokenized}
+use Rattle.lexer.specs.declared.Tokenized.the-variants.{Tokens as Tokenized-tokens, NoTokens}
+
+-- ---- a token as a number
+
+-- the token that a number stands for: words, brackets and the point below 65, comparisons from there to 70, then letters, then numbers
+unfoldable pub tokenOf : ℕ → Token
+tokenOf c =
+    cond (ltb c 65) (Fixed c)
+    (cond (ltb c 71) (Compares (comparisonOf (c - 64)))
+    (cond (ltb c 256) (Letter c) (Number (fromExcess (c - 256)))))
+
+-- the number of a token
+abbrev pub codeOf : Token → ℕ
+codeOf (Fixed k) = k
+codeOf (Compares op) = 64 + comparisonNumber op
+codeOf (Letter x) = x
+codeOf (Number n) = 256 + toExcess n
+
+abbrev pub tokensIn : List ℕ → Tokens
+tokensIn s = map tokenOf s
+
+-- ---- runs of bytes
+
+-- the number that bytes spell as digits, where n is spelled before them; zero is the byte of the digit 0
+abbrev pub inBase : ℕ → ℕ → ℕ → List ℕ → ℕ
+inBase base zero′ n [] = n
+inBase base zero′ n (b ∷ bs) = inBase base zero′ (base * n + (b - zero′)) bs
+
+abbrev pub power : ℕ → ℕ → ℕ
+power base zero = 1
+power base (suc k) = base * power base k
+
+-- the bytes from i up to e are digits of the base, and not too many for 64 bits
+pub record Spelled (text : List ℕ) (i e base zero′ : ℕ) : Type 0 where
+  pub rising : i ≤ e
+  pub within : e ≤ length text
+  pub low : (k : ℕ) → i ≤ k → k < e → zero′ ≤ byteAt text k
+  pub high : (k : ℕ) → i ≤ k → k < e → byteAt text k < base + zero′
+  pub fits : power base (e - i) ≤ 1000000000000000
+
+-- the word whose bytes are the digits of a number in base 256; 0 if there is none
+unfoldable pub wordCode : List Spelling → ℕ → ℕ
+wordCode [] run = 0
+wordCode (s ∷ ss) run = cond (eqb (inBase 256 0 0 (s .text)) run) (codeOf (s .token)) (wordCode ss run)
+
+-- ---- what the lexer answers
+
+-- a token that starts at place i
+abbrev pub lexedAs : ℕ → Lexeme → Option Lexed
+lexedAs i (LexedToken c e) = some (tokenOf c, e - i)
+lexedAs i NoToken = none
+
+-- < and > with what may follow them, at place i
+unfoldable pub lessFrom : ℕ → ℕ → Lexeme
+lessFrom next i = cond (eqb next 62) (LexedToken 66 (i + 2)) (cond (eqb next 61) (LexedToken 68 (i + 2)) (LexedToken 67 (i + 1)))
+
+unfoldable pub greaterFrom : ℕ → ℕ → Lexeme
+greaterFrom next i = cond (eqb next 61) (LexedToken 70 (i + 2)) (LexedToken 69 (i + 1))
+
+-- so many tokens, which stand at the front of l
+abbrev pub tokenizedAs : Tokenized → List ℕ → Option Tokens
+tokenizedAs (Tokenized-tokens n) l = some (tokensIn (take n l))
+tokenizedAs NoTokens l = none
+
+abbrev pub tokensFit : Tokenized → ℕ → Type 0
+tokensFit (Tokenized-tokens n) most = n ≤ most
+tokensFit NoTokens most = Unit {0}

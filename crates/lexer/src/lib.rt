@@ -1,0 +1,355 @@
+// The tokens of a rule text, each as one number; refusals 4 and 5.
+ghost use mathlib.Core.Path.{_≡_};
+ghost use Prim.Native.Nat.{_+_, _*_, _-_, _<_, _≤_};
+ghost use lib.IntN.{pos, negℤ};
+ghost use lib.ListN.{length, take, drop};
+ghost use Rattle.tables.specs.Bytes.{between, byteAt};
+ghost use Rattle.rule.specs.Tokens.{isGap, takeWhile, words, wordIn, signs, signIn, numberFrom, firstToken, tokensOf, opensFit};
+ghost use Rattle.lexer.specs.Code.{inBase, Spelled, wordCode, lexedAs, lessFrom, greaterFrom, tokensIn, tokenizedAs, tokensFit};
+use cells::EXCESS;
+use cells::byte;
+
+// How long a text may be, and so how many tokens it may have.
+pub const MOST_BYTES: usize = 4096;
+
+const MOST_DIGITS: usize = 10;
+
+const MOST_OPEN: usize = 32;
+
+// The longest word.
+const MOST_CAPITALS: usize = 6;
+
+// A token as a number: the words, brackets and the point from 1 on; a comparison is COMPARES and its number 1 to 6; a letter is its byte; a number is
+// NUMBER and the number plus 2 ^ 31.
+pub const AND: usize = 1;
+
+pub const OR: usize = 2;
+
+pub const NOT: usize = 3;
+
+pub const EXISTS: usize = 4;
+
+pub const IN: usize = 5;
+
+pub const SOME: usize = 6;
+
+pub const ALL: usize = 7;
+
+pub const IS: usize = 8;
+
+pub const NULL: usize = 9;
+
+pub const SELECT: usize = 10;
+
+pub const FROM: usize = 11;
+
+pub const WHERE: usize = 12;
+
+pub const OPEN: usize = 13;
+
+pub const CLOSE: usize = 14;
+
+pub const POINT: usize = 15;
+
+pub const COMPARES: usize = 64;
+
+pub const NUMBER: usize = 256;
+
+// What comes first at a place of a text: a token, and the place after it.
+pub enum Lexeme {
+    Token { code: usize, end: usize },
+    NoToken,
+}
+
+// The place of the first byte from i on that is neither a space nor a line feed.
+fn skip_gaps(text: &[u8], i: usize) -> usize
+    requires { ⌜ i ≤ length (now text) ⌝ ∗ ⌜ length (now text) ≤ 4096 ⌝ }
+    ensures { λ r. ⌜ r ≡ i + length (takeWhile isGap (drop i (now (text .entry)))) ⌝ }
+{
+    let mut e: usize = i;
+    while e < text.len() {
+        let b = byte(text, e);
+        if b != 32 {
+            if b != 10 {
+                return e;
+            }
+        }
+        e += 1;
+    }
+    e
+}
+
+// The place after the run of bytes from low to high that starts at i.
+fn run_end(text: &[u8], i: usize, low: usize, high: usize) -> usize
+    requires { ⌜ i ≤ length (now text) ⌝ ∗ ⌜ length (now text) ≤ 4096 ⌝ }
+    ensures { λ r. ⌜ r ≡ i + length (takeWhile (between low high) (drop i (now (text .entry)))) ⌝ }
+{
+    let mut e: usize = i;
+    while e < text.len() {
+        let b = byte(text, e);
+        if b < low {
+            return e;
+        }
+        if high < b {
+            return e;
+        }
+        e += 1;
+    }
+    e
+}
+
+// The number that the bytes from i up to e spell in a base, where zero is the byte of the digit 0.
+fn spell(text: &[u8], i: usize, e: usize, base: usize, zero: usize) -> usize
+    requires { ⌜ Spelled (now text) i e base zero ⌝ }
+    ensures { λ r. ⌜ r ≡ inBase base zero 0 (take (e - i) (drop i (now (text .entry)))) ⌝ }
+{
+    let mut n: usize = 0;
+    let mut k: usize = i;
+    while k < e {
+        n = base * n + (byte(text, k) - zero);
+        k += 1;
+    }
+    n
+}
+
+// The word whose bytes, as digits of a number in base 256, make up this run; 0 if there is none.
+fn word_code(run: usize) -> usize
+    ensures { λ r. ⌜ r ≡ wordCode words run ⌝ }
+{
+    match run {
+        0x414E44 => AND,
+        0x4F52 => OR,
+        0x4E4F54 => NOT,
+        0x455849535453 => EXISTS,
+        0x494E => IN,
+        0x534F4D45 => SOME,
+        0x414C4C => ALL,
+        0x4953 => IS,
+        0x4E554C4C => NULL,
+        0x53454C454354 => SELECT,
+        0x46524F4D => FROM,
+        0x5748455245 => WHERE,
+        _ => 0,
+    }
+}
+
+// The word from i up to e, which are capitals.
+fn word(text: &[u8], i: usize, e: usize) -> Lexeme
+    requires { ⌜ (i ≤ e) × (e ≤ length (now text)) ⌝ ∗ ⌜ length (now text) ≤ 4096 ⌝ ∗ ⌜ e - i ≡ length (takeWhile (between 65 90) (drop i (now text))) ⌝ }
+    ensures { λ r. ⌜ lexedAs i r ≡ wordIn words (takeWhile (between 65 90) (drop i (now (text .entry)))) ⌝ }
+{
+    if MOST_CAPITALS < e - i {
+        return Lexeme::NoToken;
+    }
+    let code = word_code(spell(text, i, e, 256, 0));
+    if code == 0 {
+        return Lexeme::NoToken;
+    }
+    Lexeme::Token { code, end: e }
+}
+
+// The number whose digits are those from i up to e.
+fn number(text: &[u8], i: usize, e: usize) -> Lexeme
+    requires { ⌜ (i ≤ e) × (e ≤ length (now text)) ⌝ ∗ ⌜ length (now text) ≤ 4096 ⌝ ∗ ⌜ e - i ≡ length (takeWhile (between 48 57) (drop i (now text))) ⌝ }
+    ensures { λ r. ⌜ lexedAs i r ≡ numberFrom pos 0 (takeWhile (between 48 57) (drop i (now (text .entry)))) ⌝ }
+{
+    if e == i {
+        return Lexeme::NoToken;
+    }
+    if MOST_DIGITS < e - i {
+        return Lexeme::NoToken;
+    }
+    let n = spell(text, i, e, 10, 48);
+    if 2147483647 < n {
+        return Lexeme::NoToken;
+    }
+    Lexeme::Token {
+        code: NUMBER + EXCESS + n,
+        end: e,
+    }
+}
+
+// The same with the minus before i.
+fn negative(text: &[u8], i: usize, e: usize) -> Lexeme
+    requires { ⌜ (0 < i) × (i ≤ e) × (e ≤ length (now text)) ⌝ ∗ ⌜ length (now text) ≤ 4096 ⌝ ∗ ⌜ e - i ≡ length (takeWhile (between 48 57) (drop i (now text))) ⌝ }
+    ensures { λ r. ⌜ lexedAs (i - 1) r ≡ numberFrom (λ n. negℤ (pos n)) 1 (takeWhile (between 48 57) (drop i (now (text .entry)))) ⌝ }
+{
+    if e == i {
+        return Lexeme::NoToken;
+    }
+    if MOST_DIGITS < e - i {
+        return Lexeme::NoToken;
+    }
+    let n = spell(text, i, e, 10, 48);
+    if 2147483648 < n {
+        return Lexeme::NoToken;
+    }
+    Lexeme::Token {
+        code: NUMBER + EXCESS - n,
+        end: e,
+    }
+}
+
+// Byte i, and 0 past the end.
+fn byte_or_zero(text: &[u8], i: usize) -> usize
+    ensures { λ r. ⌜ r ≡ byteAt (now (text .entry)) i ⌝ }
+{
+    if i < text.len() {
+        return byte(text, i);
+    }
+    0
+}
+
+// The sign at i: < and > may go on.
+fn sign(text: &[u8], i: usize) -> Lexeme
+    requires { ⌜ i < length (now text) ⌝ ∗ ⌜ length (now text) ≤ 4096 ⌝ }
+    ensures { λ r. ⌜ lexedAs i r ≡ signIn signs (drop i (now (text .entry))) ⌝ }
+{
+    let next = byte_or_zero(text, i + 1);
+    match byte(text, i) {
+        40 => Lexeme::Token {
+            code: OPEN,
+            end: i + 1,
+        },
+        41 => Lexeme::Token {
+            code: CLOSE,
+            end: i + 1,
+        },
+        46 => Lexeme::Token {
+            code: POINT,
+            end: i + 1,
+        },
+        60 => less(next, i),
+        61 => Lexeme::Token {
+            code: COMPARES + 1,
+            end: i + 1,
+        },
+        62 => greater(next, i),
+        _ => Lexeme::NoToken,
+    }
+}
+
+// The sign at i that begins with <, where this byte comes next: <> or <= or <.
+fn less(next: usize, i: usize) -> Lexeme
+    requires { ⌜ i < 4096 ⌝ }
+    ensures { λ r. ⌜ r ≡ lessFrom next i ⌝ }
+{
+    if next == 62 {
+        return Lexeme::Token {
+            code: COMPARES + 2,
+            end: i + 2,
+        };
+    }
+    if next == 61 {
+        return Lexeme::Token {
+            code: COMPARES + 4,
+            end: i + 2,
+        };
+    }
+    Lexeme::Token {
+        code: COMPARES + 3,
+        end: i + 1,
+    }
+}
+
+// The sign at i that begins with >.
+fn greater(next: usize, i: usize) -> Lexeme
+    requires { ⌜ i < 4096 ⌝ }
+    ensures { λ r. ⌜ r ≡ greaterFrom next i ⌝ }
+{
+    if next == 61 {
+        return Lexeme::Token {
+            code: COMPARES + 6,
+            end: i + 2,
+        };
+    }
+    Lexeme::Token {
+        code: COMPARES + 5,
+        end: i + 1,
+    }
+}
+
+// The token at i, where there is no gap.
+fn first_token(text: &[u8], i: usize) -> Lexeme
+    requires { ⌜ i < length (now text) ⌝ ∗ ⌜ length (now text) ≤ 4096 ⌝ }
+    ensures { λ r. ⌜ lexedAs i r ≡ firstToken (byteAt (now (text .entry)) i) (drop (1 + i) (now (text .entry))) ⌝ }
+{
+    let b = byte(text, i);
+    if b < 48 {
+        if b == 45 {
+            let e = run_end(text, i + 1, 48, 57);
+            return negative(text, i + 1, e);
+        }
+        return sign(text, i);
+    }
+    if b < 58 {
+        let e = run_end(text, i, 48, 57);
+        return number(text, i, e);
+    }
+    if b < 65 {
+        return sign(text, i);
+    }
+    if b < 91 {
+        let e = run_end(text, i, 65, 90);
+        return word(text, i, e);
+    }
+    if b < 97 {
+        return Lexeme::NoToken;
+    }
+    if 122 < b {
+        return Lexeme::NoToken;
+    }
+    Lexeme::Token {
+        code: b,
+        end: i + 1,
+    }
+}
+
+// The tokens of a text, or none: refusal 4.
+pub enum Tokenized {
+    Tokens(usize),
+    NoTokens,
+}
+
+// Each token's number, from the start of tokens on.
+pub fn tokenize(text: &[u8], tokens: &mut [usize; MOST_BYTES]) -> Tokenized
+    requires { ⌜ length (now text) ≤ 4096 ⌝ ∗ ⌜ length (now tokens) ≡ 4096 ⌝ }
+    ensures are { λ r. ⌜ tokenizedAs r (now (tokens .exit)) ≡ tokensOf (now (text .entry)) ⌝ }
+    ensures size { λ r. ⌜ (length (now (tokens .exit)) ≡ 4096) × tokensFit r 4096 ⌝ }
+{
+    let mut n: usize = 0;
+    let mut i: usize = skip_gaps(text, 0);
+    while i < text.len() {
+        let Lexeme::Token { code, end } = first_token(text, i) else {
+            return Tokenized::NoTokens;
+        };
+        tokens[n] = code;
+        n += 1;
+        i = skip_gaps(text, end);
+    }
+    Tokenized::Tokens(n)
+}
+
+// Whether there are never too many more ( than ) up to a token: refusal 5 does not apply. Both are counted, since the difference may be negative.
+pub fn brackets_fit(tokens: &[usize]) -> bool
+    requires { ⌜ length (now tokens) ≤ 4096 ⌝ }
+    ensures { λ r. ⌜ r ≡ opensFit (pos 0) (tokensIn (now (tokens .entry))) ⌝ }
+{
+    let mut opened: usize = 0;
+    let mut closed: usize = 0;
+    let mut k: usize = 0;
+    while k < tokens.len() {
+        let t = tokens[k];
+        if t == OPEN {
+            opened += 1;
+        }
+        if t == CLOSE {
+            closed += 1;
+        }
+        if closed + MOST_OPEN < opened {
+            return false;
+        }
+        k += 1;
+    }
+    true
+}

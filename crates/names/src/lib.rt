@@ -1,0 +1,503 @@
+// Letters, levels, tables and columns: the noted parts of a condition become the parts of a rule; refusal 8.
+// Short names: notes, the parts as they are written, each after its inner parts, of which the first h are looked at, the last of them from element b on; parts,
+// the parts of the rule, which are written from the last to the first, e being the number of the one that was written before; levels, how many letters are
+// bound.
+ghost use mathlib.Core.Path.{_≡_};
+ghost use mathlib.Core.List.{_++_};
+ghost use mathlib.Core.Option.{Option·map};
+ghost use Prim.Native.Nat.{_+_, _*_, _-_, _<_, _≤_};
+ghost use lib.ListN.{length, drop};
+ghost use Rattle.tables.specs.Tables.{columnsOf};
+ghost use Rattle.cells.specs.Code.{fromExcess, Sized};
+ghost use Rattle.rule.specs.Names.{existing, valueIn};
+ghost use Rattle.grammar.specs.Code.{writtenOf};
+ghost use Rattle.names.specs.Code.{existingAs, scopeIn, binding, NearestAt, ScopeFits, valueNumbers, resolvedAs, bothNumbers, bothAs, leftWritten, rightWritten, partFields, plainPartNumbers, kindAt, Placeable, PlacedTo, Nameable, NamedTo};
+use cells::EXCESS;
+use cells::byte;
+use grammar::MOST_FROMS;
+use grammar::MOST_PARTS;
+use grammar::NOTE_COMPARISON;
+use grammar::NOTE_FIELDS;
+use grammar::NOTE_LEFT_LETTER;
+use grammar::NOTE_LEFT_NUMBER;
+use grammar::NOTE_LETTER;
+use grammar::NOTE_NUMBERS;
+use grammar::NOTE_RIGHT_LETTER;
+use grammar::NOTE_RIGHT_NUMBER;
+use grammar::NOTE_TABLE;
+
+// The judged row's letter and those of the FROMs around a part: a letter and a table for each.
+const SCOPE_NUMBERS: usize = 2 * (1 + MOST_FROMS);
+
+// The numbers of a part, and those of all parts.
+pub const PART_FIELDS: usize = 8;
+
+pub const PART_NUMBERS: usize = PART_FIELDS * MOST_PARTS;
+
+// Their order, which is the published one: the kind first, then these.
+pub const PART_COMPARISON: usize = 1;
+
+pub const PART_TABLE: usize = 2;
+
+pub const PART_END: usize = 3;
+
+pub const PART_LEFT_TAG: usize = 4;
+
+pub const PART_LEFT_NUMBER: usize = 5;
+
+pub const PART_RIGHT_TAG: usize = 6;
+
+pub const PART_RIGHT_NUMBER: usize = 7;
+
+// The tag of a constant.
+pub const CONSTANT: usize = 255;
+
+// A part as published; a constant is the number plus 2 ^ 31.
+pub struct Part {
+    pub kind: usize,
+    pub comparison: usize,
+    pub table: usize,
+    pub end: usize,
+    pub left_tag: usize,
+    pub left_number: usize,
+    pub right_tag: usize,
+    pub right_number: usize,
+}
+
+// What a value stands for.
+pub enum Resolved {
+    Value { tag: usize, number: usize },
+    Unresolved,
+}
+
+// What both values of a part stand for, or one of them means nothing.
+pub enum ResolvedBoth {
+    Values {
+        left_tag: usize,
+        left_number: usize,
+        right_tag: usize,
+        right_number: usize,
+    },
+    NoValues,
+}
+
+// The lowest number of the parts that were placed, or some name means nothing.
+pub enum Placed {
+    At(usize),
+    Unplaced,
+}
+
+// The table or column with a noted number, of which there are so many; 0 if there is none.
+fn find_numbered(number: usize, most: usize) -> usize
+    requires { ⌜ most < 256 ⌝ }
+    ensures is { λ r. ⌜ existingAs r ≡ existing most (fromExcess number) ⌝ }
+    ensures small { λ r. ⌜ r ≤ most ⌝ }
+{
+    if number <= EXCESS {
+        return 0;
+    }
+    if EXCESS + most < number {
+        return 0;
+    }
+    number - EXCESS
+}
+
+// The level of the nearest binding of a letter; the number of levels if there is none.
+fn find_letter(scope: &[usize; SCOPE_NUMBERS], levels: usize, letter: usize) -> usize
+    requires { ⌜ length (now scope) ≡ 8 ⌝ ∗ ⌜ levels ≤ 4 ⌝ }
+    ensures { λ r. ⌜ NearestAt (now (scope .entry)) levels letter r ⌝ }
+{
+    let mut k: usize = levels;
+    while 0 < k {
+        if scope[2 * (k - 1)] == letter {
+            return k - 1;
+        }
+        k -= 1;
+    }
+    levels
+}
+
+// What a noted value stands for where these letters are bound.
+fn resolve(
+    file: &[u8],
+    scope: &[usize; SCOPE_NUMBERS],
+    levels: usize,
+    letter: usize,
+    number: usize,
+) -> Resolved
+    requires { ⌜ Sized (now file) ⌝ ∗ ⌜ ScopeFits (now file) (now scope) levels ⌝ }
+    ensures { λ r. ⌜ resolvedAs r ≡ Option·map valueNumbers (valueIn (columnsOf (now (file .entry))) (scopeIn (now (scope .entry)) levels) (writtenOf letter number)) ⌝ }
+{
+    if letter == 0 {
+        return Resolved::Value {
+            tag: CONSTANT,
+            number,
+        };
+    }
+    let level = find_letter(scope, levels, letter);
+    if level == levels {
+        return Resolved::Unresolved;
+    }
+    let table = scope[2 * level + 1];
+    let column = find_numbered(number, cells::table_columns(file, table - 1));
+    if column == 0 {
+        return Resolved::Unresolved;
+    }
+    Resolved::Value {
+        tag: level,
+        number: column,
+    }
+}
+
+// The left and the right value of the part that is noted from element b on; each sees so many levels of the scope.
+fn resolve_both(
+    file: &[u8],
+    notes: &[usize; NOTE_NUMBERS],
+    b: usize,
+    scope: &[usize; SCOPE_NUMBERS],
+    left_levels: usize,
+    right_levels: usize,
+) -> ResolvedBoth
+    requires { ⌜ Sized (now file) ⌝ ∗ ⌜ length (now notes) ≡ 512 ⌝ ∗ ⌜ b + 8 ≤ 512 ⌝ ∗ ⌜ ScopeFits (now file) (now scope) «right_levels» ⌝ ∗ ⌜ «left_levels» ≤ «right_levels» ⌝ }
+    ensures { λ r. ⌜ bothAs r ≡ bothNumbers (valueIn (columnsOf (now (file .entry))) (scopeIn (now (scope .entry)) «left_levels») (leftWritten (now (notes .entry)) b)) (valueIn (columnsOf (now (file .entry))) (scopeIn (now (scope .entry)) «right_levels») (rightWritten (now (notes .entry)) b)) ⌝ }
+{
+    let Resolved::Value {
+        tag: left_tag,
+        number: left_number,
+    } = resolve(
+        file,
+        scope,
+        left_levels,
+        notes[b + NOTE_LEFT_LETTER],
+        notes[b + NOTE_LEFT_NUMBER],
+    )
+    else {
+        return ResolvedBoth::NoValues;
+    };
+    let Resolved::Value {
+        tag: right_tag,
+        number: right_number,
+    } = resolve(
+        file,
+        scope,
+        right_levels,
+        notes[b + NOTE_RIGHT_LETTER],
+        notes[b + NOTE_RIGHT_NUMBER],
+    )
+    else {
+        return ResolvedBoth::NoValues;
+    };
+    ResolvedBoth::Values {
+        left_tag,
+        left_number,
+        right_tag,
+        right_number,
+    }
+}
+
+// The scope with one letter more, which ranges over this table.
+fn bind(
+    scope: &[usize; SCOPE_NUMBERS],
+    levels: usize,
+    letter: usize,
+    table: usize,
+) -> [usize; SCOPE_NUMBERS]
+    requires { ⌜ length (now scope) ≡ 8 ⌝ ∗ ⌜ levels < 4 ⌝ }
+    ensures { λ r. ⌜ r ≡ binding (now (scope .entry)) levels letter table ⌝ }
+{
+    let mut inside = *scope;
+    inside[2 * levels] = letter;
+    inside[2 * levels + 1] = table;
+    inside
+}
+
+// Part number p.
+fn put_part(parts: &mut [usize; PART_NUMBERS], p: usize, part: Part)
+    requires { ⌜ length (now parts) ≡ 512 ⌝ ∗ ⌜ p < 64 ⌝ }
+    ensures written { λ _. ⌜ drop (8 * p) (now (parts .exit)) ≡ partFields part ++ drop (8 * (p + 1)) (now (parts .entry)) ⌝ }
+    ensures size { λ _. ⌜ length (now (parts .exit)) ≡ 512 ⌝ }
+{
+    let q = PART_FIELDS * p;
+    parts[q] = part.kind;
+    parts[q + PART_COMPARISON] = part.comparison;
+    parts[q + PART_TABLE] = part.table;
+    parts[q + PART_END] = part.end;
+    parts[q + PART_LEFT_TAG] = part.left_tag;
+    parts[q + PART_LEFT_NUMBER] = part.left_number;
+    parts[q + PART_RIGHT_TAG] = part.right_tag;
+    parts[q + PART_RIGHT_NUMBER] = part.right_number;
+}
+
+// A part that says no more than its kind.
+fn plain_part(kind: usize, end: usize) -> Part
+    ensures { λ r. ⌜ partFields r ≡ plainPartNumbers kind end ⌝ }
+{
+    Part {
+        kind,
+        comparison: 0,
+        table: 0,
+        end,
+        left_tag: 0,
+        left_number: 0,
+        right_tag: 0,
+        right_number: 0,
+    }
+}
+
+// The parts of the condition whose notes are the last of the first h, up to number e: the note's own part stands before its inner parts, so these are
+// placed first, the right ones before the left ones.
+fn place(
+    file: &[u8],
+    notes: &[usize; NOTE_NUMBERS],
+    h: usize,
+    parts: &mut [usize; PART_NUMBERS],
+    e: usize,
+    scope: &[usize; SCOPE_NUMBERS],
+    levels: usize,
+) -> Placed
+    requires { ⌜ Placeable (now file) (now notes) h (now parts) e (now scope) levels ⌝ }
+    ensures placed { λ r. ⌜ PlacedTo (now (file .entry)) (now (notes .entry)) h (now (parts .entry)) (now (parts .exit)) e (now (scope .entry)) levels r ⌝ }
+    ensures size { λ _. ⌜ length (now (parts .exit)) ≡ 512 ⌝ }
+{
+    let kind = notes[NOTE_FIELDS * (h - 1)];
+    match kind {
+        1 | 2 => place_pair(file, notes, h, parts, e, scope, levels),
+        3 => place_not(file, notes, h, parts, e, scope, levels),
+        4 => place_comparison(file, notes, h, parts, e, scope, levels),
+        5 | 6 => place_null(file, notes, h, parts, e, scope, levels),
+        7 => place_exists(file, notes, h, parts, e, scope, levels),
+        _ => place_list(file, notes, h, parts, e, scope, levels),
+    }
+}
+
+// AND and OR.
+fn place_pair(
+    file: &[u8],
+    notes: &[usize; NOTE_NUMBERS],
+    h: usize,
+    parts: &mut [usize; PART_NUMBERS],
+    e: usize,
+    scope: &[usize; SCOPE_NUMBERS],
+    levels: usize,
+) -> Placed
+    requires { ⌜ Placeable (now file) (now notes) h (now parts) e (now scope) levels ⌝ ∗ ⌜ (1 ≤ kindAt (now notes) h) × (kindAt (now notes) h ≤ 2) ⌝ }
+    ensures placed { λ r. ⌜ PlacedTo (now (file .entry)) (now (notes .entry)) h (now (parts .entry)) (now (parts .exit)) e (now (scope .entry)) levels r ⌝ }
+    ensures size { λ _. ⌜ length (now (parts .exit)) ≡ 512 ⌝ }
+{
+    let kind = notes[NOTE_FIELDS * (h - 1)];
+    let Placed::At(right) = place(file, notes, h - 1, parts, e, scope, levels) else {
+        return Placed::Unplaced;
+    };
+    let left_notes = h - 1 - (e - right);
+    let Placed::At(left) = place(file, notes, left_notes, parts, right, scope, levels) else {
+        return Placed::Unplaced;
+    };
+    put_part(parts, left - 1, plain_part(kind, e));
+    Placed::At(left - 1)
+}
+
+// NOT.
+fn place_not(
+    file: &[u8],
+    notes: &[usize; NOTE_NUMBERS],
+    h: usize,
+    parts: &mut [usize; PART_NUMBERS],
+    e: usize,
+    scope: &[usize; SCOPE_NUMBERS],
+    levels: usize,
+) -> Placed
+    requires { ⌜ Placeable (now file) (now notes) h (now parts) e (now scope) levels ⌝ ∗ ⌜ kindAt (now notes) h ≡ 3 ⌝ }
+    ensures placed { λ r. ⌜ PlacedTo (now (file .entry)) (now (notes .entry)) h (now (parts .entry)) (now (parts .exit)) e (now (scope .entry)) levels r ⌝ }
+    ensures size { λ _. ⌜ length (now (parts .exit)) ≡ 512 ⌝ }
+{
+    let Placed::At(inner) = place(file, notes, h - 1, parts, e, scope, levels) else {
+        return Placed::Unplaced;
+    };
+    put_part(parts, inner - 1, plain_part(3, e));
+    Placed::At(inner - 1)
+}
+
+// A comparison of two values.
+fn place_comparison(
+    file: &[u8],
+    notes: &[usize; NOTE_NUMBERS],
+    h: usize,
+    parts: &mut [usize; PART_NUMBERS],
+    e: usize,
+    scope: &[usize; SCOPE_NUMBERS],
+    levels: usize,
+) -> Placed
+    requires { ⌜ Placeable (now file) (now notes) h (now parts) e (now scope) levels ⌝ ∗ ⌜ kindAt (now notes) h ≡ 4 ⌝ }
+    ensures placed { λ r. ⌜ PlacedTo (now (file .entry)) (now (notes .entry)) h (now (parts .entry)) (now (parts .exit)) e (now (scope .entry)) levels r ⌝ }
+    ensures size { λ _. ⌜ length (now (parts .exit)) ≡ 512 ⌝ }
+{
+    let b = NOTE_FIELDS * (h - 1);
+    let ResolvedBoth::Values {
+        left_tag,
+        left_number,
+        right_tag,
+        right_number,
+    } = resolve_both(file, notes, b, scope, levels, levels)
+    else {
+        return Placed::Unplaced;
+    };
+    let part = Part {
+        kind: 4,
+        comparison: notes[b + NOTE_COMPARISON],
+        table: 0,
+        end: e,
+        left_tag,
+        left_number,
+        right_tag,
+        right_number,
+    };
+    put_part(parts, e - 1, part);
+    Placed::At(e - 1)
+}
+
+// IS NULL and IS NOT NULL.
+fn place_null(
+    file: &[u8],
+    notes: &[usize; NOTE_NUMBERS],
+    h: usize,
+    parts: &mut [usize; PART_NUMBERS],
+    e: usize,
+    scope: &[usize; SCOPE_NUMBERS],
+    levels: usize,
+) -> Placed
+    requires { ⌜ Placeable (now file) (now notes) h (now parts) e (now scope) levels ⌝ ∗ ⌜ (5 ≤ kindAt (now notes) h) × (kindAt (now notes) h ≤ 6) ⌝ }
+    ensures placed { λ r. ⌜ PlacedTo (now (file .entry)) (now (notes .entry)) h (now (parts .entry)) (now (parts .exit)) e (now (scope .entry)) levels r ⌝ }
+    ensures size { λ _. ⌜ length (now (parts .exit)) ≡ 512 ⌝ }
+{
+    let b = NOTE_FIELDS * (h - 1);
+    let Resolved::Value {
+        tag: left_tag,
+        number: left_number,
+    } = resolve(
+        file,
+        scope,
+        levels,
+        notes[b + NOTE_LEFT_LETTER],
+        notes[b + NOTE_LEFT_NUMBER],
+    )
+    else {
+        return Placed::Unplaced;
+    };
+    let part = Part {
+        kind: notes[b],
+        comparison: 0,
+        table: 0,
+        end: e,
+        left_tag,
+        left_number,
+        right_tag: 0,
+        right_number: 0,
+    };
+    put_part(parts, e - 1, part);
+    Placed::At(e - 1)
+}
+
+// EXISTS: its letter is bound one level deeper, for its WHERE.
+fn place_exists(
+    file: &[u8],
+    notes: &[usize; NOTE_NUMBERS],
+    h: usize,
+    parts: &mut [usize; PART_NUMBERS],
+    e: usize,
+    scope: &[usize; SCOPE_NUMBERS],
+    levels: usize,
+) -> Placed
+    requires { ⌜ Placeable (now file) (now notes) h (now parts) e (now scope) levels ⌝ ∗ ⌜ kindAt (now notes) h ≡ 7 ⌝ }
+    ensures placed { λ r. ⌜ PlacedTo (now (file .entry)) (now (notes .entry)) h (now (parts .entry)) (now (parts .exit)) e (now (scope .entry)) levels r ⌝ }
+    ensures size { λ _. ⌜ length (now (parts .exit)) ≡ 512 ⌝ }
+{
+    let b = NOTE_FIELDS * (h - 1);
+    let table = find_numbered(notes[b + NOTE_TABLE], byte(file, 0));
+    if table == 0 {
+        return Placed::Unplaced;
+    }
+    let inside = bind(scope, levels, notes[b + NOTE_LETTER], table);
+    let deeper = levels + 1;
+    let Placed::At(inner) = place(file, notes, h - 1, parts, e, &inside, deeper) else {
+        return Placed::Unplaced;
+    };
+    let part = Part {
+        kind: 7,
+        comparison: 0,
+        table,
+        end: e,
+        left_tag: 0,
+        left_number: 0,
+        right_tag: 0,
+        right_number: 0,
+    };
+    put_part(parts, inner - 1, part);
+    Placed::At(inner - 1)
+}
+
+// SOME and ALL: the left value is looked up outside, the selected one and the WHERE inside.
+fn place_list(
+    file: &[u8],
+    notes: &[usize; NOTE_NUMBERS],
+    h: usize,
+    parts: &mut [usize; PART_NUMBERS],
+    e: usize,
+    scope: &[usize; SCOPE_NUMBERS],
+    levels: usize,
+) -> Placed
+    requires { ⌜ Placeable (now file) (now notes) h (now parts) e (now scope) levels ⌝ ∗ ⌜ 8 ≤ kindAt (now notes) h ⌝ }
+    ensures placed { λ r. ⌜ PlacedTo (now (file .entry)) (now (notes .entry)) h (now (parts .entry)) (now (parts .exit)) e (now (scope .entry)) levels r ⌝ }
+    ensures size { λ _. ⌜ length (now (parts .exit)) ≡ 512 ⌝ }
+{
+    let b = NOTE_FIELDS * (h - 1);
+    let table = find_numbered(notes[b + NOTE_TABLE], byte(file, 0));
+    if table == 0 {
+        return Placed::Unplaced;
+    }
+    let inside = bind(scope, levels, notes[b + NOTE_LETTER], table);
+    let deeper = levels + 1;
+    // The value left of the list does not see the letter that is bound here.
+    let ResolvedBoth::Values {
+        left_tag,
+        left_number,
+        right_tag,
+        right_number,
+    } = resolve_both(file, notes, b, &inside, levels, deeper)
+    else {
+        return Placed::Unplaced;
+    };
+    let Placed::At(inner) = place(file, notes, h - 1, parts, e, &inside, deeper) else {
+        return Placed::Unplaced;
+    };
+    let part = Part {
+        kind: notes[b],
+        comparison: notes[b + NOTE_COMPARISON],
+        table,
+        end: e,
+        left_tag,
+        left_number,
+        right_tag,
+        right_number,
+    };
+    put_part(parts, inner - 1, part);
+    Placed::At(inner - 1)
+}
+
+// The parts of the rule whose condition is noted, n of them; or some name means nothing. Around a whole rule m is bound, to table 1.
+pub fn name_parts(
+    file: &[u8],
+    notes: &[usize; NOTE_NUMBERS],
+    n: usize,
+    parts: &mut [usize; PART_NUMBERS],
+) -> bool
+    requires { ⌜ Nameable (now file) (now notes) n ⌝ ∗ ⌜ length (now parts) ≡ 512 ⌝ }
+    ensures named { λ r. ⌜ NamedTo (now (file .entry)) (now (notes .entry)) n (now (parts .exit)) r ⌝ }
+    ensures size { λ _. ⌜ length (now (parts .exit)) ≡ 512 ⌝ }
+{
+    let scope = [109usize, 1, 0, 0, 0, 0, 0, 0];
+    let placed = place(file, notes, n, parts, n, &scope, 1);
+    match placed {
+        Placed::At(_) => true,
+        Placed::Unplaced => false,
+    }
+}

@@ -1,0 +1,108 @@
+-- READ accepts just what grammar, names and limits allow.
+use mathlib.Core.Path.{_≡_, refl, sym, ap, _∙_}
+use mathlib.Core.Bool.{Bool, true, false}
+use mathlib.Core.List.{List, [], _∷_}
+use mathlib.Core.Logic.{_↔_}
+use mathlib.Core.Option.{Option, none, some}
+use Prim.Native.Nat.{ℕ, _*_, _≤_, _<_}
+use native.Mathlib.Omega.{arith}
+use borrow.Author.Tests.{eq-eqb, eqb-true, ltb-true, ltb-false}
+use lib.Dec.{T, ltb}
+use lib.IntN.{ℤ}
+use lib.ListN.{length}
+use Rattle.tables.specs.Lists.{all, _>>=_}
+use Rattle.tables.specs.Tables.{columnsOf}
+use Rattle.tables.specs.Refusals.{Refusal, firstApplying, Refused, Given, Lent, tablesRefusals}
+use Rattle.tables.proofs.Tests.{is-true, both}
+use Rattle.cells.specs.Reasons.{reasonNumber}
+use Rattle.rule.specs.Condition.{parts}
+use Rattle.rule.specs.Reader.{readAll}
+use Rattle.rule.specs.Names.{outermost, ruleIn}
+use Rattle.rule.specs.Calls.{conditionOf, ruleOf, readingRefusals, Accepted}
+use Rattle.rule.specs.Claims.{Allowed, AcceptedAs}
+use Rattle.rule.proofs.Accepted.{accepted-claim, parts-claim}
+use Rattle.rule.proofs.Reading.{read-complete}
+use Rattle.reader.specs.Calls.{numbersPerPart, readNumbers}
+use Rattle.reader.specs.Answers.{readAnswer}
+use Rattle.reader.specs.Claims.{accepts, AcceptanceClaim}
+use Rattle.reader.specs.declared.Reading.{Reading}
+use Rattle.reader.specs.declared.Reading.the-variants.{Parts, NotRead}
+use Rattle.reader.proofs.Told.{read-claim}
+use Rattle.reader.proofs.Lending.{numbers-refused, numbers-short, numbers-given}
+
+-- the first refusal of a list has a number of the list
+first-below : (rs : List Refusal) {n : ℕ} → T (all (λ r. ltb (r .number) 12) rs) → firstApplying rs ≡ some n → n < 12
+unfolding firstApplying
+first-below [] t e = let z : _≡_ {A = ℕ} 0 1 = cc in absurd (omega arith)
+first-below (r ∷ rs) {n} t e = let (here, rest) = both (ltb (r .number) 12) _ t in go (r .applies) here (first-below rs rest) e
+  where
+    go : (b : Bool) → T (ltb (r .number) 12) → (firstApplying rs ≡ some n → n < 12) → elim b as (λ _. Option ℕ) [ true ↦ some (r .number) | false ↦ firstApplying rs ] ≡ some n → n < 12
+    go true h k f = let l = ltb-true (r .number) 12 (is-true _ h) in let z : r .number ≡ n = cc in omega arith
+    go false h k f = k f
+
+-- no refusal of reading is 12
+reading-below : (text file : List ℕ) {n : ℕ} → firstApplying (readingRefusals text file) ≡ some n → n < 12
+unfolding readingRefusals tablesRefusals
+reading-below text file e = first-below (readingRefusals text file) tt e
+
+-- an answer by what it stands for
+refused-accepts : (r : Reading) (n : ℕ) → readAnswer r ≡ Refused n → accepts r ≡ true → n ≡ 12
+refused-accepts (Parts m) n e a = let z : _≡_ {A = ℕ} 0 1 = cc in absurd (omega arith)
+refused-accepts (NotRead x) n e a = let p : reasonNumber x ≡ n = cc in sym p ∙ eqb-true (reasonNumber x) 12 a
+
+short-accepts : (r : Reading) → readAnswer r ≡ Refused 12 → accepts r ≡ true
+short-accepts (Parts m) e = let z : _≡_ {A = ℕ} 0 1 = cc in absurd (omega arith)
+short-accepts (NotRead x) e = let p : reasonNumber x ≡ 12 = cc in eq-eqb (reasonNumber x) 12 p
+
+given-accepts : (r : Reading) (n : ℕ) → readAnswer r ≡ Given n → accepts r ≡ true
+given-accepts (Parts m) n e = refl
+given-accepts (NotRead x) n e = let z : _≡_ {A = ℕ} 0 1 = cc in absurd (omega arith)
+
+-- the rule that is allowed is the text's
+allowed-rule : (text file : List ℕ) (w : Allowed text file) → ruleOf text (columnsOf file) ≡ some (w .rule)
+unfolding ruleOf conditionOf
+allowed-rule text file w =
+    ap (_>>= ruleIn (columnsOf file) outermost) (ap (_>>= readAll) (w .are-tokens) ∙ read-complete (w .tokens) (w .condition) (w .reads)) ∙ w .names
+
+module _ (text file : List ℕ) (buffer : List ℤ) (r : Reading) (e : readAnswer r ≡ readNumbers text file buffer .result) where
+  answers : (l : Lent ℤ) → readNumbers text file buffer ≡ l → readAnswer r ≡ l .result
+  answers l p = e ∙ ap (λ (a : Lent ℤ). a .result) p
+
+  -- where a refusal of reading applies
+  module _ (n : ℕ) (f : firstApplying (readingRefusals text file) ≡ some n) where
+    refused : readAnswer r ≡ Refused n
+    refused = answers _ (numbers-refused text file buffer f)
+
+    forbidden : Allowed text file → ⊥
+    forbidden w = let g = accepted-claim text file .1 w in let z : _≡_ {A = ℕ} 0 1 = cc in omega arith
+
+  -- where none does
+  module _ (a : Accepted text file) where
+    allowed : Allowed text file
+    allowed = accepted-claim text file .0 a
+
+    accepts-with : AcceptedAs text file → accepts r ≡ true
+    accepts-with w = go (ltb (length buffer) (8 * parts (w .rule))) refl
+      where
+        go : (b : Bool) → ltb (length buffer) (8 * parts (w .rule)) ≡ b → accepts r ≡ true
+        go true f = short-accepts r (answers _ (numbers-short text file buffer (w .rule) a (w .is-rule) (ltb-true _ _ f)))
+        go false f = given-accepts r _ (answers _ (numbers-given text file buffer (w .rule) a (w .is-rule) (ltb-false _ _ f)))
+
+    accepts-always : accepts r ≡ true
+    accepts-always = accepts-with (parts-claim text file a)
+
+  accepted : (o : Option ℕ) → firstApplying (readingRefusals text file) ≡ o → (accepts r ≡ true) ↔ Allowed text file
+  accepted (some n) f = (
+    λ a. let z = refused-accepts r n (refused n f) a in let l = reading-below text file f in absurd (omega arith),
+    λ w. absurd (forbidden n f w),
+  )
+  accepted none f = (λ a. allowed f, λ w. accepts-always f)
+
+  given : (w : Allowed text file) → numbersPerPart * parts (w .rule) ≤ length buffer → r ≡ Parts (parts (w .rule))
+  given w h = read-claim r (Parts (parts (w .rule))) (answers _ (numbers-given text file buffer (w .rule) (accepted-claim text file .1 w) (allowed-rule text file w) h))
+
+pub acceptance-claim : AcceptanceClaim
+acceptance-claim = record {
+  accepted = λ text file buffer r e. accepted text file buffer r e (firstApplying (readingRefusals text file)) refl;
+  given = λ text file buffer r e w h. given text file buffer r e w h;
+}

@@ -1,0 +1,9 @@
+pub mod Sizes
+pub mod Groups
+pub mod Told
+pub mod Signs
+pub mod Copying
+pub mod Small
+pub mod Lending
+pub mod Acceptance
+pub mod Records

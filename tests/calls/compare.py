@@ -1,0 +1,92 @@
+"""Runs cases on the library and on the reference model, compares the answers and counts their sorts."""
+import collections
+import faulthandler
+import itertools
+import sys
+import typing
+
+import library
+
+import cases  # noqa: E402  (library adds the model's folder to the path)
+
+LONGEST_SHOWN = 2000
+
+
+class Disagreement(Exception):
+    """Two answers that ought to be the same are not, or an answer that ought to have been seen was not."""
+
+
+class Stated(typing.NamedTuple):
+    """A case, and the sort of answer that document 01 gives it, whatever the model says."""
+    case: cases.Case
+    sort: str
+
+
+def shown(something):
+    """How an error names it: the start of it, if it is long."""
+    whole = str(something)
+    return whole if len(whole) <= LONGEST_SHOWN else f"{whole[:LONGEST_SHOWN]} .. ({len(whole)} characters)"
+
+
+def demand(what, seen, wanted):
+    """Every wanted sort of answer has to have been seen; both are by call."""
+    missing = [(call, sort) for call, sorts in wanted.items() for sort in sorts if seen[call, sort] == 0]
+    if missing:
+        raise Disagreement(f"{what}: never seen: {missing}")
+
+
+def refusal_sorts(*numbers):
+    """These refusals, as sorts of answer."""
+    return tuple(f"refused {number}" for number in numbers)
+
+
+def refusal_sets(call, given):
+    """Every set of a call's refusals together, where document 01 gives the lowest; without any, the answer is of the sort `given`."""
+    refusals = cases.REFUSALS_OF[call]
+    for count in range(len(refusals) + 1):
+        for chosen in itertools.combinations(refusals, count):
+            yield Stated(cases.refusal_set_case(call, chosen), f"refused {min(chosen)}" if chosen else given)
+
+
+class Comparison:
+    """`answer` gives the library's answer to a case."""
+
+    def __init__(self, answer):
+        self.answer = answer
+        self.counts = collections.Counter()
+
+    def one(self, case):
+        """The call and the sort of the answer to a case, or to a stated one."""
+        case, stated = case if isinstance(case, Stated) else (case, None)
+        wanted = cases.expected(case)
+        got = self.answer(case)
+        if got != wanted:
+            raise Disagreement(f"{shown(case)}\n  got    {shown(got)}\n  wanted {shown(wanted)}")
+        sort = cases.outcome_of(case, wanted)
+        if stated not in (None, sort):
+            raise Disagreement(f"{shown(case)}\n  got    {sort}\n  stated {stated}")
+        return case.call, sort
+
+    def groups(self, groups):
+        """Runs groups, given as pairs: a function that yields cases, and the sorts of answer, by call, that must be among theirs."""
+        for group, wanted in groups:
+            seen = collections.Counter(self.one(case) for case in group())
+            print(f"{group.__name__}: {seen.total()} answers agree", flush=True)
+            demand(group.__name__, seen, wanted)
+            self.counts += seen
+
+    def demand(self, wanted):
+        """Every sort of answer has to have been seen in some group."""
+        for call in wanted:
+            print(f"{call}: " + ", ".join(f"{sort} {count}" for (of, sort), count in sorted(self.counts.items()) if of == call))
+        demand("all groups", self.counts, wanted)
+
+
+def end_with(main):
+    """Runs a test program: exit status 1 where answers differ or something outside was written; a touch of a forbidden page ends it with a trace."""
+    faulthandler.enable()
+    try:
+        main()
+    except (Disagreement, library.OutsideWritten) as error:
+        print(error)
+        sys.exit(1)

@@ -1,0 +1,125 @@
+"""Texts with what document 01 answers to them, worked out by hand from the paper: its own examples, and their nearest neighbours on the other side.
+
+An example is a text, a tables file and an answer: the number of the refusal, or the numbers of the parts as they stand in the list, with a stroke between
+two parts. The numbers of a part are kind, comparison, table, end, tag and number of the left value, tag and number of the right value.
+"""
+
+ONE_COLUMN = bytes.fromhex("01 01 00 00")
+THREE_COLUMNS = bytes.fromhex("01 03 00 00")
+CASE_COLUMNS = bytes.fromhex("03 02 00 00 01 00 00 01 00 00")  # tables of 2, 1 and 1 columns, as those of the proved cases
+ONE_CELL = "01 01 01 00 00 00 00 00"
+
+TEST = b"1 = 1"
+PARTS_OF_TEST = "4 1 0 1 255 1 255 1"
+
+
+def in_brackets(count):
+    """A test in so many brackets."""
+    return b"(" * count + TEST + b")" * count
+
+
+def joined_by_or(count):
+    """So many tests joined by OR."""
+    return b" OR ".join([TEST] * count)
+
+
+def parts_of_32_joined(nots):
+    """The parts of 32 tests joined by OR with so many NOTs before them: 31 ORs, each ending one part before the OR around it, NOTs, tests."""
+    parts = 31 + nots + 32
+    ors = [f"2 0 0 {parts - number} 0 0 0 0" for number in range(31)]
+    tests = [f"4 1 0 {number + 1} 255 1 255 1" for number in range(parts - 32, parts)]
+    return " / ".join(ors + [f"3 0 0 {32 + nots} 0 0 0 0"] * nots + tests)
+
+
+def under_froms(letters):
+    """A comparison of the judged row with the innermost one, under a FROM over table 1 for each letter."""
+    text = f"m.1 = {letters[-1]}.1"
+    for letter in reversed(letters):
+        text = f"EXISTS (FROM 1 {letter} WHERE {text})"
+    return text.encode()
+
+
+REFUSALS = (
+    # 1
+    (TEST, bytes.fromhex("00"), 1),
+    (TEST, bytes.fromhex("01 01 00"), 1),
+    (TEST, bytes.fromhex("01 01 00 00"), PARTS_OF_TEST),
+    (TEST, bytes.fromhex("01 01 00 00 00"), 1),
+    # 2
+    (TEST, bytes.fromhex(ONE_CELL + "02"), 2),
+    (TEST, bytes.fromhex(ONE_CELL + "01"), PARTS_OF_TEST),
+    (TEST, bytes.fromhex(ONE_CELL + "00"), PARTS_OF_TEST),
+    # 3
+    (b" " * 4097, ONE_COLUMN, 3),
+    (b" " * 4096, ONE_COLUMN, 6),
+    (TEST + b" " * 4092, ONE_COLUMN, 3),
+    (TEST + b" " * 4091, ONE_COLUMN, PARTS_OF_TEST),
+    # 4
+    (b"m.1 = 2147483648", ONE_COLUMN, 4),
+    (b"m.1 = 2147483647", ONE_COLUMN, "4 1 0 1 0 1 255 2147483647"),
+    (b"m.1 = -2147483648", ONE_COLUMN, "4 1 0 1 0 1 255 -2147483648"),
+    (b"m.1 = -2147483649", ONE_COLUMN, 4),
+    (b"m.1 = 0000000001", ONE_COLUMN, "4 1 0 1 0 1 255 1"),
+    (b"m.1 = 00000000001", ONE_COLUMN, 4),
+    # 5
+    (b"(" * 33, ONE_COLUMN, 5),
+    (b"(" * 32, ONE_COLUMN, 6),
+    (in_brackets(33), ONE_COLUMN, 5),
+    (in_brackets(32), ONE_COLUMN, PARTS_OF_TEST),
+    # 6
+    (b"", ONE_COLUMN, 6),
+    (b"m.1 =", ONE_COLUMN, 6),
+    (b"m.1 = 1", ONE_COLUMN, "4 1 0 1 0 1 255 1"),
+    (b"m.1 = 1)", ONE_COLUMN, 6),
+    # 7
+    (joined_by_or(33), ONE_COLUMN, 7),
+    (joined_by_or(32), ONE_COLUMN, parts_of_32_joined(0)),
+    (b"NOT " + joined_by_or(32), ONE_COLUMN, parts_of_32_joined(1)),
+    (b"NOT NOT " + joined_by_or(32), ONE_COLUMN, 7),
+    (b"NOT " * 63 + TEST, ONE_COLUMN, "3 0 0 64 0 0 0 0 / " * 63 + "4 1 0 64 255 1 255 1"),
+    (b"NOT " * 64 + TEST, ONE_COLUMN, 7),
+    (under_froms("abc"), ONE_COLUMN, "7 0 1 4 0 0 0 0 / " * 3 + "4 1 0 4 0 1 3 1"),
+    (under_froms("abcd"), ONE_COLUMN, 7),
+    # 8
+    (b"k.1 = 1", ONE_COLUMN, 8),
+    (b"EXISTS (FROM 1 k WHERE k.1 = 1)", ONE_COLUMN, "7 0 1 2 0 0 0 0 / 4 1 0 2 1 1 255 1"),
+    (b"EXISTS (FROM 1 k WHERE k.1 = 1) AND k.1 = 1", ONE_COLUMN, 8),
+    (b"m.0 = 1", ONE_COLUMN, 8),
+    (b"m.2 = 1", ONE_COLUMN, 8),
+    (b"EXISTS (FROM 2 v WHERE 1 = 1)", ONE_COLUMN, 8),
+    (b"EXISTS (FROM 0 v WHERE 1 = 1)", ONE_COLUMN, 8),
+)
+
+# the proved cases 1 to 12, the rule of the card that the paper works out, and forms that are not among them
+ALL2 = b"(SELECT v.1 FROM 2 v WHERE 1 = 1)"
+ALL3 = b"(SELECT v.1 FROM 3 v WHERE 1 = 1)"
+RULES = (
+    (b"m.2 > 0", CASE_COLUMNS, "4 5 0 1 0 2 255 0"),
+    (b"NOT m.2 > 0", CASE_COLUMNS, "3 0 0 2 0 0 0 0 / 4 5 0 2 0 2 255 0"),
+    (b"m.2 > 0 OR NOT m.2 > 0", CASE_COLUMNS, "2 0 0 4 0 0 0 0 / 4 5 0 2 0 2 255 0 / 3 0 0 4 0 0 0 0 / 4 5 0 4 0 2 255 0"),
+    (b"m.2 IS NULL", CASE_COLUMNS, "5 0 0 1 0 2 0 0"),
+    (b"m.1 IN " + ALL2, CASE_COLUMNS, "8 1 2 2 0 1 1 1 / 4 1 0 2 255 1 255 1"),
+    (b"m.1 NOT IN " + ALL2, CASE_COLUMNS, "9 2 2 2 0 1 1 1 / 4 1 0 2 255 1 255 1"),
+    (b"m.1 <> ALL (SELECT v.1 FROM 2 v WHERE v.1 = 1)", CASE_COLUMNS, "9 2 2 2 0 1 1 1 / 4 1 0 2 1 1 255 1"),
+    (b"m.2 = ALL " + ALL3, CASE_COLUMNS, "9 1 3 2 0 2 1 1 / 4 1 0 2 255 1 255 1"),
+    (b"m.2 = SOME " + ALL3, CASE_COLUMNS, "8 1 3 2 0 2 1 1 / 4 1 0 2 255 1 255 1"),
+    (b"EXISTS (FROM 2 v WHERE v.1 > 1)", CASE_COLUMNS, "7 0 2 2 0 0 0 0 / 4 5 0 2 1 1 255 1"),
+    (b"NOT EXISTS (FROM 2 v WHERE v.1 > 1)", CASE_COLUMNS, "3 0 0 3 0 0 0 0 / 7 0 2 3 0 0 0 0 / 4 5 0 3 1 1 255 1"),
+    (b"m.1 = SOME (SELECT m.1 FROM 2 m WHERE m.1 = 1)", CASE_COLUMNS, "8 1 2 2 0 1 1 1 / 4 1 0 2 1 1 255 1"),
+    (b"NOT m.2 < 5", THREE_COLUMNS, "3 0 0 2 0 0 0 0 / 4 3 0 2 0 2 255 5"),
+    (b"1 = 1 OR 2 = 2 OR 3 = 3", ONE_COLUMN,
+     "2 0 0 5 0 0 0 0 / 2 0 0 4 0 0 0 0 / 4 1 0 3 255 1 255 1 / 4 1 0 4 255 2 255 2 / 4 1 0 5 255 3 255 3"),
+    (b"1 = 1 AND (2 = 2 AND 3 = 3)", ONE_COLUMN,
+     "1 0 0 5 0 0 0 0 / 4 1 0 2 255 1 255 1 / 1 0 0 5 0 0 0 0 / 4 1 0 4 255 2 255 2 / 4 1 0 5 255 3 255 3"),
+    (b"m.1 IS NOT NULL AND m.2 <= 1 OR 3 >= m.1 AND (m.1 < 1 OR m.2 <> m.1)", CASE_COLUMNS,
+     "2 0 0 9 0 0 0 0 / 1 0 0 4 0 0 0 0 / 6 0 0 3 0 1 0 0 / 4 4 0 4 0 2 255 1 /"
+     " 1 0 0 9 0 0 0 0 / 4 6 0 6 255 3 0 1 / 2 0 0 9 0 0 0 0 / 4 3 0 8 0 1 255 1 / 4 2 0 9 0 2 0 1"),
+    (b"EXISTS (FROM 1 a WHERE a.1 < SOME (SELECT b.1 FROM 2 b WHERE EXISTS (FROM 3 c WHERE c.1 = m.2 AND a.2 > b.1)))", CASE_COLUMNS,
+     "7 0 1 6 0 0 0 0 / 8 3 2 6 1 1 2 1 / 7 0 3 6 0 0 0 0 / 1 0 0 6 0 0 0 0 / 4 1 0 5 3 1 0 2 / 4 5 0 6 1 2 2 1"),
+)
+EXAMPLES = REFUSALS + RULES
+
+
+def numbers(parts):
+    """Parts as they are written above, as the list has them."""
+    return tuple(int(number) for number in parts.replace("/", " ").split())

@@ -1,0 +1,286 @@
+"""READ as built, against answers worked out by hand from document 01, stored answers, and the reference model: both sides of every limit, every token next
+to every token, every set of refusals together, every byte value in small rules, lists of every length, and random draws.
+
+Exit status 0 when all answers and all lent lists agree, and every sort of answer was seen, in each group those that belong to it.
+"""
+import collections
+import itertools
+import random
+import tempfile
+
+import compare
+import library
+import paper
+import stored
+
+import cases  # noqa: E402  (library adds the model's folder to the path)
+import generate
+import model
+
+SEED = 20261115
+DRAWS = 12000
+SPACED_RULES = 150
+LONG_TEXTS = 150
+AMPLE_NUMBERS = 600
+UNTOUCHED = -77
+TABLES = cases.SOME_TABLES
+
+
+def read_sorts(*refusals):
+    """The sorts of answer that READ has to have given: parts, and these refusals."""
+    return {"READ": ("given",) + compare.refusal_sorts(*refusals)}
+
+
+WANTED = read_sorts(*cases.REFUSALS_OF["READ"])
+
+
+def answer_of(reader, case):
+    """The library's answer to a case, with its list taken as parts again; the list of a case holds whole parts."""
+    result, after = reader.read(case.source, case.file, cases.numbers_of(case.buffer))
+    return cases.Expected(result, cases.parts_from(after))
+
+
+def read_case(text, more=1):
+    return cases.fitting("READ", text, TABLES, more)
+
+
+# ---- answers that are written down
+
+def check_written(reader, text, file, wanted):
+    """The sort of an answer that is written down: a refusal, or the numbers of the parts. The library has to give it, and the model too."""
+    lent = (UNTOUCHED,) * AMPLE_NUMBERS
+    refused = isinstance(wanted, model.Refused)
+    stated = (wanted, lent) if refused else (len(wanted) // cases.PART_NUMBERS, wanted + lent[len(wanted):])
+    got = reader.read(text, file, lent)
+    if got != stated:
+        raise compare.Disagreement(f"{compare.shown(text)}\n  got    {got}\n  wanted {stated}")
+    parts = model.read(text, file, cases.AMPLE_ROOM)
+    of_model = parts if isinstance(parts, model.Refused) else cases.numbers_of(parts)
+    if of_model != wanted:
+        raise compare.Disagreement(f"{compare.shown(text)}\n  of the model {of_model}\n  wanted       {wanted}")
+    return "READ", f"refused {wanted.number}" if refused else "given"
+
+
+def check_paper(reader):
+    """The answers that are worked out by hand."""
+    seen = collections.Counter()
+    for text, file, answer in paper.EXAMPLES:
+        wanted = model.Refused(answer) if isinstance(answer, int) else paper.numbers(answer)
+        seen[check_written(reader, text, file, wanted)] += 1
+    compare.demand("answers worked out by hand", seen, read_sorts(1, 2, 3, 4, 5, 6, 7, 8))
+    print(f"answers worked out by hand: {seen.total()} agree")
+
+
+def check_stored(reader):
+    """The stored answers."""
+    seen = collections.Counter(check_written(reader, *answer) for answer in stored.answers())
+    if seen.total() != stored.DRAWS + len(stored.LONG_TEXTS):
+        raise compare.Disagreement(f"{seen.total()} stored answers")
+    compare.demand("stored answers", seen, read_sorts(1, 2, 3, 4, 5, 6, 7, 8))
+    print(f"stored answers: {seen.total()} agree")
+
+
+# ---- limits, from both sides
+
+def nested(count, text, letter="v"):
+    """Text under so many FROMs."""
+    for _ in range(count):
+        text = f"EXISTS(FROM 1 {letter} WHERE {text})"
+    return text
+
+
+def limit_texts():
+    """Texts on both sides of the limits of digits, numbers, columns, tables, FROMs and parts."""
+    for digits in (1, 9, 10, 11, 12):
+        yield from ("1=" + "0" * (digits - 1) + "7", "1=-" + "0" * (digits - 1) + "7", "7" * digits + "=1")
+    for number in (-2**31 - 1, -2**31, -2**31 + 1, -1, 0, 1, 2**31 - 1, 2**31, 9999999999):
+        yield from (f"1={number}", f"m.{number}=1", f"EXISTS(FROM {number} v WHERE 1=1)", f"{number} IS NULL")
+    for number in range(-1, 18):
+        yield from (f"m.{number}=1", f"EXISTS(FROM {number} v WHERE v.1=1)", f"EXISTS(FROM 3 v WHERE v.{number}=1)")
+    for froms, core in itertools.product(range(6), ("1=1", "v.1=1", "w.1=1", "1=", "m.1=@")):
+        yield nested(froms, core)
+        yield f"1=1 OR {nested(froms, core)} AND {nested(3, '1=1')}"
+        yield nested(froms, "m.1 NOT IN(SELECT v.1 FROM 2 v WHERE " + core + ")")
+    for froms, core in itertools.product((31, 32, 33), ("1=1", "w.1=1", "1=")):
+        yield nested(froms, core)
+    for parts in (61, 62, 63, 64, 65, 66, 200, 1000):
+        yield from ("NOT " * (parts - 1) + "1=1", "NOT " * (parts - 1) + "k.1=1", "NOT " * (parts - 1) + "1=")
+    for tests in (31, 32, 33, 34, 500):
+        for word in ("AND", "OR"):
+            yield f" {word} ".join(["1=1"] * tests)
+            yield f" {word} ".join(["(1=1)"] * tests)
+        yield "1=1" + " AND 2=2 OR 3=3" * (tests // 2)
+
+
+def limit_cases():
+    """These texts, and the cases of READ among the model's own targeted ones."""
+    for text in limit_texts():
+        yield read_case(text.encode())
+    few = (cases.trap_cases, cases.bracket_cases, cases.part_limit_cases, cases.text_length_cases, cases.table_limit_cases)
+    for case in itertools.chain.from_iterable(group() for group in few):
+        if case.call == "READ":
+            yield case
+
+
+def size_cases():
+    """A rule that names the last column of table 1 and of the last table, with tables at the limits; the refusals are those that document 01 states."""
+    for sizes, file, refusal in cases.limit_files():
+        columns = [count for count, _ in sizes] or [1]
+        text = f"EXISTS(FROM {len(columns)} v WHERE m.{columns[0]}=v.{columns[-1]})".encode()
+        yield compare.Stated(cases.Case("READ", text, file, buffer=cases.lent("READ", 3)), "given" if refusal is None else f"refused {refusal}")
+
+
+COLUMNS = (5, 2, 16, 7, 1, 9, 3, 12)
+
+
+def named_columns(first, second):
+    """Texts with one or two FROMs over these tables, in which the number of a column is left open, each with the table that the column is looked for in."""
+    yield f"EXISTS(FROM {first} v WHERE m.{{}} IS NULL)", 1
+    yield f"EXISTS(FROM {first} v WHERE v.{{}} IS NULL)", first
+    yield f"EXISTS(FROM {first} v WHERE EXISTS(FROM {second} w WHERE v.{{}}=1))", first
+    yield f"EXISTS(FROM {first} v WHERE EXISTS(FROM {second} w WHERE 1=w.{{}}))", second
+    yield f"EXISTS(FROM {first} v WHERE EXISTS(FROM {second} v WHERE v.{{}} IS NOT NULL))", second
+    yield f"EXISTS(FROM {first} v WHERE v.{{}} IN(SELECT 1 FROM {second} v WHERE 1=1))", first
+    yield f"EXISTS(FROM {first} v WHERE 1 NOT IN(SELECT v.{{}} FROM {second} v WHERE 1=1))", second
+
+
+def column_cases():
+    """The last column of each table and the one behind it, and absent tables, with one to eight tables of which no two have as many columns."""
+    for count in range(1, 9):
+        file = generate.tables_file([(columns, []) for columns in COLUMNS[:count]])
+        for first, second in itertools.product(range(1, count + 1), repeat=2):
+            for text, table in named_columns(first, second):
+                last = COLUMNS[table - 1]
+                yield compare.Stated(cases.fitting("READ", text.format(last).encode(), file), "given")
+                yield compare.Stated(cases.fitting("READ", text.format(last + 1).encode(), file), "refused 8")
+        for table in (-1, 0, count + 1, count + 2, 256, 257):
+            yield compare.Stated(cases.fitting("READ", f"EXISTS(FROM {table} v WHERE 1=1)".encode(), file), "refused 8")
+
+
+ONE_ROW = generate.tables_file([(1, [[1]])])
+
+
+def damaged_files():
+    """A rule with a small tables file, each byte at each value and each shorter length."""
+    for place, value in itertools.product(range(len(ONE_ROW)), range(256)):
+        yield cases.fitting("READ", b"m.1=1", ONE_ROW[:place] + bytes([value]) + ONE_ROW[place + 1:])
+    for length in range(len(ONE_ROW)):
+        yield cases.fitting("READ", b"m.1=1", ONE_ROW[:length])
+
+
+# ---- tokens next to one another
+
+EVERY_TOKEN = tuple(model.WORDS) + tuple(model.COMPARISONS) + ("(", ")", ".", "a", "m", "z", "0", "1", "-1", "2147483647", "-2147483648", "0000000001")
+AROUND = ("{}", "1=1 AND {}", "{} OR 1=1", "NOT {}=1", "m.1 {} 1", "m{}1 = 1", "1 IN(SELECT {} FROM 1 v WHERE 1=1)")
+
+
+def token_pairs():
+    """Every token behind every token, with a gap and without, in a text of their own and inside others."""
+    for first, second in itertools.product(EVERY_TOKEN, repeat=2):
+        for gap, around in itertools.product(("", " ", "\n"), AROUND):
+            yield read_case(around.format(first + gap + second).encode())
+
+
+def spaced_rules():
+    """Rules with each gap between two tokens opened and closed in turn."""
+    draw = random.Random(SEED)
+    for _ in range(SPACED_RULES):
+        tokens = generate.RuleMaker(draw, model.tables_of(TABLES).columns).rule(draw.choice([1, 2, 3]))
+        for place in range(1, len(tokens)):
+            text = " ".join(tokens[:place]), " ".join(tokens[place:])
+            yield read_case("".join(text).encode())
+            yield read_case(" \n ".join(text).encode())
+            yield read_case("".join(tokens[:place]).encode())
+
+
+# ---- damage
+
+SMALL_RULES = (
+    b"m.2 < -5", b"NOT m.1 IS NOT NULL", b"1<>m.1 OR 2>=2", b"m.1 NOT IN(SELECT v.1 FROM 2 v WHERE m.1=v.1)", b"EXISTS(FROM 3 m WHERE m.3<=1)AND 1=1")
+
+
+def damaged_rules():
+    """Small rules with every byte at every value, cut at every length, and with every byte left out or doubled."""
+    for rule in SMALL_RULES:
+        for place, value in itertools.product(range(len(rule)), range(256)):
+            yield read_case(rule[:place] + bytes([value]) + rule[place + 1:])
+        for place in range(len(rule)):
+            yield from (read_case(rule[:place]), read_case(rule[:place] + rule[place + 1:]), read_case(rule[:place] + rule[place:place + 1] + rule[place:]))
+
+
+def long_texts():
+    """Texts of up to 4,097 bytes with far more parts and FROMs than a rule may have, each also with something wrong at its end."""
+    draw = random.Random(SEED)
+    columns = model.tables_of(TABLES).columns
+    for number in range(LONG_TEXTS):
+        maker = generate.RuleMaker(draw, columns, deepest=3 + number % 6)
+        text = generate.spaced(draw, maker.rule(draw.choice([5, 20, 60])))
+        while len(text) < draw.choice([200, 2000, 4097]):
+            text += draw.choice([b" OR ", b" AND "]) + generate.spaced(draw, maker.rule(draw.choice([5, 20, 60])))
+        for tail in (b"", b" @", b"(", b" OR k.1=1"):
+            yield read_case(text[:draw.choice([4096, 4097]) - len(tail)] + tail)
+
+
+def refusal_cases():
+    """Every set of refusals of READ together."""
+    return compare.refusal_sets("READ", "given")
+
+
+def drawn_cases():
+    """Random cases."""
+    draw = random.Random(SEED)
+    for _ in range(DRAWS):
+        yield cases.drawn(draw, "READ")
+
+
+GROUPS = (
+    (limit_cases, read_sorts(1, 3, 4, 5, 6, 7, 8, 12)),
+    (size_cases, read_sorts(1, 2)),
+    (column_cases, read_sorts(8)),
+    (damaged_files, read_sorts(1, 2)),
+    (token_pairs, read_sorts(4, 6, 8)),
+    (spaced_rules, read_sorts(4, 6)),
+    (damaged_rules, read_sorts(4, 6, 8)),
+    (long_texts, read_sorts(3, 4, 6, 7, 8)),
+    (refusal_cases, WANTED),
+    (drawn_cases, WANTED),
+)
+
+
+# ---- lists of every length
+
+def check_rooms(reader):
+    """Lists with every number of elements around what the parts need, also where the last part would have room in part."""
+    texts = (b"1=1", b"NOT m.1=m.2", b" OR ".join([b"m.1<>-1"] * 32), b"m.1 = SOME (SELECT m.1 FROM 2 m WHERE m.1 = 1)", b"k.1=1", b"1=")
+    seen = collections.Counter()
+    for text in texts:
+        parts = model.read(text, TABLES, cases.AMPLE_ROOM)
+        wanted = () if isinstance(parts, model.Refused) else cases.numbers_of(parts)
+        for room in range(len(wanted) + 2 * cases.PART_NUMBERS + 1):
+            lent = tuple(range(-room, 0))
+            if isinstance(parts, model.Refused):
+                sort, stated = f"refused {parts.number}", (parts, lent)
+            elif room < len(wanted):
+                sort, stated = "refused 12", (model.Refused(12), lent)
+            else:
+                sort, stated = "given", (len(parts), wanted + lent[len(wanted):])
+            if reader.read(text, TABLES, lent) != stated:
+                raise compare.Disagreement(f"{text} into {room} elements")
+            seen["READ", sort] += 1
+    compare.demand("lists of every length", seen, read_sorts(6, 8, 12))
+    print(f"lists of every length: {seen.total()} answers agree")
+
+
+def main():
+    with tempfile.TemporaryDirectory() as folder:
+        reader = library.ReaderCalls(library.build("roskudla", folder))
+        check_paper(reader)
+        check_stored(reader)
+        check_rooms(reader)
+        comparison = compare.Comparison(lambda case: answer_of(reader, case))
+        comparison.groups(GROUPS)
+    comparison.demand(WANTED)
+
+
+if __name__ == "__main__":
+    compare.end_with(main)

@@ -1,0 +1,29 @@
+#!/usr/bin/env bash
+# docs/ARCHITECTURE.md names what is there: every claim and every must-fail edit that its tables name exists, every claim is named, and so is every edit of
+# a crate of functions.
+set -u
+cd "$(dirname "$0")/.." || exit 1
+doc=docs/ARCHITECTURE.md
+bad=0
+complain() { echo "docs: $1"; bad=1; }
+
+claims=$(sed -nE 's/^(pub record|abbrev pub) ([A-Za-z0-9]*Claim) .*/\2/p' crates/*/specs/Claims.antt | sort -u)
+named_claims=$(grep -oE '`[A-Za-z0-9]+Claim`' "$doc" | tr -d '`' | sort -u)
+for claim in $named_claims; do
+  grep -qx "$claim" <<< "$claims" || grep -rqE "^(pub record|abbrev pub) $claim " crates/*/specs || complain "$claim is named and stated nowhere"
+done
+for claim in $claims; do
+  grep -qx "$claim" <<< "$named_claims" || complain "$claim is not named"
+done
+
+named_edits=$(sed -n '/^### Wrong programs/,/^### Recursion/p' "$doc" | cut -d'|' -f3- | grep -oE '`[a-z0-9]+(_[a-z0-9]+)+`' | tr -d '`' | sort -u)
+[ -n "$named_edits" ] || complain "no edit is named"
+for edit in $named_edits; do
+  ls crates/*/must-fail/"$edit".edit > /dev/null 2>&1 || complain "the edit $edit is named and is not there"
+done
+for edit in crates/*/must-fail/*.edit; do
+  grep -q '^file: src/' "$edit" || continue
+  name=$(basename "$edit" .edit)
+  grep -qx "$name" <<< "$named_edits" || complain "$edit is not named"
+done
+exit "$bad"
