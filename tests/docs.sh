@@ -1,6 +1,6 @@
 #!/usr/bin/env bash
 # docs/ARCHITECTURE.md names what is there: every claim and every must-fail edit that its tables name exists, every claim is named, and so is every edit of
-# a crate of functions.
+# a crate of functions. Every name in docs/DEMANDS.md is that of a claim, a definition, a function, an edit or a test script that exists.
 set -u
 cd "$(dirname "$0")/.." || exit 1
 doc=docs/ARCHITECTURE.md
@@ -26,4 +26,18 @@ for edit in crates/*/must-fail/*.edit; do
   name=$(basename "$edit" .edit)
   grep -qx "$name" <<< "$named_edits" || complain "$edit is not named"
 done
+
+# a name with a slash is an edit of a crate or a script, one with colons a function of a crate, any other a word of the statements and contracts
+demands=docs/DEMANDS.md
+names=$(grep -oE '`[^`]+`' "$demands" | tr -d '`' | sort -u)
+[ -n "$names" ] || complain "$demands names nothing"
+while IFS= read -r name; do
+  case $name in
+    tests/*.sh) [ -e "$name" ] || complain "$demands names $name, which is not there" ;;
+    *::*) grep -qE "^pub fn ${name#*::}\(" "crates/${name%::*}"/src/*.rt || complain "$demands names $name, which is no public function" ;;
+    crates/* | must-fail/ | *.antt | requires) ;;
+    */*) [ -e "crates/${name%%/*}/must-fail/${name#*/}.edit" ] || complain "$demands names the edit $name, which is not there" ;;
+    *) grep -qrwF -- "$name" crates/*/specs crates/*/src || complain "$demands names $name, which is nowhere" ;;
+  esac
+done <<< "$names"
 exit "$bad"

@@ -28,11 +28,23 @@ def shown(something):
     return whole if len(whole) <= LONGEST_SHOWN else f"{whole[:LONGEST_SHOWN]} .. ({len(whole)} characters)"
 
 
+def same(what, got, wanted):
+    """Two answers that ought to be the same."""
+    if got != wanted:
+        raise Disagreement(f"{shown(what)}\n  got    {shown(got)}\n  wanted {shown(wanted)}")
+
+
 def demand(what, seen, wanted):
     """Every wanted sort of answer has to have been seen; both are by call."""
     missing = [(call, sort) for call, sorts in wanted.items() for sort in sorts if seen[call, sort] == 0]
     if missing:
         raise Disagreement(f"{what}: never seen: {missing}")
+
+
+def agreed(what, seen, wanted):
+    """Says how many answers agreed, once every wanted sort was seen among them."""
+    demand(what, seen, wanted)
+    print(f"{what}: {seen.total()} answers agree", flush=True)
 
 
 def refusal_sorts(*numbers):
@@ -59,20 +71,17 @@ class Comparison:
         """The call and the sort of the answer to a case, or to a stated one."""
         case, stated = case if isinstance(case, Stated) else (case, None)
         wanted = cases.expected(case)
-        got = self.answer(case)
-        if got != wanted:
-            raise Disagreement(f"{shown(case)}\n  got    {shown(got)}\n  wanted {shown(wanted)}")
+        same(case, self.answer(case), wanted)
         sort = cases.outcome_of(case, wanted)
-        if stated not in (None, sort):
-            raise Disagreement(f"{shown(case)}\n  got    {sort}\n  stated {stated}")
+        if stated is not None:
+            same((case, "by document 01"), sort, stated)
         return case.call, sort
 
     def groups(self, groups):
         """Runs groups, given as pairs: a function that yields cases, and the sorts of answer, by call, that must be among theirs."""
         for group, wanted in groups:
             seen = collections.Counter(self.one(case) for case in group())
-            print(f"{group.__name__}: {seen.total()} answers agree", flush=True)
-            demand(group.__name__, seen, wanted)
+            agreed(group.__name__, seen, wanted)
             self.counts += seen
 
     def demand(self, wanted):

@@ -1,7 +1,8 @@
 """The calls as they are built: the archives of the crates roskudla and roskudla_gate, each linked into a shared object and called by ctypes.
 
-Texts, cards, tables files and lent lists end where a page ends that may not be touched, so that a read or a write past them ends the program. What stands
-before them is a pattern of at least a page: a call that changes any of it is an error, and so is one that changes a text, a card or a tables file.
+Texts, cards, tables files, lent lists and what a call writes its answer to end where a page ends that may not be touched, so that a read or a write past
+them ends the program. What stands before them is a pattern of at least a page: a call that changes any of it is an error, and so is one that changes a text,
+a card or a tables file, or that refuses and writes an answer.
 """
 import array
 import ctypes
@@ -15,21 +16,18 @@ sys.path.insert(0, str(ROOT / "tests" / "model"))
 
 import model  # noqa: E402
 
-UNTOUCHED_ANSWER = 0x5A
-UNTOUCHED_COUNT = 0x5A5A5A5A5A5A5A5A
-
 
 class OutsideWritten(Exception):
     """A call changed what it was not lent."""
 
 
-def build(crate, folder):
-    """The shared object of a crate's calls, in a folder."""
+def load(crate, folder):
+    """The library of a crate's calls, by a shared object that is put into a folder."""
     subprocess.run(["rt", "staticlib", crate], cwd=ROOT, check=True, stdout=subprocess.DEVNULL)
     archive = ROOT / "target" / "staticlib" / f"lib{crate}.a"
     shared = pathlib.Path(folder) / f"{crate}.so"
     subprocess.run(["gcc", "-shared", "-o", str(shared), "-Wl,--whole-archive", str(archive), "-Wl,--no-whole-archive"], check=True)
-    return shared
+    return ctypes.CDLL(str(shared))
 
 
 class EndOfPage:
@@ -75,15 +73,15 @@ MOST_SOURCE_BYTES = 1 << 13
 MOST_FILE_BYTES = 1 << 16
 MOST_LIST_BYTES = 1 << 13
 SLICE = [ctypes.c_void_p, ctypes.c_size_t]
-SIGNED, UNSIGNED = "i", "I"
+SIGNED, UNSIGNED, BYTE, SIZE = "i", "I", "B", "Q"
 
 
 class LentList:
-    """Room for a list of numbers of four bytes, SIGNED or UNSIGNED, at the end of a page."""
+    """Room for a list of numbers at the end of a page: SIGNED and UNSIGNED ones of four bytes, bytes, or sizes."""
 
-    def __init__(self, sort):
+    def __init__(self, sort, most=MOST_LIST_BYTES):
         self.sort = sort
-        self.room = EndOfPage(MOST_LIST_BYTES)
+        self.room = EndOfPage(most)
 
     def put(self, elements):
         """The list, as a pointer to its first element and a length in elements."""
@@ -95,75 +93,112 @@ class LentList:
         return tuple(array.array(self.sort, self.room.after()))
 
 
-def call_of(library, name, *arguments):
-    """A call of the library with its types; each returns a refusal's number, or 0."""
-    call = getattr(library, name)
-    call.argtypes = [of for argument in arguments for of in (argument if isinstance(argument, list) else [argument])]
-    call.restype = ctypes.c_uint32
-    return call
+class Answer:
+    """What a call writes its answer to, a byte or a size, at the end of a page."""
+
+    def __init__(self, sort, untouched):
+        self.untouched = untouched
+        self.room = LentList(sort, 8)
+
+    def put(self):
+        """A pointer to it, with content that no answer has."""
+        start, _ = self.room.put((self.untouched,))
+        return start
+
+    def after(self, call, status):
+        """What it is after a call with this status; an error if that is a refusal and something was written."""
+        number, = self.room.after()
+        if status != 0 and number != self.untouched:
+            raise OutsideWritten(f"{call} refused with {status} and wrote its answer")
+        return number
 
 
-def counted(call, status, count, lent):
-    """The answer of a call that lends a list: a count or a refusal, and the list afterwards."""
-    after = lent.after()
-    if status == 0:
-        return count.value, after
-    if count.value != UNTOUCHED_COUNT:
-        raise OutsideWritten(f"{call} refused with {status} and wrote its count")
-    return model.Refused(status), after
+class Calls:
+    """What the calls of both libraries have in common. A library is anything that has the calls by their C names.
+
+    All but CHECK take a text or a card, and a tables file; then a lent list, and where to write a count; or a row, and where to write an answer.
+    """
+
+    def __init__(self, library):
+        self.library = library
+        self.sources, self.files = EndOfPage(MOST_SOURCE_BYTES), EndOfPage(MOST_FILE_BYTES)
+        self.counts, self.answers = Answer(SIZE, 0x5A5A5A5A5A5A5A5A), Answer(BYTE, 0x5A)
+
+    def call_of(self, name, *types):
+        """A call of the library with the types of its arguments; each returns a refusal's number, or 0."""
+        call = getattr(self.library, name)
+        call.argtypes = types
+        call.restype = ctypes.c_uint32
+        return call
+
+    def lending_call(self, name):
+        return self.call_of(name, *SLICE, *SLICE, *SLICE, ctypes.c_void_p)
+
+    def answering_call(self, name):
+        return self.call_of(name, *SLICE, *SLICE, ctypes.c_size_t, ctypes.c_void_p)
+
+    def unchanged(self):
+        """An error if a call changed its text or card, or its tables file."""
+        self.sources.unchanged()
+        self.files.unchanged()
+
+    def lend(self, call, source, file, room, elements):
+        """The answer of a call that is lent a list: a count or a refusal, and the list afterwards."""
+        status = call(*self.sources.put(source), *self.files.put(file), *room.put(elements), self.counts.put())
+        self.unchanged()
+        count = self.counts.after(call.__name__, status)
+        return (count if status == 0 else model.Refused(status)), room.after()
+
+    def ask(self, call, source, file, row, meanings):
+        """The answer of a call on a row: what the number that it wrote means, or a refusal."""
+        status = call(*self.sources.put(source), *self.files.put(file), row, self.answers.put())
+        self.unchanged()
+        number = self.answers.after(call.__name__, status)
+        if status != 0:
+            return model.Refused(status)
+        if number not in meanings:
+            raise OutsideWritten(f"{call.__name__} answered {number}")
+        return meanings[number]
 
 
-class ReaderCalls:
-    """READ of the library, answering as the model does, but that its list holds numbers, eight for each part."""
+class Rules(Calls):
+    """READ, JUDGE and CARD of the library, answering as the model does, but that READ's list holds numbers, eight for each part."""
 
-    def __init__(self, shared):
-        library = ctypes.CDLL(str(shared))
-        self.texts, self.files, self.lists = EndOfPage(MOST_SOURCE_BYTES), EndOfPage(MOST_FILE_BYTES), LentList(SIGNED)
-        self.read_call = call_of(library, "roskudla_read", SLICE, SLICE, SLICE, ctypes.POINTER(ctypes.c_size_t))
+    def __init__(self, library):
+        super().__init__(library)
+        self.numbers, self.cards = LentList(SIGNED), LentList(BYTE)
+        self.read_call, self.card_call = self.lending_call("roskudla_read"), self.lending_call("roskudla_card")
+        self.judge_call = self.answering_call("roskudla_judge")
 
     def read(self, text, file, numbers):
         """READ's answer, a count of parts or a refusal, and the lent list afterwards."""
-        count = ctypes.c_size_t(UNTOUCHED_COUNT)
-        status = self.read_call(*self.texts.put(text), *self.files.put(file), *self.lists.put(numbers), ctypes.byref(count))
-        self.texts.unchanged()
-        self.files.unchanged()
-        return counted("READ", status, count, self.lists)
+        return self.lend(self.read_call, text, file, self.numbers, numbers)
+
+    def judge(self, text, file, row):
+        return self.ask(self.judge_call, text, file, row, {0: model.FALSE, 1: model.UNKNOWN, 2: model.TRUE})
+
+    def card(self, text, file, buffer):
+        """CARD's answer, a length or a refusal, and the lent buffer afterwards."""
+        return self.lend(self.card_call, text, file, self.cards, buffer)
 
 
-class Gate:
+class Gate(Calls):
     """CHECK, RUN and LIST of the library, answering as the model does."""
 
-    def __init__(self, shared):
-        library = ctypes.CDLL(str(shared))
-        self.cards, self.files, self.lists = EndOfPage(MOST_SOURCE_BYTES), EndOfPage(MOST_FILE_BYTES), LentList(UNSIGNED)
-        self.check_call = call_of(library, "roskudla_check", SLICE)
-        self.run_call = call_of(library, "roskudla_run", SLICE, SLICE, ctypes.c_size_t, ctypes.POINTER(ctypes.c_uint8))
-        self.list_call = call_of(library, "roskudla_list", SLICE, SLICE, SLICE, ctypes.POINTER(ctypes.c_size_t))
-
-    def unchanged(self):
-        self.cards.unchanged()
-        self.files.unchanged()
+    def __init__(self, library):
+        super().__init__(library)
+        self.rows = LentList(UNSIGNED)
+        self.check_call = self.call_of("roskudla_check", *SLICE)
+        self.run_call, self.list_call = self.answering_call("roskudla_run"), self.lending_call("roskudla_list")
 
     def check(self, card):
-        status = self.check_call(*self.cards.put(card))
-        self.cards.unchanged()
+        status = self.check_call(*self.sources.put(card))
+        self.sources.unchanged()
         return model.SOUND if status == 0 else model.Refused(status)
 
     def run(self, card, file, row):
-        answer = ctypes.c_uint8(UNTOUCHED_ANSWER)
-        status = self.run_call(*self.cards.put(card), *self.files.put(file), row, ctypes.byref(answer))
-        self.unchanged()
-        if status != 0:
-            if answer.value != UNTOUCHED_ANSWER:
-                raise OutsideWritten(f"RUN refused with {status} and wrote its answer")
-            return model.Refused(status)
-        if answer.value not in (0, 1):
-            raise OutsideWritten(f"RUN answered {answer.value}")
-        return answer.value == 1
+        return self.ask(self.run_call, card, file, row, {0: False, 1: True})
 
     def list_rows(self, card, file, buffer):
         """LIST's answer, a count or a refusal, and the lent list afterwards."""
-        count = ctypes.c_size_t(UNTOUCHED_COUNT)
-        status = self.list_call(*self.cards.put(card), *self.files.put(file), *self.lists.put(buffer), ctypes.byref(count))
-        self.unchanged()
-        return counted("LIST", status, count, self.lists)
+        return self.lend(self.list_call, card, file, self.rows, buffer)

@@ -1,12 +1,20 @@
 """Texts with what document 01 answers to them, worked out by hand from the paper: its own examples, and their nearest neighbours on the other side.
 
 An example is a text, a tables file and an answer: the number of the refusal, or the numbers of the parts as they stand in the list, with a stroke between
-two parts. The numbers of a part are kind, comparison, table, end, tag and number of the left value, tag and number of the right value.
+two parts. The numbers of a part are kind, comparison, table, end, tag and number of the left value, tag and number of the right value. Cards are written in
+the same way, entry by entry: kind, end, table, comparison, tag and number of the left value, tag and number of the right value.
 """
+import struct
+import typing
 
 ONE_COLUMN = bytes.fromhex("01 01 00 00")
 THREE_COLUMNS = bytes.fromhex("01 03 00 00")
 CASE_COLUMNS = bytes.fromhex("03 02 00 00 01 00 00 01 00 00")  # tables of 2, 1 and 1 columns, as those of the proved cases
+# the tables of the proved cases, (1, 5), (2, blank), (3, 0); 1, blank; no rows. The value bytes under the blanks are 7 and 1, which no answer may show
+CASE_TABLES = bytes.fromhex(
+    "03 02 03 00 01 02 00 01 00 00"
+    " 01 00 00 00 05 00 00 00  02 00 00 00 07 00 00 00  03 00 00 00 00 00 00 00  01 00 00 00  01 00 00 00"
+    " 00 00  00 01  00 00  00  01")
 ONE_CELL = "01 01 01 00 00 00 00 00"
 
 TEST = b"1 = 1"
@@ -90,22 +98,43 @@ REFUSALS = (
     (b"EXISTS (FROM 0 v WHERE 1 = 1)", ONE_COLUMN, 8),
 )
 
-# the proved cases 1 to 12, the rule of the card that the paper works out, and forms that are not among them
+
+class ProvedCase(typing.NamedTuple):
+    """A proved case: a rule, its values on rows 0, 1 and 2, its parts, and the entries of its card."""
+    text: bytes
+    values: str
+    parts: str
+    entries: str
+
+
 ALL2 = b"(SELECT v.1 FROM 2 v WHERE 1 = 1)"
 ALL3 = b"(SELECT v.1 FROM 3 v WHERE 1 = 1)"
-RULES = (
-    (b"m.2 > 0", CASE_COLUMNS, "4 5 0 1 0 2 255 0"),
-    (b"NOT m.2 > 0", CASE_COLUMNS, "3 0 0 2 0 0 0 0 / 4 5 0 2 0 2 255 0"),
-    (b"m.2 > 0 OR NOT m.2 > 0", CASE_COLUMNS, "2 0 0 4 0 0 0 0 / 4 5 0 2 0 2 255 0 / 3 0 0 4 0 0 0 0 / 4 5 0 4 0 2 255 0"),
-    (b"m.2 IS NULL", CASE_COLUMNS, "5 0 0 1 0 2 0 0"),
-    (b"m.1 IN " + ALL2, CASE_COLUMNS, "8 1 2 2 0 1 1 1 / 4 1 0 2 255 1 255 1"),
-    (b"m.1 NOT IN " + ALL2, CASE_COLUMNS, "9 2 2 2 0 1 1 1 / 4 1 0 2 255 1 255 1"),
-    (b"m.1 <> ALL (SELECT v.1 FROM 2 v WHERE v.1 = 1)", CASE_COLUMNS, "9 2 2 2 0 1 1 1 / 4 1 0 2 1 1 255 1"),
-    (b"m.2 = ALL " + ALL3, CASE_COLUMNS, "9 1 3 2 0 2 1 1 / 4 1 0 2 255 1 255 1"),
-    (b"m.2 = SOME " + ALL3, CASE_COLUMNS, "8 1 3 2 0 2 1 1 / 4 1 0 2 255 1 255 1"),
-    (b"EXISTS (FROM 2 v WHERE v.1 > 1)", CASE_COLUMNS, "7 0 2 2 0 0 0 0 / 4 5 0 2 1 1 255 1"),
-    (b"NOT EXISTS (FROM 2 v WHERE v.1 > 1)", CASE_COLUMNS, "3 0 0 3 0 0 0 0 / 7 0 2 3 0 0 0 0 / 4 5 0 3 1 1 255 1"),
-    (b"m.1 = SOME (SELECT m.1 FROM 2 m WHERE m.1 = 1)", CASE_COLUMNS, "8 1 2 2 0 1 1 1 / 4 1 0 2 1 1 255 1"),
+CASES = (
+    ProvedCase(b"m.2 > 0", "TUF", "4 5 0 1 0 2 255 0", "5 1 0 5 0 2 255 0"),
+    ProvedCase(b"NOT m.2 > 0", "FUT", "3 0 0 2 0 0 0 0 / 4 5 0 2 0 2 255 0", "5 1 0 4 0 2 255 0"),
+    ProvedCase(b"m.2 > 0 OR NOT m.2 > 0", "TUT", "2 0 0 4 0 0 0 0 / 4 5 0 2 0 2 255 0 / 3 0 0 4 0 0 0 0 / 4 5 0 4 0 2 255 0",
+               "2 3 0 0 0 0 0 0 / 5 2 0 5 0 2 255 0 / 5 3 0 4 0 2 255 0"),
+    ProvedCase(b"m.2 IS NULL", "FTF", "5 0 0 1 0 2 0 0", "7 1 0 0 0 2 0 0"),
+    ProvedCase(b"m.1 IN " + ALL2, "TUU", "8 1 2 2 0 1 1 1 / 4 1 0 2 255 1 255 1",
+               "3 4 2 0 0 0 0 0 / 1 4 0 0 0 0 0 0 / 5 3 0 1 255 1 255 1 / 5 4 0 1 0 1 1 1"),
+    ProvedCase(b"m.1 NOT IN " + ALL2, "FUU", "9 2 2 2 0 1 1 1 / 4 1 0 2 255 1 255 1",
+               "4 4 2 0 0 0 0 0 / 2 4 0 0 0 0 0 0 / 6 3 0 2 255 1 255 1 / 5 4 0 2 0 1 1 1"),
+    ProvedCase(b"m.1 <> ALL (SELECT v.1 FROM 2 v WHERE v.1 = 1)", "FTT", "9 2 2 2 0 1 1 1 / 4 1 0 2 1 1 255 1",
+               "4 4 2 0 0 0 0 0 / 2 4 0 0 0 0 0 0 / 6 3 0 2 1 1 255 1 / 5 4 0 2 0 1 1 1"),
+    ProvedCase(b"m.2 = ALL " + ALL3, "TTT", "9 1 3 2 0 2 1 1 / 4 1 0 2 255 1 255 1",
+               "4 4 3 0 0 0 0 0 / 2 4 0 0 0 0 0 0 / 6 3 0 2 255 1 255 1 / 5 4 0 1 0 2 1 1"),
+    ProvedCase(b"m.2 = SOME " + ALL3, "FFF", "8 1 3 2 0 2 1 1 / 4 1 0 2 255 1 255 1",
+               "3 4 3 0 0 0 0 0 / 1 4 0 0 0 0 0 0 / 5 3 0 1 255 1 255 1 / 5 4 0 1 0 2 1 1"),
+    ProvedCase(b"EXISTS (FROM 2 v WHERE v.1 > 1)", "FFF", "7 0 2 2 0 0 0 0 / 4 5 0 2 1 1 255 1", "3 2 2 0 0 0 0 0 / 5 2 0 5 1 1 255 1"),
+    ProvedCase(b"NOT EXISTS (FROM 2 v WHERE v.1 > 1)", "TTT", "3 0 0 3 0 0 0 0 / 7 0 2 3 0 0 0 0 / 4 5 0 3 1 1 255 1",
+               "4 2 2 0 0 0 0 0 / 6 2 0 4 1 1 255 1"),
+    ProvedCase(b"m.1 = SOME (SELECT m.1 FROM 2 m WHERE m.1 = 1)", "TFF", "8 1 2 2 0 1 1 1 / 4 1 0 2 1 1 255 1",
+               "3 4 2 0 0 0 0 0 / 1 4 0 0 0 0 0 0 / 5 3 0 1 1 1 255 1 / 5 4 0 1 0 1 1 1"),
+)
+
+# the proved cases 1 to 12, the rule of the card that the paper works out, and forms that are not among them
+THREE_LEVELS = b"EXISTS (FROM 1 a WHERE a.1 < SOME (SELECT b.1 FROM 2 b WHERE EXISTS (FROM 3 c WHERE c.1 = m.2 AND a.2 > b.1)))"
+RULES = tuple((case.text, CASE_COLUMNS, case.parts) for case in CASES) + (
     (b"NOT m.2 < 5", THREE_COLUMNS, "3 0 0 2 0 0 0 0 / 4 3 0 2 0 2 255 5"),
     (b"1 = 1 OR 2 = 2 OR 3 = 3", ONE_COLUMN,
      "2 0 0 5 0 0 0 0 / 2 0 0 4 0 0 0 0 / 4 1 0 3 255 1 255 1 / 4 1 0 4 255 2 255 2 / 4 1 0 5 255 3 255 3"),
@@ -114,7 +143,7 @@ RULES = (
     (b"m.1 IS NOT NULL AND m.2 <= 1 OR 3 >= m.1 AND (m.1 < 1 OR m.2 <> m.1)", CASE_COLUMNS,
      "2 0 0 9 0 0 0 0 / 1 0 0 4 0 0 0 0 / 6 0 0 3 0 1 0 0 / 4 4 0 4 0 2 255 1 /"
      " 1 0 0 9 0 0 0 0 / 4 6 0 6 255 3 0 1 / 2 0 0 9 0 0 0 0 / 4 3 0 8 0 1 255 1 / 4 2 0 9 0 2 0 1"),
-    (b"EXISTS (FROM 1 a WHERE a.1 < SOME (SELECT b.1 FROM 2 b WHERE EXISTS (FROM 3 c WHERE c.1 = m.2 AND a.2 > b.1)))", CASE_COLUMNS,
+    (THREE_LEVELS, CASE_COLUMNS,
      "7 0 1 6 0 0 0 0 / 8 3 2 6 1 1 2 1 / 7 0 3 6 0 0 0 0 / 1 0 0 6 0 0 0 0 / 4 1 0 5 3 1 0 2 / 4 5 0 6 1 2 2 1"),
 )
 EXAMPLES = REFUSALS + RULES
@@ -123,3 +152,31 @@ EXAMPLES = REFUSALS + RULES
 def numbers(parts):
     """Parts as they are written above, as the list has them."""
     return tuple(int(number) for number in parts.replace("/", " ").split())
+
+
+# ---- cards
+
+WORKED_TEXT = b"NOT m.2 < 5"
+WORKED_CARD = bytes.fromhex("01 00 01 03 05 01 00 00 06 00 02 00 00 00 FF 05 00 00 00")
+
+# rules over the columns of the proved cases, and the entries of their cards: NOT over each connective, over lists and inside them, and numbers at their ends
+CARDS = tuple((case.text, case.entries) for case in CASES) + (
+    (b"NOT NOT m.1 = 1", "5 1 0 1 0 1 255 1"),
+    (b"NOT (m.1 IS NULL AND NOT m.2 >= 3)", "2 3 0 0 0 0 0 0 / 8 2 0 0 0 1 0 0 / 5 3 0 6 0 2 255 3"),
+    (b"NOT (m.1 IS NOT NULL OR m.2 <= m.1)", "1 3 0 0 0 0 0 0 / 7 2 0 0 0 1 0 0 / 5 3 0 5 0 2 0 1"),
+    (b"NOT m.1 IN (SELECT v.1 FROM 2 v WHERE v.1 > 1)", "4 4 2 0 0 0 0 0 / 2 4 0 0 0 0 0 0 / 6 3 0 4 1 1 255 1 / 5 4 0 2 0 1 1 1"),
+    (b"NOT m.1 NOT IN (SELECT v.1 FROM 2 v WHERE NOT v.1 > 1)", "3 4 2 0 0 0 0 0 / 1 4 0 0 0 0 0 0 / 5 3 0 4 1 1 255 1 / 5 4 0 1 0 1 1 1"),
+    (b"m.1 < ALL (SELECT v.1 FROM 2 v WHERE NOT v.1 <> m.1)", "4 4 2 0 0 0 0 0 / 2 4 0 0 0 0 0 0 / 6 3 0 2 1 1 0 1 / 5 4 0 3 0 1 1 1"),
+    (b"NOT EXISTS (FROM 3 v WHERE NOT EXISTS (FROM 2 w WHERE w.1 = v.1))", "4 3 3 0 0 0 0 0 / 3 3 2 0 0 0 0 0 / 5 3 0 1 2 1 1 1"),
+    (b"-2147483648 < m.1 AND 2147483647 <> -1", "1 3 0 0 0 0 0 0 / 5 2 0 3 255 -2147483648 0 1 / 5 3 0 2 255 2147483647 255 -1"),
+    (THREE_LEVELS, "3 8 1 0 0 0 0 0 / 3 8 2 0 0 0 0 0 / 1 8 0 0 0 0 0 0 / 3 7 3 0 0 0 0 0 / 1 7 0 0 0 0 0 0 /"
+     " 5 6 0 1 3 1 0 2 / 5 7 0 5 1 2 2 1 / 5 8 0 3 1 1 2 1"),
+)
+
+
+def card(columns, entries):
+    """The bytes of a card for tables of these columns, with entries as they are written above."""
+    fields = [[int(number) for number in entry.split()] for entry in entries.split("/")]
+    head = struct.pack("<HB", len(fields), len(columns)) + bytes(columns)
+    kinds = bytes(entry[0] for entry in fields)
+    return head + kinds + b"".join(struct.pack("<HBBBiBi", *entry[1:]) for entry in fields)

@@ -8,6 +8,7 @@ import tempfile
 
 import compare
 import library
+import variants
 
 import cases  # noqa: E402  (library adds the model's folder to the path)
 import generate
@@ -15,8 +16,6 @@ import model
 
 SEED = 20260301
 DRAWS_OF_EACH_CALL = 4000
-LAST_ROW = 2**64 - 1
-ENDS = (-2**31, -2**31 + 1, -1, 0, 1, 2**31 - 2, 2**31 - 1)
 UNTOUCHED = cases.UNTOUCHED_NUMBER
 
 
@@ -67,26 +66,20 @@ def small_cards():
     return [model.card_bytes(entry, [2, 1]) for entry in entries]
 
 
-def each_byte(whole):
-    """Each byte changed to each value."""
-    for place, value in itertools.product(range(len(whole)), range(256)):
-        yield whole[:place] + bytes([value]) + whole[place + 1:]
-
-
-def each_length(whole):
-    """Every shorter one, and some longer ones."""
-    yield from (whole[:length] for length in range(len(whole)))
-    yield from (whole + more for more in (b"\0", b"\1", b"\xff", bytes(4), bytes(5), bytes(14), bytes(15), bytes(16), whole))
+def changed_bytes(whole):
+    """Each byte changed to each value, every shorter length, and some longer ones."""
+    longer = (whole + more for more in (b"\0", b"\1", b"\xff", bytes(4), bytes(5), bytes(14), bytes(15), bytes(16), whole))
+    return itertools.chain(variants.each_byte(whole), variants.each_length(whole), longer)
 
 
 def damaged_cards():
     """CHECK of small cards, each byte at each value and each length; for one of them RUN and LIST too."""
     sheets = small_cards()
     for sheet in sheets:
-        for changed in itertools.chain(each_byte(sheet), each_length(sheet)):
+        for changed in changed_bytes(sheet):
             yield cases.Case("CHECK", changed)
     file = generate.tables_file(SHAPE)
-    for changed in itertools.chain(each_byte(sheets[4]), each_length(sheets[4])):
+    for changed in changed_bytes(sheets[4]):
         yield cases.Case("RUN", changed, file, row=1)
         yield cases.Case("LIST", changed, file, buffer=(UNTOUCHED,) * 2)
 
@@ -95,7 +88,7 @@ def damaged_files():
     """RUN and LIST with a small tables file, each byte at each value and each length."""
     sheet = small_cards()[6]
     file = generate.tables_file(SHAPE)
-    for changed in itertools.chain(each_byte(file), each_length(file)):
+    for changed in changed_bytes(file):
         yield cases.Case("RUN", sheet, changed, row=0)
         yield cases.Case("RUN", sheet, changed, row=1)
         yield cases.Case("LIST", sheet, changed, buffer=(UNTOUCHED,) * 2)
@@ -120,26 +113,24 @@ def limit_cases():
     for sizes, file, refusal in cases.limit_files():
         sheets = limit_cards(sizes or [(1, 0)])
         if refusal is not None:
-            for row in (0, LAST_ROW):
+            for row in (0, variants.LAST_ROW):
                 yield compare.Stated(cases.Case("RUN", sheets[0], file, row=row), f"refused {refusal}")
             yield compare.Stated(cases.Case("LIST", sheets[1], file, buffer=(UNTOUCHED,) * 3), f"refused {refusal}")
             continue
-        rows = sizes[0][1]
         for sheet in sheets:
-            for row in (0, 1, rows // 2, rows - 2, rows - 1, rows, rows + 1, 2**16, 2**32, 2**63, LAST_ROW):
-                if row >= 0:
-                    yield cases.Case("RUN", sheet, file, row=row)
+            for row in variants.row_numbers(sizes[0][1]):
+                yield cases.Case("RUN", sheet, file, row=row)
             for more in (-1, 0, 1):
                 yield cases.fitting("LIST", sheet, file, more)
 
 
 def end_cases():
     """Each comparison, unknown as no and as yes, of two numbers from the ends of their range or blank, as cells and as constants."""
-    cells = ENDS + (None,)
+    cells = variants.ENDS + (None,)
     file = generate.tables_file([(2, [[left, right] for left in cells for right in cells])])
     first, second = model.TaggedValue(0, 1), model.TaggedValue(0, 2)
     for kind, comparison in itertools.product((5, 6), range(1, 7)):
-        constants = [model.TaggedValue(model.CONSTANT_TAG, number) for number in ENDS]
+        constants = [model.TaggedValue(model.CONSTANT_TAG, number) for number in variants.ENDS]
         pairs = [(first, second)] + list(itertools.product(constants, constants))
         pairs += [(first, constant) for constant in constants] + [(constant, second) for constant in constants]
         for left, right in pairs:
@@ -199,12 +190,15 @@ GROUPS = (
 )
 
 
+def check_all(gate):
+    comparison = compare.Comparison(lambda case: answer_of(gate, case))
+    comparison.groups(GROUPS)
+    comparison.demand(WANTED)
+
+
 def main():
     with tempfile.TemporaryDirectory() as folder:
-        gate = library.Gate(library.build("roskudla_gate", folder))
-        comparison = compare.Comparison(lambda case: answer_of(gate, case))
-        comparison.groups(GROUPS)
-    comparison.demand(WANTED)
+        check_all(library.Gate(library.load("roskudla_gate", folder)))
 
 
 if __name__ == "__main__":

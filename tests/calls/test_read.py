@@ -12,6 +12,7 @@ import compare
 import library
 import paper
 import stored
+import variants
 
 import cases  # noqa: E402  (library adds the model's folder to the path)
 import generate
@@ -51,13 +52,9 @@ def check_written(reader, text, file, wanted):
     lent = (UNTOUCHED,) * AMPLE_NUMBERS
     refused = isinstance(wanted, model.Refused)
     stated = (wanted, lent) if refused else (len(wanted) // cases.PART_NUMBERS, wanted + lent[len(wanted):])
-    got = reader.read(text, file, lent)
-    if got != stated:
-        raise compare.Disagreement(f"{compare.shown(text)}\n  got    {got}\n  wanted {stated}")
+    compare.same(text, reader.read(text, file, lent), stated)
     parts = model.read(text, file, cases.AMPLE_ROOM)
-    of_model = parts if isinstance(parts, model.Refused) else cases.numbers_of(parts)
-    if of_model != wanted:
-        raise compare.Disagreement(f"{compare.shown(text)}\n  of the model {of_model}\n  wanted       {wanted}")
+    compare.same(f"{text} by the model", parts if isinstance(parts, model.Refused) else cases.numbers_of(parts), wanted)
     return "READ", f"refused {wanted.number}" if refused else "given"
 
 
@@ -67,54 +64,21 @@ def check_paper(reader):
     for text, file, answer in paper.EXAMPLES:
         wanted = model.Refused(answer) if isinstance(answer, int) else paper.numbers(answer)
         seen[check_written(reader, text, file, wanted)] += 1
-    compare.demand("answers worked out by hand", seen, read_sorts(1, 2, 3, 4, 5, 6, 7, 8))
-    print(f"answers worked out by hand: {seen.total()} agree")
+    compare.agreed("answers worked out by hand", seen, read_sorts(1, 2, 3, 4, 5, 6, 7, 8))
 
 
 def check_stored(reader):
     """The stored answers."""
-    seen = collections.Counter(check_written(reader, *answer) for answer in stored.answers())
-    if seen.total() != stored.DRAWS + len(stored.LONG_TEXTS):
-        raise compare.Disagreement(f"{seen.total()} stored answers")
-    compare.demand("stored answers", seen, read_sorts(1, 2, 3, 4, 5, 6, 7, 8))
-    print(f"stored answers: {seen.total()} agree")
+    seen = collections.Counter(check_written(reader, *answer) for answer in stored.READ.answers())
+    compare.same("how many answers are stored", seen.total(), stored.READ.size())
+    compare.agreed("stored answers", seen, read_sorts(1, 2, 3, 4, 5, 6, 7, 8))
 
 
 # ---- limits, from both sides
 
-def nested(count, text, letter="v"):
-    """Text under so many FROMs."""
-    for _ in range(count):
-        text = f"EXISTS(FROM 1 {letter} WHERE {text})"
-    return text
-
-
-def limit_texts():
-    """Texts on both sides of the limits of digits, numbers, columns, tables, FROMs and parts."""
-    for digits in (1, 9, 10, 11, 12):
-        yield from ("1=" + "0" * (digits - 1) + "7", "1=-" + "0" * (digits - 1) + "7", "7" * digits + "=1")
-    for number in (-2**31 - 1, -2**31, -2**31 + 1, -1, 0, 1, 2**31 - 1, 2**31, 9999999999):
-        yield from (f"1={number}", f"m.{number}=1", f"EXISTS(FROM {number} v WHERE 1=1)", f"{number} IS NULL")
-    for number in range(-1, 18):
-        yield from (f"m.{number}=1", f"EXISTS(FROM {number} v WHERE v.1=1)", f"EXISTS(FROM 3 v WHERE v.{number}=1)")
-    for froms, core in itertools.product(range(6), ("1=1", "v.1=1", "w.1=1", "1=", "m.1=@")):
-        yield nested(froms, core)
-        yield f"1=1 OR {nested(froms, core)} AND {nested(3, '1=1')}"
-        yield nested(froms, "m.1 NOT IN(SELECT v.1 FROM 2 v WHERE " + core + ")")
-    for froms, core in itertools.product((31, 32, 33), ("1=1", "w.1=1", "1=")):
-        yield nested(froms, core)
-    for parts in (61, 62, 63, 64, 65, 66, 200, 1000):
-        yield from ("NOT " * (parts - 1) + "1=1", "NOT " * (parts - 1) + "k.1=1", "NOT " * (parts - 1) + "1=")
-    for tests in (31, 32, 33, 34, 500):
-        for word in ("AND", "OR"):
-            yield f" {word} ".join(["1=1"] * tests)
-            yield f" {word} ".join(["(1=1)"] * tests)
-        yield "1=1" + " AND 2=2 OR 3=3" * (tests // 2)
-
-
 def limit_cases():
     """These texts, and the cases of READ among the model's own targeted ones."""
-    for text in limit_texts():
+    for text in variants.limit_texts():
         yield read_case(text.encode())
     few = (cases.trap_cases, cases.bracket_cases, cases.part_limit_cases, cases.text_length_cases, cases.table_limit_cases)
     for case in itertools.chain.from_iterable(group() for group in few):
@@ -128,9 +92,6 @@ def size_cases():
         columns = [count for count, _ in sizes] or [1]
         text = f"EXISTS(FROM {len(columns)} v WHERE m.{columns[0]}=v.{columns[-1]})".encode()
         yield compare.Stated(cases.Case("READ", text, file, buffer=cases.lent("READ", 3)), "given" if refusal is None else f"refused {refusal}")
-
-
-COLUMNS = (5, 2, 16, 7, 1, 9, 3, 12)
 
 
 def named_columns(first, second):
@@ -147,10 +108,10 @@ def named_columns(first, second):
 def column_cases():
     """The last column of each table and the one behind it, and absent tables, with one to eight tables of which no two have as many columns."""
     for count in range(1, 9):
-        file = generate.tables_file([(columns, []) for columns in COLUMNS[:count]])
+        file = generate.tables_file([(columns, []) for columns in variants.COLUMNS[:count]])
         for first, second in itertools.product(range(1, count + 1), repeat=2):
             for text, table in named_columns(first, second):
-                last = COLUMNS[table - 1]
+                last = variants.COLUMNS[table - 1]
                 yield compare.Stated(cases.fitting("READ", text.format(last).encode(), file), "given")
                 yield compare.Stated(cases.fitting("READ", text.format(last + 1).encode(), file), "refused 8")
         for table in (-1, 0, count + 1, count + 2, 256, 257):
@@ -162,10 +123,8 @@ ONE_ROW = generate.tables_file([(1, [[1]])])
 
 def damaged_files():
     """A rule with a small tables file, each byte at each value and each shorter length."""
-    for place, value in itertools.product(range(len(ONE_ROW)), range(256)):
-        yield cases.fitting("READ", b"m.1=1", ONE_ROW[:place] + bytes([value]) + ONE_ROW[place + 1:])
-    for length in range(len(ONE_ROW)):
-        yield cases.fitting("READ", b"m.1=1", ONE_ROW[:length])
+    for file in itertools.chain(variants.each_byte(ONE_ROW), variants.each_length(ONE_ROW)):
+        yield cases.fitting("READ", b"m.1=1", file)
 
 
 # ---- tokens next to one another
@@ -202,10 +161,7 @@ SMALL_RULES = (
 def damaged_rules():
     """Small rules with every byte at every value, cut at every length, and with every byte left out or doubled."""
     for rule in SMALL_RULES:
-        for place, value in itertools.product(range(len(rule)), range(256)):
-            yield read_case(rule[:place] + bytes([value]) + rule[place + 1:])
-        for place in range(len(rule)):
-            yield from (read_case(rule[:place]), read_case(rule[:place] + rule[place + 1:]), read_case(rule[:place] + rule[place:place + 1] + rule[place:]))
+        yield from (read_case(text) for text in variants.damaged_texts(rule))
 
 
 def long_texts():
@@ -267,19 +223,21 @@ def check_rooms(reader):
             if reader.read(text, TABLES, lent) != stated:
                 raise compare.Disagreement(f"{text} into {room} elements")
             seen["READ", sort] += 1
-    compare.demand("lists of every length", seen, read_sorts(6, 8, 12))
-    print(f"lists of every length: {seen.total()} answers agree")
+    compare.agreed("lists of every length", seen, read_sorts(6, 8, 12))
+
+
+def check_all(reader):
+    check_paper(reader)
+    check_stored(reader)
+    check_rooms(reader)
+    comparison = compare.Comparison(lambda case: answer_of(reader, case))
+    comparison.groups(GROUPS)
+    comparison.demand(WANTED)
 
 
 def main():
     with tempfile.TemporaryDirectory() as folder:
-        reader = library.ReaderCalls(library.build("roskudla", folder))
-        check_paper(reader)
-        check_stored(reader)
-        check_rooms(reader)
-        comparison = compare.Comparison(lambda case: answer_of(reader, case))
-        comparison.groups(GROUPS)
-    comparison.demand(WANTED)
+        check_all(library.Rules(library.load("roskudla", folder)))
 
 
 if __name__ == "__main__":

@@ -2,12 +2,12 @@
 use mathlib.Core.Bool.{Bool, true, false, not, _&&_, _||_}
 use mathlib.Core.List.{List, [], _∷_, _++_}
 use Prim.Native.Nat.{ℕ, _+_}
-use lib.Dec.{leb, ltb}
-use lib.ListN.{length, getD}
-use Rattle.tables.specs.Lists.{numbered, any, all}
-use Rattle.tables.specs.Bytes.{between, inRange}
+use lib.Dec.{leb}
+use lib.ListN.{length}
+use Rattle.tables.specs.Lists.{any, all}
+use Rattle.tables.specs.Bytes.{between}
 use Rattle.tables.specs.Tables.{Cell, Row, Tables, rowsOf}
-use Rattle.tables.specs.Values.{Value, Constant, Column, Comparison, holds, Connective, And, Or, Quantifier, Some, All, Env, _▸_, cellOf, byNumbers, isBlank}
+use Rattle.tables.specs.Values.{Value, Comparison, holds, Connective, And, Or, Quantifier, Some, All, Env, _▸_, cellOf, byNumbers, isBlank, valueFits}
 
 -- how many row entries a sound card may have around one another
 abbrev pub mostRowEntries : ℕ
@@ -66,15 +66,11 @@ entries (RowEntry q t c) = 1 + entries c
 
 -- columns has the columns of each table; levels has the table of each level, level 0 first
 module _ (columns : List ℕ) where
-  -- a value of a sound card: its level and column exist, its number has 32 bits
-  abbrev pub valueFits : List ℕ → Value → Bool
-  valueFits levels (Constant k) = inRange k
-  valueFits levels (Column l c) = ltb l (length levels) && between 1 (numbered columns (getD levels l 0) 0) c
-
+  -- the values of a sound card exist
   abbrev pub leafFits : List ℕ → Leaf → Bool
-  leafFits levels (CompareLeaf u op l r) = valueFits levels l && valueFits levels r
-  leafFits levels (BlankLeaf l) = valueFits levels l
-  leafFits levels (NotBlankLeaf l) = valueFits levels l
+  leafFits levels (CompareLeaf u op l r) = valueFits columns levels l && valueFits columns levels r
+  leafFits levels (BlankLeaf l) = valueFits columns levels l
+  leafFits levels (NotBlankLeaf l) = valueFits columns levels l
 
   -- a row entry of a sound card: its table exists, and it is within at most two others (levels has one for the judged row and one for each of
   -- them, so it has at most three)

@@ -1,1 +1,17 @@
-// What a card is. The definitions are in specs/.
+// What a card is. The definitions are in specs/; these are the numbers of its layout, for the functions that read and write cards.
+
+// Most entries of a card, and most row entries around one another.
+pub const MOST_ENTRIES: usize = 192;
+
+pub const MOST_ROW_ENTRIES: usize = 3;
+
+// The bytes of a record, and the place of each field in it, after the two bytes of its end.
+pub const RECORD_SIZE: usize = 14;
+
+pub const TABLE_PLACE: usize = 2;
+
+pub const COMPARISON_PLACE: usize = 3;
+
+pub const LEFT_PLACE: usize = 4;
+
+pub const RIGHT_PLACE: usize = 9;

@@ -16,12 +16,13 @@ use lib.ListN.{length, getD, set, take, length-set}
 use lib.Seq.{length-take-le, getD-take, getD-set-same, getD-set-other, take-suc-set}
 use Rattle.tables.specs.Lists.{numbered}
 use Rattle.tables.specs.Bytes.{between, byteAt, inRange}
-use Rattle.tables.specs.Values.{constantTag, judgedLevels, Connective, And, Or, Quantifier, Some, All}
+use Rattle.tables.specs.Values.{constantTag, judgedLevels, Connective, And, Or, Quantifier, Some, All, valueFits}
 use Rattle.cells.specs.Code.{fromExcess}
-use Rattle.card.specs.Card.{mostRowEntries, Leaf, Card, LeafEntry, PairEntry, RowEntry, valueFits, leafFits, rowEntryFits, cardFits}
+use Rattle.card.specs.Card.{mostRowEntries, Leaf, Card, LeafEntry, PairEntry, RowEntry, leafFits, rowEntryFits, cardFits}
 use Rattle.card.specs.Layout.{LeafHead, PairHead, RowHead, entryCount, tablesIn, columnsIn, kindAt, recordAt, endAt, headFrom, cardFrom}
 use Rattle.card.specs.Sound.{laid, holdsFitting, sound}
-use Rattle.checker.specs.Code.{Laid, Decoded, valueIn, kindIn, endIn, tableIn, leftIn, rightIn, headIn, Coded, coded-leaf, coded-pair, coded-row, Fitting, Checks, LevelsIn, Checkable}
+use Rattle.checker.specs.Code.{Laid, Decoded, kindIn, endIn, tableIn, leftIn, rightIn, headIn, Coded, coded-leaf, coded-pair, coded-row, Fitting, Checks, LevelsIn, Checkable}
+use Rattle.values.specs.Code.{valueIn}
 use Rattle.tables.proofs.Tests.{is-true, both, bounds}
 use Rattle.tables.proofs.Tabulated.{tabulate-at}
 use Rattle.checker.proofs.Coded.{head-1, head-2, head-3, head-4, head-5, head-6, head-7, head-8, kind-pair, kind-row, kind-leaf, coded-less, coded-end, pair-of, row-of, leaf-of, card-coded, coded-card}

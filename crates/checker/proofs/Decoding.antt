@@ -24,7 +24,8 @@ use Rattle.tables.proofs.Tabulated.{tabulate-length, all-each, all-of, all-no}
 use Rattle.card.specs.Card.{AsNo, AsYes, CompareLeaf, BlankLeaf, NotBlankLeaf}
 use Rattle.card.specs.Layout.{recordSize, tablePlace, comparisonPlace, leftPlace, rightPlace, Head, LeafHead, PairHead, RowHead, cardLength, entryCount, tablesIn, columnsIn, kindAt, recordAt, endAt, valueOf, valueFrom, zeros, headFrom}
 use Rattle.card.specs.Sound.{laid, mostEntries, columnsFit, sound}
-use Rattle.checker.specs.Code.{Laid, recordFrom, fieldsFit, knownKind, numberIn, valueIn, numberFrom, fieldsOf, fieldOf, Decoded, kindIn, endIn, headIn}
+use Rattle.checker.specs.Code.{Laid, recordFrom, fieldsFit, knownKind, numberIn, numberFrom, fieldsOf, fieldOf, Decoded, kindIn, endIn, headIn}
+use Rattle.values.specs.Code.{valueIn}
 use Rattle.card.proofs.Places.{in-range, bits-small, signed-bits}
 
 -- ---- the layout

@@ -10,8 +10,9 @@ use lib.ListN.{length, getD, take, drop}
 use Rattle.tables.specs.Lists.{numbered}
 use Rattle.tables.specs.Bytes.{between, byteAt, word16, word32, signed, bits}
 use Rattle.tables.specs.Tables.{mostTables, mostColumns}
-use Rattle.tables.specs.Values.{constantTag, Value, Constant, Column, comparisonOf, Connective, And, Or, Quantifier, Some, All}
-use Rattle.cells.specs.Code.{excess, fromExcess, Holds}
+use Rattle.tables.specs.Values.{constantTag, Value, comparisonOf, Connective, And, Or, Quantifier, Some, All}
+use Rattle.cells.specs.Code.{excess, Holds}
+use Rattle.values.specs.Code.{valueIn}
 use Rattle.card.specs.Card.{AsNo, AsYes, Leaf, CompareLeaf, BlankLeaf, NotBlankLeaf, Card, LeafEntry, PairEntry, RowEntry, cardFits}
 use Rattle.card.specs.Layout.{recordSize, tablePlace, comparisonPlace, leftPlace, rightPlace, Head, LeafHead, PairHead, RowHead, cardLength, entryCount, tablesIn, kindAt, recordAt, zeros}
 use Rattle.card.specs.Sound.{mostEntries}
@@ -50,12 +51,9 @@ fieldsFit kind r =
 unfoldable pub knownKind : ℕ → List ℕ → ℕ
 knownKind kind r = cond (fieldsFit kind r) kind 0
 
--- a value's number: a constant plus 2 ^ 31, or a column; and the value of a tag and such a number
+-- a value's number: a constant plus 2 ^ 31, or a column
 unfoldable pub numberIn : ℕ → ℕ → ℕ
 numberIn tag raw = cond (eqb tag constantTag) (excess (bits (signed raw))) raw
-
-unfoldable pub valueIn : ℕ → ℕ → Value
-valueIn tag n = cond (eqb tag constantTag) (Constant (fromExcess n)) (Column tag n)
 
 abbrev pub numberFrom : List ℕ → ℕ → ℕ
 numberFrom r i = numberIn (byteAt r i) (word32 r (i + 1))

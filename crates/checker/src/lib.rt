@@ -8,26 +8,29 @@ ghost use lib.ListN.{length, take};
 ghost use Rattle.tables.specs.Lists.{all};
 ghost use Rattle.tables.specs.Bytes.{between};
 ghost use Rattle.tables.specs.Tables.{mostColumns};
-ghost use Rattle.card.specs.Card.{valueFits};
+ghost use Rattle.tables.specs.Values.{valueFits};
 ghost use Rattle.card.specs.Layout.{tablesIn, columnsIn, zeros};
 ghost use Rattle.card.specs.Sound.{laid, sound};
 ghost use Rattle.card.specs.Calls.{checkCall};
 ghost use Rattle.checker.specs.Answers.{checkedAnswer};
-ghost use Rattle.checker.specs.Code.{Laid, recordFrom, RecordIn, fieldsFit, knownKind, numberFrom, Decoded, kindIn, valueIn, Checks, LevelsIn, Checkable};
+ghost use Rattle.checker.specs.Code.{Laid, recordFrom, RecordIn, fieldsFit, knownKind, numberFrom, Decoded, kindIn, Checks, LevelsIn, Checkable};
+ghost use Rattle.values.specs.Code.{valueIn};
+use card::COMPARISON_PLACE;
+use card::LEFT_PLACE;
+use card::MOST_ENTRIES;
+use card::MOST_ROW_ENTRIES;
+use card::RECORD_SIZE;
+use card::RIGHT_PLACE;
+use card::TABLE_PLACE;
 use cells::Reason;
 use cells::byte;
 use cells::read_excess;
 use cells::read16;
 use cells::read32;
+use values::CONSTANT;
+use values::LEVELS;
 
-// Limits on a card.
-pub const MOST_ENTRIES: usize = 192;
-
-pub const MOST_ROW_ENTRIES: usize = 3;
-
-// The judged row and the rows of the row entries around an entry; the numbers that an entry is decoded to, and those of all entries.
-pub const LEVELS: usize = 1 + MOST_ROW_ENTRIES;
-
+// The numbers that an entry is decoded to, and those of all entries.
 pub const FIELDS: usize = 8;
 
 pub const DECODED: usize = FIELDS * MOST_ENTRIES;
@@ -48,19 +51,6 @@ pub const RIGHT_TAG: usize = 6;
 pub const RIGHT_NUMBER: usize = 7;
 
 pub const NEXT_END: usize = FIELDS + END;
-
-// The bytes of a record, the place of each field in it, and the tag of a constant.
-const RECORD_SIZE: usize = 14;
-
-const TABLE_PLACE: usize = 2;
-
-const COMPARISON_PLACE: usize = 3;
-
-const LEFT_PLACE: usize = 4;
-
-const RIGHT_PLACE: usize = 9;
-
-pub const CONSTANT: usize = 255;
 
 // Whether each of the n tables has 1 to 16 columns.
 fn columns_fit(card: &[u8], n: usize) -> bool

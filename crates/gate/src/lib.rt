@@ -15,7 +15,7 @@ use cells::PLACES;
 use cells::Reason;
 use cells::Validity;
 use checker::DECODED;
-use checker::LEVELS;
+use values::LEVELS;
 
 // Whether the card was made for this number of tables and these columns.
 fn fits_tables(card: &[u8], file: &[u8]) -> bool

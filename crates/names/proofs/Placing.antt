@@ -46,7 +46,7 @@ module _ (file scope : List ℕ) (levels : ℕ) (t : WrittenCondition) (old new 
 
 -- ---- the numbers of parts
 
-numbers-both : (ps qs : List Part) → partsNumbers (ps ++ qs) ≡ partsNumbers ps ++ partsNumbers qs
+pub numbers-both : (ps qs : List Part) → partsNumbers (ps ++ qs) ≡ partsNumbers ps ++ partsNumbers qs
 unfolding partsNumbers
 numbers-both [] qs = refl
 numbers-both (p ∷ ps) qs = ap (partNumbers p ++_) (numbers-both ps qs) ∙ sym (append-assoc (partNumbers p) (partsNumbers ps) (partsNumbers qs))

@@ -25,6 +25,7 @@ use grammar::NOTE_NUMBERS;
 use grammar::NOTE_RIGHT_LETTER;
 use grammar::NOTE_RIGHT_NUMBER;
 use grammar::NOTE_TABLE;
+use values::CONSTANT;
 
 // The judged row's letter and those of the FROMs around a part: a letter and a table for each.
 const SCOPE_NUMBERS: usize = 2 * (1 + MOST_FROMS);
@@ -48,9 +49,6 @@ pub const PART_LEFT_NUMBER: usize = 5;
 pub const PART_RIGHT_TAG: usize = 6;
 
 pub const PART_RIGHT_NUMBER: usize = 7;
-
-// The tag of a constant.
-pub const CONSTANT: usize = 255;
 
 // A part as published; a constant is the number plus 2 ^ 31.
 pub struct Part {

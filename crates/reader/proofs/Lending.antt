@@ -1,5 +1,5 @@
 -- READ by cases: a refusal of reading, a list that is too short, and the parts.
-use mathlib.Core.Path.{_≡_, sym, ap, subst, _∙_}
+use mathlib.Core.Path.{_≡_, sym, ap, _∙_}
 use mathlib.Core.List.{List, [], _++_}
 use mathlib.Core.Option.{Option, some}
 use Prim.Native.Nat.{ℕ, _*_, _≤_, _<_}
@@ -12,20 +12,17 @@ use Rattle.tables.specs.Refusals.{firstApplying, Answer, Refused, Given, Lent, 
 use Rattle.tables.proofs.Refusals.{lend-short, lend-long, lend-refused}
 use Rattle.cells.specs.Reasons.{reasonNumber}
 use Rattle.cells.specs.declared.Reason.{Reason}
-use Rattle.cells.proofs.Cells.{sized-is}
-use Rattle.cells.proofs.Valid.{refused-some}
-use Rattle.rule.specs.Condition.{Rule, parts, fromsDeep}
-use Rattle.rule.specs.Names.{Fits}
+use Rattle.rule.specs.Condition.{Rule, parts}
 use Rattle.rule.specs.Parts.{partsOf}
 use Rattle.rule.specs.Calls.{ruleOf, readingRefusals, Accepted, withRule}
 use Rattle.rule.proofs.Parts.{parts-length}
-use Rattle.rule.proofs.Accepted.{accepted-claim, parts-claim}
 use Rattle.reader.specs.Calls.{inNumbers, readNumbers}
 use Rattle.reader.specs.Answers.{readAnswer}
 use Rattle.reader.specs.Code.{signedParts, SmallPart, parsedAnswer, parseCall, Parsing, ParsedTo, passedUp}
 use Rattle.reader.specs.declared.Parsed.{Parsed}
 use Rattle.reader.specs.declared.Reading.{Reading}
 use Rattle.reader.proofs.Sizes.{numbers-length}
+use Rattle.reader.proofs.Known.{known, parse-refused, parse-given}
 use Rattle.reader.proofs.Small.{EachSmall, rule-small, few-tables, few-columns, written-parts}
 
 -- ---- what READ gives
@@ -54,27 +51,10 @@ module _ (text file : List ℕ) (buffer : List ℤ) where
 
 -- ---- in the code
 
--- the rule of an accepted text, with what is known of it
-record Known (file : List ℕ) (rule : Rule) : Type 0 where
-  fits : Fits (columnsOf file) judgedLevels rule
-  few-parts : parts rule ≤ 64
-  few-froms : fromsDeep rule ≤ 3
-
-known : (text file : List ℕ) (rule : Rule) → Accepted text file → ruleOf text (columnsOf file) ≡ some rule → Known file rule
-known text file rule a e =
-    let w = parts-claim text file a in
-    let f = w .is-rule in
-    let same : w .rule ≡ rule = some-same (w .rule) rule (sym f ∙ e) in
-    subst (Known file) same (record { fits = w .fits; few-parts = w .few-parts; few-froms = w .few-froms })
-  where
-    some-same : (x y : Rule) → some x ≡ some y → x ≡ y
-    some-same x y e = cc
-
 each-small : (text file : List ℕ) (rule : Rule) → Accepted text file → ruleOf text (columnsOf file) ≡ some rule → EachSmall (partsOf rule)
 each-small text file rule a e =
     let k = known text file rule a e in
-    let sized = sized-is file (accepted-claim text file .0 a .tables-sized) in
-    rule-small (columnsOf file) (few-tables file sized) (few-columns file sized) rule 0 judgedLevels (omega (arith, k .few-parts)) (omega (arith, k .few-froms)) (k .fits)
+    rule-small (columnsOf file) (few-tables file (k .sized)) (few-columns file (k .sized)) rule 0 judgedLevels (omega (arith, k .few-parts)) (omega (arith, k .few-froms)) (k .fits)
 
 module _ (text file : List ℕ) (buffer : List ℤ) where
   abbrev pub Reads : Answer ℕ → List ℤ → Type 0
@@ -85,16 +65,14 @@ module _ (text file : List ℕ) (buffer : List ℤ) where
 
   pub read-refused : (r : Parsed) (x : Reason) (up : Reading) → parsedAnswer r ≡ parseCall text file → r ≡ Parsed.Refused x → up ≡ passedUp r
       → Reads (readAnswer up) buffer
-  unfolding parseCall
   read-refused r x up p e u =
-      let first = refused-some _ (firstApplying (readingRefusals text file)) (sym (ap parsedAnswer e) ∙ p) in
       let is : readAnswer up ≡ Refused (reasonNumber x) = ap readAnswer (u ∙ ap passedUp e) in
-      let l = lent _ (numbers-refused text file buffer first) in
+      let l = lent _ (numbers-refused text file buffer (parse-refused text file r x p e)) in
       (is ∙ l .0, l .1)
 
   module _ (r : Parsed) (new : List ℕ) (n : ℕ) (told : ParsedTo text file new r) (e : r ≡ Parsed.Rule n) where
     parsing : Parsing text file new n
-    parsing = rw e at told
+    parsing = parse-given text file r new n told e
 
     pub read-few : n ≤ 64
     read-few = let q = parsing in omega (arith, q .count, known text file (q .rule) (q .accepted) (q .is-rule) .few-parts)

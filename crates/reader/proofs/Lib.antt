@@ -4,6 +4,8 @@ pub mod Told
 pub mod Signs
 pub mod Copying
 pub mod Small
+pub mod Known
 pub mod Lending
 pub mod Acceptance
 pub mod Records
+pub mod Parts

@@ -68,7 +68,7 @@ kind-small (ExistsHead t) = omega arith
 kind-small (ListedHead Some op l s t) = omega arith
 kind-small (ListedHead All op l s t) = omega arith
 
-comparison-small : (op : Comparison) → comparisonNumber op < 256
+pub comparison-small : (op : Comparison) → comparisonNumber op < 256
 comparison-small Eq = omega arith
 comparison-small Ne = omega arith
 comparison-small Lt = omega arith
@@ -158,10 +158,10 @@ module _ (l xs rest : List ℕ) (a b : ℕ) (size : length xs ≡ a) (e : take (
   long : a ≤ length l
   long = omega (arith, length-take (a + b) l, ap length e, length-append xs rest)
 
-  front : take a l ≡ xs
+  pub front : take a l ≡ xs
   front = sym (take-take a (a + b) l (omega arith)) ∙ ap (take a) e ∙ take-at xs rest a size
 
-  behind : take b (drop a l) ≡ rest
+  pub behind : take b (drop a l) ≡ rest
   behind =
       sym (drop-at (take a l) (take b (drop a l)) a (length-take-le a l long)) ∙ ap (drop a) (sym (take-add a b l) ∙ e) ∙ drop-at xs rest a size
 

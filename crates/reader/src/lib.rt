@@ -16,7 +16,6 @@ use grammar::NOTE_NUMBERS;
 use grammar::Step;
 use lexer::MOST_BYTES;
 use lexer::Tokenized;
-use names::CONSTANT;
 use names::PART_COMPARISON;
 use names::PART_END;
 use names::PART_FIELDS;
@@ -26,6 +25,7 @@ use names::PART_NUMBERS;
 use names::PART_RIGHT_NUMBER;
 use names::PART_RIGHT_TAG;
 use names::PART_TABLE;
+use values::CONSTANT;
 
 enum Scanned {
     Tokens(usize),

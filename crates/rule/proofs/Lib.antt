@@ -9,3 +9,4 @@ pub mod Fits
 pub mod Parts
 pub mod Accepted
 pub mod Calls
+pub mod Truths

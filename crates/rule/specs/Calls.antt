@@ -1,4 +1,4 @@
--- READ and JUDGE (document 01, What the product holds): which refusal, or which answer, for any bytes and any row number.
+-- READ, JUDGE and the list of admitted rows (document 01, What the product holds): which refusal, or which answer, for any bytes and any row number.
 use mathlib.Core.Path.{_≡_}
 use mathlib.Core.Bool.{Bool, false, not}
 use mathlib.Core.List.{List, [], _∷_, _++_}
@@ -8,14 +8,14 @@ use lib.Dec.{ltb}
 use lib.IntN.{pos}
 use lib.ListN.{length}
 use Rattle.tables.specs.Lists.{_>>=_, isMissing}
-use Rattle.tables.specs.Tables.{columnsOf, tablesOf}
+use Rattle.tables.specs.Tables.{columnsOf, tablesOf, rowsWhere}
 use Rattle.tables.specs.Refusals.{Refusal, _if_, firstApplying, Answer, unless, Lent, lend, tablesRefusals, rowRefusal}
 use Rattle.rule.specs.Tokens.{tokensOf, opensFit}
 use Rattle.rule.specs.Condition.{WrittenCondition, Rule}
 use Rattle.rule.specs.Reader.{readAll}
 use Rattle.rule.specs.Names.{limitsFit, outermost, ruleIn}
 use Rattle.rule.specs.Parts.{Part, partsOf}
-use Rattle.rule.specs.Meaning.{Truth, Unknown, judged}
+use Rattle.rule.specs.Meaning.{Truth, Unknown, isTrue, judged}
 
 -- how long a text may be; refusal 3
 abbrev pub mostBytes : ℕ
@@ -71,3 +71,17 @@ judgeRefusals text file row = readingRefusals text file ++ (rowRefusal file row 
 unfoldable pub judgeCall : List ℕ → List ℕ → ℕ → Answer Truth
 judgeCall text file row =
     unless (firstApplying (judgeRefusals text file row)) (λ _. withRule (ruleOf text (columnsOf file)) Unknown (judged (tablesOf file) row))
+
+-- ---- the rows that a rule admits
+
+-- What demand 3 compares: the rule is true on a row of these tables, by Meaning alone
+abbrev pub trueAt : List ℕ → Rule → ℕ → Bool
+trueAt file r row = isTrue (judged (tablesOf file) row r)
+
+-- the numbers of the rows of table 1 where the rule is true: exactly those, each once, rising (RowsClaim of the crate tables)
+abbrev pub trueRows : List ℕ → Rule → List ℕ
+trueRows file r = rowsWhere file (trueAt file r)
+
+-- the program's list: text and tables to the admitted rows in a lent list, and how many they are; no card is mentioned
+unfoldable pub admitCall : List ℕ → List ℕ → List ℕ → Lent ℕ
+admitCall text file buffer = lend (readingRefusals text file) (withRule (ruleOf text (columnsOf file)) [] (trueRows file)) buffer

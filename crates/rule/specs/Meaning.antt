@@ -16,6 +16,12 @@ abbrev pub truth : Bool → Truth
 truth true = True
 truth false = False
 
+-- the truth values as numbers, as JUDGE gives them to C, in their order: AND takes the lesser of two, OR the greater
+abbrev pub truthNumber : Truth → ℕ
+truthNumber False = 0
+truthNumber Unknown = 1
+truthNumber True = 2
+
 abbrev pub isTrue : Truth → Bool
 isTrue False = false
 isTrue Unknown = false

@@ -5,28 +5,28 @@ use mathlib.Core.List.{List, [], _∷_, _++_}
 use mathlib.Core.Logic.{⊎-elim}
 use mathlib.Core.Option.{some}
 use Prim.Native.Nat.{ℕ, zero, suc, _+_, _*_, _<_, _≤_, suc-le-suc}
-use native.Mathlib.Nat.{le-of-suc-le-suc, not-suc-le-zero, eq-or-lt-of-le, suc-mul}
-use native.Mathlib.Numerals.{add-one}
+use native.Mathlib.Nat.{le-of-suc-le-suc, not-suc-le-zero, eq-or-lt-of-le}
 use native.Mathlib.Omega.{arith}
 use lib.Dec.{T, eqb, leb, leb→le}
 use lib.Ieee.Fits.{and-l, and-r}
-use lib.ListN.{length, getD, set, length-set, length-append}
-use lib.Seq.{getD-set-other}
+use lib.ListN.{length, getD, set}
 use Rattle.tables.specs.Lists.{tabulate}
 use Rattle.tables.specs.Bytes.{between}
 use Rattle.tables.specs.Tables.{mostTables, mostRows, mostCells, Row, columnsOf, tablesOf}
-use Rattle.tables.specs.Values.{comparisonOf, holds, Connective, And, Or, Quantifier, Some, All, Env, _▸_, cellOf, byNumbers, isBlank}
+use Rattle.tables.specs.Values.{comparisonOf, holds, Connective, And, Or, Quantifier, Some, All, Env, _▸_, cellOf, byNumbers, isBlank, valueFits}
 use Rattle.cells.specs.Code.{seenCell}
 use Rattle.cells.specs.declared.Seen.{Seen}
-use Rattle.tables.proofs.Tests.{both, bounds}
-use Rattle.tables.proofs.Sizes.{columns-count}
-use Rattle.card.specs.Card.{AsNo, AsYes, Leaf, CompareLeaf, BlankLeaf, NotBlankLeaf, Card, LeafEntry, PairEntry, RowEntry, leafSays, joined, overRows, answer, valueFits, leafFits, rowEntryFits, cardFits}
+use Rattle.tables.proofs.Tests.{both}
+use Rattle.card.specs.Card.{AsNo, AsYes, Leaf, CompareLeaf, BlankLeaf, NotBlankLeaf, Card, LeafEntry, PairEntry, RowEntry, leafSays, joined, overRows, answer, leafFits, rowEntryFits, cardFits}
 use Rattle.card.specs.Layout.{LeafHead, PairHead, RowHead}
 use Rattle.card.specs.Sound.{mostEntries}
 use Rattle.checker.specs.Code.{kindIn, tableIn, comparisonIn, leftIn, rightIn, headIn, Coded, coded-leaf, coded-pair, coded-row}
 use Rattle.checker.proofs.Coded.{head-1, head-2, head-3, head-4, head-5, head-6, head-7, head-8, kind-is, kind-pair, kind-row, kind-leaf, coded-less, coded-end, PairParts, RowParts, pair-of, row-of}
-use Rattle.runner.specs.Code.{rowFrom, LevelAt, Readable, ValueReady, LeafReady, Runnable, rowKind}
-use Rattle.runner.proofs.Rows.{TableAt, table-at, row-at, levels-more}
+use Rattle.values.specs.Code.{rowFrom, Readable, ValueReady}
+use Rattle.runner.specs.Code.{LeafReady, Runnable, rowKind}
+use Rattle.values.proofs.Numbers.{seen-blank}
+use Rattle.values.proofs.Rows.{TableAt}
+use Rattle.values.proofs.Ranging.{firstAt, columnsAt, rowsAt, NextRow, next-none, next-more, table-bounds, table-here, row-deep, row-room as room-at, row-readable}
 
 -- ---- an entry without inner ones
 
@@ -67,13 +67,6 @@ module _ (d columns levels : List ℕ) (s : ℕ) where
   right-by (by-6 k) h f = and-r (valueFits columns levels (leftIn d s)) _ f
   right-by (by-7 k) h f = absurd (omega arith)
   right-by (by-8 k) h f = absurd (omega arith)
-
-seen-blank : (x : Seen) → x .blank ≡ isBlank (seenCell x)
-seen-blank x = go (x .blank) refl
-  where
-    go : (t : Bool) → x .blank ≡ t → x .blank ≡ isBlank (seenCell x)
-    go true e = rw e
-    go false e = rw e
 
 module _ (d : List ℕ) (s : ℕ) (env : Env) (x : Seen) (left : seenCell x ≡ cellOf env (leftIn d s)) where
   compare-by : {l : Leaf} → LeafBy d s l → kindIn d s < 7 → (y : Seen) (r : Bool) → seenCell y ≡ cellOf env (rightIn d s)
@@ -196,17 +189,6 @@ module _ (p : Row → Bool) where
 
 -- ---- running an entry
 
--- the numbers of a table in the array of places
-module _ (g : List ℕ) (t : ℕ) where
-  abbrev pub firstAt : ℕ
-  firstAt = getD g (3 * t) 0
-
-  abbrev pub columnsAt : ℕ
-  columnsAt = getD g (3 * t + 1) 0
-
-  abbrev pub rowsAt : ℕ
-  rowsAt = getD g (3 * t + 2) 0
-
 -- what the entry inside a row entry says of the row from cell k on
 unfoldable pub rowSays : List ℕ → Env → Card → ℕ → ℕ → Bool
 rowSays file env (LeafEntry x) k columns = false
@@ -222,11 +204,9 @@ pub record RowBounds (s e depth t rows : ℕ) : Type 0 where
   pub last : e ≤ mostEntries
   pub few : rows ≤ mostRows
 
--- the first r rows of a table have passed, and each says q; first is the next row's first cell, and v has those of the rows around it
+-- the first r rows of a table have passed, and each says q
 pub record RowsPassed (d g file w : List ℕ) (s e depth : ℕ) (q : Bool) (start columns r first : ℕ) (v : List ℕ) : Type 0 where
-  pub first-is : first ≡ start + r * columns
-  pub long : length v ≡ 4
-  pub same : (l : ℕ) → l < depth → getD v l 0 ≡ getD w l 0
+  pub next : NextRow w depth start columns r first v
   pub each : (h : Runnable d g file w s e depth) (k : ℕ) → k < r → rowSays file (h .env) (h .card) (start + k * columns) columns ≡ q
 
 module _ {d g file w : List ℕ} {s e depth : ℕ} (h : Runnable d g file w s e depth) where
@@ -333,53 +313,32 @@ module _ {d g file w : List ℕ} {s e depth : ℕ} (h : Runnable d g file w s e 
     unfolding cardFits
     rows-fit = both (rowEntryFits (columnsOf file) (h .levels) (tableIn d s)) _ (fits-as (RowEntry (quantifierBy q) (tableIn d s) (row-here .inner)) (row-here .is))
 
-    table-there : ((1 ≤ tableIn d s) × (tableIn d s ≤ length (columnsOf file))) × (length (h .levels) ≤ 3)
+    table-there : T (between 1 (length (columnsOf file)) (tableIn d s)) × (length (h .levels) ≤ 3)
     table-there =
         let (p, r) = both (between 1 (length (columnsOf file)) (tableIn d s)) (leb (length (h .levels)) 3) (rows-fit .0) in
-        (bounds 1 (length (columnsOf file)) (tableIn d s) p, leb→le (length (h .levels)) 3 r)
+        (p, leb→le (length (h .levels)) 3 r)
 
-    table-here : TableAt file (tableIn d s) (firstAt g (tableIn d s)) (columnsAt g (tableIn d s)) (rowsAt g (tableIn d s))
-    table-here =
-        let z = columns-count file in
-        let t = table-there in
-        table-at file g (h .readable .places) (h .readable .sized) (tableIn d s) (omega arith) (omega arith)
+    table : TableAt file (tableIn d s) (firstAt g (tableIn d s)) (columnsAt g (tableIn d s)) (rowsAt g (tableIn d s))
+    table = table-here (h .readable) (tableIn d s) (table-there .0)
 
     pub row-bounds : RowBounds s e depth (tableIn d s) (rowsAt g (tableIn d s))
     row-bounds =
-        let z = columns-count file in
-        let t = table-there in
-        let n = h .readable .sized .tables-high in
+        let t = table-bounds (h .readable) (tableIn d s) (table-there .0) in
+        let l = table-there .1 in
         let p = h .deep in
-        record {
-          low = t .0 .0;
-          high = omega arith;
-          deep = omega arith;
-          next = coded-less (row-here .inner-coded);
-          last = h .few;
-          few = table-here .few;
-        }
+        record { low = t .0; high = t .1; deep = omega arith; next = coded-less (row-here .inner-coded); last = h .few; few = table .few }
 
     -- a row of the table, after those that have passed
     module _ {r first : ℕ} {v : List ℕ} (below : r < rowsAt g (tableIn d s))
         (passed : RowsPassed d g file w s e depth q (firstAt g (tableIn d s)) (columnsAt g (tableIn d s)) r first v) where
-      row-level : LevelAt file first (tableIn d s) (rowFrom file first (columnsAt g (tableIn d s)))
-      row-level = row-at file (tableIn d s) _ _ _ r first table-here below (passed .first-is)
-
       pub row-room : first + columnsAt g (tableIn d s) ≤ mostCells
-      row-room = let z = row-level .within in let y = table-here .columns-are in let x = h .readable .sized .cells-high in omega arith
+      row-room = room-at (h .readable) (tableIn d s) (table-there .0) (h .deep) below (passed .next)
 
       pub inner-readable : Readable g file (set v depth first) (h .levels ++ (tableIn d s ∷ [])) (h .env ▸ rowFrom file first (columnsAt g (tableIn d s)))
-      inner-readable =
-          record {
-            sized = h .readable .sized;
-            places = h .readable .places;
-            standing =
-                levels-more file w (h .levels) (h .env) v depth first (tableIn d s) _ (h .readable .standing) (h .deep) (row-bounds .deep)
-                (passed .long) (passed .same) row-level;
-          }
+      inner-readable = row-readable (h .readable) (tableIn d s) (table-there .0) (h .deep) below (passed .next) (row-bounds .deep)
 
       pub inner-deep : depth + 1 ≡ length (h .levels ++ (tableIn d s ∷ []))
-      inner-deep = let z = h .deep in simp length-append (omega arith)
+      inner-deep = row-deep (h .readable) (tableIn d s) (table-there .0) (h .deep)
 
       pub inner-fits : T (cardFits (columnsOf file) (h .levels ++ (tableIn d s ∷ [])) (row-here .inner))
       inner-fits = rows-fit .1
@@ -410,13 +369,13 @@ module _ {d g file w : List ℕ} {s e depth : ℕ} (h : Runnable d g file w s e 
 
     rows-answer : overRows (quantifierBy q) saysBy (tabulate (rowsAt g (tableIn d s)) rowBy) ≡ answer (tablesOf file) (h .env) (h .card)
     unfolding answer
-    rows-answer = sym (ap (answer (tablesOf file) (h .env)) (row-here .is) ∙ ap (overRows (quantifierBy q) saysBy) (table-here .rows-are))
+    rows-answer = sym (ap (answer (tablesOf file) (h .env)) (row-here .is) ∙ ap (overRows (quantifierBy q) saysBy) (table .rows-are))
 
     module _ {r first : ℕ} {v : List ℕ} (passed : RowsPassed d g file w s e depth q (firstAt g (tableIn d s)) (columnsAt g (tableIn d s)) r first v) where
       pub row-stops : r < rowsAt g (tableIn d s) → (a : Bool)
           → a ≡ answer (tablesOf file) (h .env ▸ rowFrom file first (columnsAt g (tableIn d s))) (row-here .inner) → a ≡ not q
           → a ≡ answer (tablesOf file) (h .env) (h .card)
-      row-stops below a says z = z ∙ over-stop saysBy q _ rowBy r below (rw (← passed .first-is) (sym says ∙ z)) ∙ rows-answer
+      row-stops below a says z = z ∙ over-stop saysBy q _ rowBy r below (rw (← passed .next .first-is) (sym says ∙ z)) ∙ rows-answer
 
       pub rows-end : rowsAt g (tableIn d s) ≤ r → q ≡ answer (tablesOf file) (h .env) (h .card)
       rows-end end = over-end saysBy q (rowsAt g (tableIn d s)) rowBy (λ r m. inner-says _ ∙ passed .each h r (omega arith)) ∙ rows-answer
@@ -425,18 +384,16 @@ module _ {d g file w : List ℕ} {s e depth : ℕ} (h : Runnable d g file w s e 
 
 module _ (d g file w : List ℕ) (s e depth : ℕ) (q : Bool) (start columns : ℕ) where
   pub passed-none : length w ≡ 4 → RowsPassed d g file w s e depth q start columns 0 start w
-  passed-none long = record { first-is = omega arith; long = long; same = λ l m. refl; each = λ h k m. absurd (not-suc-le-zero m) }
+  passed-none long = record { next = next-none w depth start columns long; each = λ h k m. absurd (not-suc-le-zero m) }
 
   pub passed-more : {r first : ℕ} {v : List ℕ} → RowsPassed d g file w s e depth q start columns r first v
       → ((h : Runnable d g file w s e depth) → rowSays file (h .env) (h .card) first columns ≡ q)
       → RowsPassed d g file w s e depth q start columns (r + 1) (first + columns) (set v depth first)
   passed-more {r} {first} {v} p new =
       record {
-        first-is = (let z = suc-mul r columns in let f = p .first-is in rw (add-one r) (omega arith));
-        long = length-set v depth first ∙ p .long;
-        same = λ l m. getD-set-other v depth l first 0 (λ z. omega arith) ∙ p .same l m;
+        next = next-more (p .next);
         each = λ h k m. ⊎-elim
-            (λ z. let e : start + k * columns ≡ first = ap (λ (x : ℕ). start + x * columns) z ∙ sym (p .first-is) in rw e (new h))
+            (λ z. let e : start + k * columns ≡ first = ap (λ (x : ℕ). start + x * columns) z ∙ sym (p .next .first-is) in rw e (new h))
             (λ z. p .each h k z)
             (eq-or-lt-of-le {n = k} {m = r} (omega arith));
       }

@@ -5,9 +5,9 @@ ghost use mathlib.Core.Path.{_≡_};
 ghost use mathlib.Core.Bool.{true, false};
 ghost use Prim.Native.Nat.{_+_, _*_, _<_, _≤_};
 ghost use Rattle.tables.specs.Values.{comparisonOf, holds, byNumbers};
-ghost use Rattle.cells.specs.Code.{fromExcess, seenCell};
+ghost use Rattle.cells.specs.Code.{seenCell};
 ghost use Rattle.checker.specs.Code.{kindIn};
-ghost use Rattle.runner.specs.Code.{ValueReady, Sees, LeafReady, LeafAnswers, Runnable, Answers, rowKind};
+ghost use Rattle.runner.specs.Code.{LeafReady, LeafAnswers, Runnable, Answers, rowKind};
 use cells::PLACES;
 use cells::Seen;
 use checker::COMPARISON;
@@ -15,45 +15,17 @@ use checker::DECODED;
 use checker::FIELDS;
 use checker::LEFT_NUMBER;
 use checker::LEFT_TAG;
-use checker::LEVELS;
 use checker::NEXT_END;
 use checker::RIGHT_NUMBER;
 use checker::RIGHT_TAG;
 use checker::TABLE;
+use values::LEVELS;
 
-// What is seen of the cell or the constant that a value stands for; w has the first cell of each level's row.
-fn look(g: &[usize; PLACES], file: &[u8], w: &[usize; LEVELS], tag: usize, n: usize) -> Seen
-    requires { ⌜ ValueReady (now g) (now file) (now w) tag n ⌝ }
-    ensures { λ r. ⌜ Sees (now (g .entry)) (now (file .entry)) (now (w .entry)) tag n r ⌝ }
-{
-    if tag == checker::CONSTANT {
-        return Seen {
-            blank: false,
-            number: n,
-        };
-    }
-    cells::cell(file, g[0], g[1], w[tag] + (n - 1))
-}
-
-// Whether two numbers compare so.
-fn numbers_hold(op: usize, x: usize, y: usize) -> bool
-    ensures { λ r. ⌜ r ≡ holds (comparisonOf op) (fromExcess x) (fromExcess y) ⌝ }
-{
-    match op {
-        2 => x != y,
-        3 => x < y,
-        4 => x <= y,
-        5 => y < x,
-        6 => y <= x,
-        _ => x == y,
-    }
-}
-
-// Whether two cells do; unknown is the answer where one of them is blank. The numbers are compared first: one branch is left.
+// Whether two cells compare so; unknown is the answer where one of them is blank. The numbers are compared first: one branch is left.
 fn cells_hold(unknown: bool, op: usize, x: Seen, y: Seen) -> bool
     ensures { λ r. ⌜ r ≡ byNumbers unknown (holds (comparisonOf op)) (seenCell x) (seenCell y) ⌝ }
 {
-    let h = numbers_hold(op, x.number, y.number);
+    let h = values::numbers_hold(op, x.number, y.number);
     if x.blank | y.blank {
         return unknown;
     }
@@ -72,7 +44,7 @@ fn run_leaf(
     ensures { λ r. ⌜ LeafAnswers (now (d .entry)) (now (g .entry)) (now (file .entry)) (now (w .entry)) s r ⌝ }
 {
     let k = d[FIELDS * s];
-    let x = look(
+    let x = values::look(
         g,
         file,
         w,
@@ -80,7 +52,7 @@ fn run_leaf(
         d[FIELDS * s + LEFT_NUMBER],
     );
     if k < 7 {
-        let y = look(
+        let y = values::look(
             g,
             file,
             w,

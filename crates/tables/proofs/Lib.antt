@@ -7,3 +7,4 @@ pub mod Tabulated
 pub mod Sizes
 pub mod Rows
 pub mod Blanks
+pub mod Placed

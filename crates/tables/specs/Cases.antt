@@ -6,7 +6,7 @@ use Prim.Native.Nat.{ℕ, zero, suc}
 use lib.IntN.{ℤ, pos, negsuc}
 use lib.ListN.{replicate}
 use Rattle.tables.specs.Tables.{Blank, Present, Tables}
-use Rattle.tables.specs.Values.{comparisonOf, holds}
+use Rattle.tables.specs.Values.{Value, Constant, Column, comparisonOf, holds, valueFits}
 use Rattle.tables.specs.Refusals.{firstApplying, tablesRefusals}
 
 -- table 1 of two columns and two rows, table 2 of one column and no rows, table 3 of one column and one row
@@ -97,3 +97,22 @@ comparisons =
 
 abbrev pub comparedSays : Compared → List Bool
 comparedSays c = map (λ n. holds (comparisonOf n) (c .left) (c .right)) (1 ∷ 2 ∷ 3 ∷ 4 ∷ 5 ∷ 6 ∷ [])
+
+-- ---- values, with two tables of two columns and one: level 0 at table 1, level 1 at table 2
+
+pub record ValueCase : Type 0 where
+  pub value : Value
+  pub exists : Bool
+
+abbrev valueCase : Value → Bool → ValueCase
+valueCase v e = record { value = v; exists = e }
+
+abbrev pub valueCases : List ValueCase
+valueCases =
+    valueCase (Column 0 0) false ∷ valueCase (Column 0 1) true ∷ valueCase (Column 0 2) true ∷ valueCase (Column 0 3) false
+    ∷ valueCase (Column 1 1) true ∷ valueCase (Column 1 2) false ∷ valueCase (Column 2 1) false
+    ∷ valueCase (Constant (negsuc 2147483647)) true ∷ valueCase (Constant (negsuc 2147483648)) false
+    ∷ valueCase (Constant (pos 2147483647)) true ∷ valueCase (Constant (pos 2147483648)) false ∷ []
+
+abbrev pub valueCaseFits : ValueCase → Bool
+valueCaseFits p = valueFits (2 ∷ 1 ∷ []) (1 ∷ 2 ∷ []) (p .value)

@@ -5,7 +5,7 @@ use mathlib.Core.List.{List, map, List·Memᴰ, IsChain}
 use mathlib.Core.Logic.{_↔_}
 use Prim.Native.Nat.{ℕ, _<_}
 use Rattle.tables.specs.Tables.{sizes, rowCount, valueBits, markOf, sizesFit, tablesOf, rowsWhere}
-use Rattle.tables.specs.Cases.{sampleFile, sampleTables, edges, sizeEdges, refusalAt, comparisons, comparedSays}
+use Rattle.tables.specs.Cases.{sampleFile, sampleTables, edges, sizeEdges, refusalAt, comparisons, comparedSays, valueCases, valueCaseFits}
 
 -- the sample file holds the sample tables
 abbrev pub SampleClaim : Type 0
@@ -14,6 +14,10 @@ SampleClaim = tablesOf sampleFile ≡ sampleTables
 -- the six comparisons, by their numbers, of less, equal and greater numbers of either sign
 abbrev pub ComparisonsClaim : Type 0
 ComparisonsClaim = map comparedSays comparisons ≡ map (λ c. c .says) comparisons
+
+-- which levels, columns and constants exist, from both sides of each limit
+abbrev pub ValuesClaim : Type 0
+ValuesClaim = map valueCaseFits valueCases ≡ map (λ c. c .exists) valueCases
 
 -- long files at the edges of refusal 1, together
 abbrev pub SizesClaim : Type 0

@@ -1,10 +1,10 @@
 -- Lists: what the kit's libraries lack. Nothing here is said by a paper.
 use mathlib.Core.Bool.{Bool, true, false, _&&_, _||_}
-use mathlib.Core.List.{List, [], _∷_}
+use mathlib.Core.List.{List, [], _∷_, _++_}
 use mathlib.Core.Option.{Option, none, some}
 use Prim.Native.Nat.{ℕ, zero, suc, _+_}
 use lib.Dec.{eqb}
-use lib.ListN.{getD}
+use lib.ListN.{getD, length, take, drop}
 
 module _ {A : Type 0} where
   -- f 0, f 1, .. f (n − 1)
@@ -35,6 +35,10 @@ module _ {A : Type 0} where
   abbrev pub keep : (A → Bool) → List A → List A
   keep p [] = []
   keep p (x ∷ xs) = put (p x) x (keep p xs)
+
+  -- a list with another in its place from number i on
+  unfoldable pub placed : List A → ℕ → List A → List A
+  placed old i new = take i old ++ (new ++ drop (i + length new) old)
 
 -- the sum of a list
 abbrev pub total : List ℕ → ℕ

@@ -1,11 +1,13 @@
 -- Values and comparisons, which rules and cards share. Document 01, Rule text: a value is a constant, or a level and a column.
-use mathlib.Core.Bool.{Bool, true, false, not}
+use mathlib.Core.Bool.{Bool, true, false, not, _&&_}
 use mathlib.Core.List.{List, [], _∷_, _++_}
 use Prim.Native.Nat.{ℕ}
-use lib.Dec.{eqb}
+use lib.Dec.{eqb, ltb}
 use lib.IntN.{ℤ, pos, negsuc}
-use lib.ListN.{getD}
+use lib.ListN.{length, getD}
 use lib.Signed.{ltZ, leZ}
+use Rattle.tables.specs.Lists.{numbered}
+use Rattle.tables.specs.Bytes.{between, inRange}
 use Rattle.tables.specs.Tables.{Cell, Blank, Present, Row, Tables, rowsOf, cellIn}
 
 -- Constant k: the number k. Column l c: column c of the row at which level l stands.
@@ -90,3 +92,10 @@ byNumbers blank compare (Present x) (Present y) = compare x y
 abbrev pub isBlank : Cell → Bool
 isBlank Blank = true
 isBlank (Present x) = false
+
+-- ---- what a value names exists
+
+-- its level and its column exist, or its number has 32 bits; columns has the columns of each table, levels the table of each level, level 0 first
+abbrev pub valueFits : List ℕ → List ℕ → Value → Bool
+valueFits columns levels (Constant k) = inRange k
+valueFits columns levels (Column l c) = ltb l (length levels) && between 1 (numbered columns (getD levels l 0) 0) c

@@ -1,42 +1,44 @@
 -- Demand 3, over the definitions of the calls.
-use mathlib.Core.Path.{_≡_, refl, ap, ap₂, fun-ext, _∙_}
-use mathlib.Core.Bool.{Bool, true, false, not}
+use mathlib.Core.Path.{_≡_, refl, sym, ap, ap₂, fun-ext, _∙_}
+use mathlib.Core.Bool.{true, false, not}
 use mathlib.Core.List.{List, [], _∷_, _++_}
 use mathlib.Core.Option.{Option, none}
-use Prim.Native.Nat.{ℕ, _≤_}
+use Prim.Native.Nat.{ℕ, _+_, _≤_}
 use native.Mathlib.Omega.{arith}
 use borrow.Author.Tests.{lt-ltb}
 use lib.Dec.{T, ltb, leb, le→leb}
 use lib.Ieee.Fits.{and-i}
 use lib.ListN.{length, drop}
-use Rattle.tables.specs.Bytes.{between}
+use Rattle.tables.specs.Bytes.{between, byteAt}
 use Rattle.tables.specs.Tables.{columnsOf, rowCount, tablesOf, rowsWhere}
 use Rattle.tables.specs.Values.{judgedLevels, judgedRow}
 use Rattle.tables.specs.Refusals.{Given, firstApplying, lend, tablesRefusals, rowRefusal}
 use Rattle.tables.proofs.Refusals.{first-nil, first-none, first-append, lend-short, lend-long, lend-refused, unless-none}
+use Rattle.tables.proofs.Rows.{rows-claim}
+use Rattle.tables.proofs.Tabulated.{tabulate-length}
 use Rattle.tables.proofs.Sizes.{columns-count, columns-fit, same-refl, same-columns-is}
 use Rattle.card.specs.Card.{AsNo, Card, LeafEntry, PairEntry, RowEntry, entries}
-use Rattle.card.specs.Layout.{cardLength, columnsIn}
+use Rattle.card.specs.Layout.{cardLength, tablesIn, columnsIn}
 use Rattle.card.specs.Sound.{mostEntries, sound, Sound}
-use Rattle.card.specs.Calls.{cardSays, saysYes, checkRefusals, fitsTables, gateRefusals, runRefusals, runCall, listCall}
+use Rattle.card.specs.Calls.{cardSays, saysYes, checkRefusals, checkCall, fitsTables, gateRefusals, runRefusals, runCall, listCall}
 use Rattle.tables.proofs.Tests.{is-true, is-so}
 use Rattle.card.proofs.Claims.{sound-claim, length-claim}
 use Rattle.rule.specs.Condition.{Atom, Join, Not, Exists, Listed, Rule, parts, lists}
 use Rattle.rule.specs.Names.{mostParts}
 use Rattle.rule.specs.Meaning.{judged}
-use Rattle.rule.specs.Calls.{readingRefusals, Accepted, withRule}
+use Rattle.rule.specs.Calls.{readingRefusals, Accepted, withRule, trueAt, trueRows}
 use Rattle.rule.specs.Claims.{AcceptedAs}
 use Rattle.rule.proofs.Accepted.{accepted-allowed, parts-claim}
 use Rattle.translation.specs.Translation.{ruleCard}
 use Rattle.translation.specs.Calls.{ruleBytes, cardCall}
 use Rattle.translation.specs.Claims.{CardRefusedClaim, Demand3Claim}
-use Rattle.translation.specs.Demand3.{Later, trueAt, publishedLength, CardClaim, RunClaim, trueRows, ListClaim}
-use Rattle.translation.proofs.Sums.{sum-claim, card-sum}
+use Rattle.translation.specs.Demand3.{Later, publishedLength, SoundFor, CardClaim, RunClaim, ListClaim}
+use Rattle.translation.proofs.Sums.{entry-sum, card-sum}
 use Rattle.translation.proofs.Says.{translation-claim}
 use Rattle.translation.proofs.Fits.{card-fits}
 
 -- at most 64 parts make at most 192 entries, and there is one at least
-few-lists : (r : Rule) → lists r ≤ parts r
+pub few-lists : (r : Rule) → lists r ≤ parts r
 unfolding lists parts
 few-lists (Atom x) = omega arith
 few-lists (Join j a b) = omega (arith, few-lists a, few-lists b)
@@ -44,7 +46,7 @@ few-lists (Not a) = omega (arith, few-lists a)
 few-lists (Exists t w) = omega (arith, few-lists w)
 few-lists (Listed q op l x t w) = omega (arith, few-lists w)
 
-some-entries : (c : Card) → 1 ≤ entries c
+pub some-entries : (c : Card) → 1 ≤ entries c
 unfolding entries
 some-entries (LeafEntry x) = omega arith
 some-entries (PairEntry j a b) = omega arith
@@ -77,10 +79,22 @@ module _ (text file : List ℕ) (accepted : Accepted text file) where
     fits = card-fits (columnsOf file) rule AsNo judgedLevels (omega (arith, accepted-as .few-froms)) (accepted-as .fits);
   }
 
+  made-for : columnsIn card ≡ columnsOf file
+  unfolding is-sound
+  made-for = sound-claim .holds-columns card is-sound
+
+  sound-for : SoundFor card file
+  unfolding checkCall checkRefusals columnsIn
+  sound-for = record {
+    is-sound = unless-none _ (λ _. tt) (first-none 9 (not (sound card)) [] (ap not (sound-claim .passes card is-sound)) first-nil);
+    tables-are = sym (tabulate-length (tablesIn card) (λ j. byteAt card (3 + j))) ∙ ap length made-for ∙ columns-count file;
+    columns-are = made-for;
+  }
+
   card-claim : (buffer : List ℕ) → CardClaim text file rule buffer
   unfolding cardCall ruleBytes
   card-claim buffer =
-      let long : length card ≡ publishedLength file rule = length-claim (columnsOf file) (ruleCard rule) ∙ ap₂ cardLength (columns-count file) (sum-claim rule) in
+      let long : length card ≡ publishedLength file rule = length-claim (columnsOf file) (ruleCard rule) ∙ ap₂ cardLength (columns-count file) (entry-sum rule) in
       let is : cardCall text file buffer ≡ lend (readingRefusals text file) card buffer = ap (λ (o : Option Rule). lend (readingRefusals text file) (withRule o [] (ruleBytes file)) buffer) (accepted-as .is-rule) in
       record {
         length-is = long;
@@ -90,8 +104,7 @@ module _ (text file : List ℕ) (accepted : Accepted text file) where
 
   module _ (later : List ℕ) (h : Later file later) where
     columns-are : columnsIn card ≡ columnsOf later
-    unfolding is-sound
-    columns-are = sound-claim .holds-columns card is-sound ∙ same-columns-is file later (is-so _ (h .same-columns))
+    columns-are = made-for ∙ same-columns-is file later (is-so _ (h .same-columns))
 
     fits-later : fitsTables card later ≡ true
     unfolding fitsTables
@@ -128,8 +141,10 @@ pub demand-3-claim : Demand3Claim
 demand-3-claim text file e = record {
   rule = rule text file e;
   is-rule = parts-claim text file e .is-rule;
+  sound-for = sound-for text file e;
   cards = card-claim text file e;
   runs = runs text file e;
+  rows = λ later h. record { exactly = rows-claim .exactly later (trueAt later (rule text file e)); rising = rows-claim .rising later (trueAt later (rule text file e)) };
   listings = listing text file e;
 }
 

@@ -8,8 +8,8 @@ use lib.Dec.{T, ltb, lt→ltb, le→leb}
 use lib.Ieee.Fits.{and-i}
 use lib.ListN.{length, length-append, List·getD-append}
 use Rattle.tables.specs.Bytes.{between}
-use Rattle.tables.specs.Values.{Value, Constant, Column, Some, All}
-use Rattle.card.specs.Card.{mostRowEntries, Interpretation, AsNo, CompareLeaf, BlankLeaf, NotBlankLeaf, Card, LeafEntry, PairEntry, RowEntry, valueFits, rowEntryFits, cardFits}
+use Rattle.tables.specs.Values.{Value, Constant, Column, Some, All, valueFits}
+use Rattle.card.specs.Card.{mostRowEntries, Interpretation, AsNo, CompareLeaf, BlankLeaf, NotBlankLeaf, Card, LeafEntry, PairEntry, RowEntry, rowEntryFits, cardFits}
 use Rattle.rule.specs.Condition.{Compare, IsNull, IsNotNull, Atom, Join, Not, Exists, Listed, Rule, fromsDeep}
 use Rattle.rule.specs.Names.{ValueFits, TableFits, Fits}
 use Rattle.translation.specs.Translation.{other, negated, cardOf}

@@ -1,13 +1,14 @@
 -- Laws of the connectives, of the two interpretations and of tests over rows.
 use mathlib.Core.Path.{_≡_, refl, ap, _∙_}
-use mathlib.Core.Bool.{Bool, true, false, not, _&&_, _||_, cond}
+use mathlib.Core.Bool.{Bool, true, false, not, _&&_, _||_}
 use mathlib.Core.List.{List, [], _∷_, map}
 use lib.Dec.{T}
 use Rattle.tables.specs.Lists.{any, all, put, keep}
 use Rattle.tables.specs.Tables.{Row}
 use Rattle.tables.specs.Values.{Connective, And, Or, Quantifier, Some, All}
 use Rattle.card.specs.Card.{Interpretation, AsNo, AsYes, unknownSays, joined, overRows}
-use Rattle.rule.specs.Meaning.{Truth, False, Unknown, True, truth, isTrue, isFalse, isUnknown, not3, and3, or3, join3, over3}
+use Rattle.rule.specs.Meaning.{Truth, False, Unknown, True, truth, isTrue, isFalse, not3, and3, or3, join3, over3}
+use Rattle.rule.proofs.Truths.{some-cons, all-cons}
 use Rattle.translation.specs.Translation.{other, otherConnective, otherQuantifier}
 
 -- a truth value as yes or no
@@ -91,27 +92,6 @@ not-over All p rows = not-all p rows
 pub says-join : (i : Interpretation) (j : Connective) (a b : Truth) → says i (join3 j a b) ≡ joined j (says i a) (says i b)
 says-join i And a b = says-and i a b
 says-join i Or a b = says-or i a b
-
--- SOME is OR over its rows, ALL is AND
-or-unknown : (a b : Bool) → cond a True Unknown ≡ or3 Unknown (cond a True (cond b Unknown False))
-or-unknown true b = refl
-or-unknown false true = refl
-or-unknown false false = refl
-
-some-cons : (v : Truth) (vs : List Truth) → over3 Some (v ∷ vs) ≡ or3 v (over3 Some vs)
-some-cons False vs = refl
-some-cons Unknown vs = or-unknown (any isTrue vs) (any isUnknown vs)
-some-cons True vs = refl
-
-and-unknown : (a b : Bool) → cond a False Unknown ≡ and3 Unknown (cond a False (cond b Unknown True))
-and-unknown true b = refl
-and-unknown false true = refl
-and-unknown false false = refl
-
-all-cons : (v : Truth) (vs : List Truth) → over3 All (v ∷ vs) ≡ and3 v (over3 All vs)
-all-cons False vs = refl
-all-cons Unknown vs = and-unknown (any isFalse vs) (any isUnknown vs)
-all-cons True vs = refl
 
 module _ {A : Type 0} (i : Interpretation) (q : A → Bool) (f : A → Truth) where
   some-put : (b : Bool) (x : A) (xs : List A) → says i (over3 Some (map f (put b x xs))) ≡ (b && says i (f x)) || says i (over3 Some (map f xs))

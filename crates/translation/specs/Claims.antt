@@ -3,7 +3,7 @@ use mathlib.Core.Path.{_≡_}
 use mathlib.Core.Bool.{true, false, not}
 use mathlib.Core.List.{List, [], _∷_, _++_, map}
 use mathlib.Core.Option.{some}
-use Prim.Native.Nat.{ℕ}
+use Prim.Native.Nat.{ℕ, _+_, _-_, _*_}
 use lib.ListN.{length, replicate}
 use Rattle.tables.specs.Tables.{Tables}
 use Rattle.tables.specs.Values.{Env}
@@ -13,10 +13,11 @@ use Rattle.card.specs.Calls.{runCall, listCall}
 use Rattle.card.specs.Cases.{workedCard}
 use Rattle.rule.specs.Cases.{caseTables}
 use Rattle.rule.specs.Condition.{Rule}
+use Rattle.rule.specs.Parts.{partsOf}
 use Rattle.rule.specs.Names.{Scoped}
 use Rattle.rule.specs.Calls.{readingRefusals, Accepted}
 use Rattle.rule.specs.Meaning.{isTrue, isFalse, meaning}
-use Rattle.translation.specs.Translation.{negated, cardOf, ruleCard, entrySum}
+use Rattle.translation.specs.Translation.{negated, cardOf, ruleCard, entrySum, ofKind}
 use Rattle.translation.specs.Calls.{cardCall}
 use Rattle.translation.specs.Demand3.{Later, Demand3For}
 use Rattle.translation.specs.Cases.{workedText, workedTables, fullText, fullCard, laterTables, thirdCard, refusalExamples, refusalNumbers}
@@ -28,9 +29,10 @@ pub record TranslationClaim : Type 0 where
   pub no-is-false : (ts : Tables) (env : Env) (r : Rule) → Scoped (length env) r → not (answer ts env (cardOf AsYes r)) ≡ isFalse (meaning ts env r)
   pub negates : (ts : Tables) (env : Env) (c : Card) → answer ts env (negated c) ≡ not (answer ts env c)
 
--- the length sum of the section Card
-abbrev pub SumClaim : Type 0
-SumClaim = (r : Rule) → entries (ruleCard r) ≡ entrySum r
+-- the length sum of the section Card: the number of entries, and the same counted over the records of the parts by their kinds
+pub record SumClaim : Type 0 where
+  pub entries-are : (r : Rule) → entries (ruleCard r) ≡ entrySum r
+  pub by-kinds : (r : Rule) → entrySum r ≡ length (partsOf r) - ofKind 3 (partsOf r) + 2 * (ofKind 8 (partsOf r) + ofKind 9 (partsOf r))
 
 -- the worked card, in a buffer of two bytes more: its 19 bytes, their number, and the two last bytes untouched
 abbrev pub WorkedCardClaim : Type 0

@@ -1,17 +1,17 @@
 -- Document 01, What demand 3 compares: one claim over all rules, files, rows and lent buffers.
 use mathlib.Core.Path.{_≡_}
-use mathlib.Core.Bool.{Bool, true}
-use mathlib.Core.List.{List, _++_}
+use mathlib.Core.Bool.{true}
+use mathlib.Core.List.{List, _++_, List·Memᴰ, IsChain}
+use mathlib.Core.Logic.{_↔_}
 use mathlib.Core.Option.{none, some}
 use Prim.Native.Nat.{ℕ, _≤_, _<_}
 use lib.ListN.{length, drop}
-use Rattle.tables.specs.Tables.{tableCount, columnsOf, rowCount, tablesOf, sameColumns, rowsWhere}
+use Rattle.tables.specs.Tables.{tableCount, columnsOf, rowCount, sameColumns}
 use Rattle.tables.specs.Refusals.{Refused, Given, firstApplying, tablesRefusals}
-use Rattle.card.specs.Layout.{cardLength}
-use Rattle.card.specs.Calls.{runCall, listCall}
+use Rattle.card.specs.Layout.{tablesIn, columnsIn, cardLength}
+use Rattle.card.specs.Calls.{checkCall, runCall, listCall}
 use Rattle.rule.specs.Condition.{Rule}
-use Rattle.rule.specs.Meaning.{judged, isTrue}
-use Rattle.rule.specs.Calls.{ruleOf}
+use Rattle.rule.specs.Calls.{ruleOf, trueAt, trueRows}
 use Rattle.translation.specs.Translation.{entrySum}
 use Rattle.translation.specs.Calls.{ruleBytes, cardCall}
 
@@ -19,10 +19,6 @@ use Rattle.translation.specs.Calls.{ruleBytes, cardCall}
 pub record Later (file later : List ℕ) : Type 0 where
   pub no-refusal : firstApplying (tablesRefusals later) ≡ none
   pub same-columns : sameColumns file later ≡ true
-
--- true on a row of a later file, by Meaning alone
-abbrev pub trueAt : List ℕ → Rule → ℕ → Bool
-trueAt later r row = isTrue (judged (tablesOf later) row r)
 
 -- how many bytes the rule's card takes: 3 + T + 15n
 abbrev pub publishedLength : List ℕ → Rule → ℕ
@@ -39,10 +35,6 @@ pub record CardClaim (text file : List ℕ) (r : Rule) (buffer : List ℕ) : Typ
 abbrev pub RunClaim : List ℕ → List ℕ → Rule → ℕ → Type 0
 RunClaim card later r row = row < rowCount later 1 → runCall card later row ≡ Given (trueAt later r row)
 
--- the numbers of the rows of table 1 where the rule is true: exactly those, each once, rising (RowsClaim of the crate tables)
-abbrev pub trueRows : List ℕ → Rule → List ℕ
-trueRows later r = rowsWhere later (trueAt later r)
-
 -- LIST with a later file: refusal 12 exactly when the list has fewer elements than the rule has true rows, and no other; else their numbers at
 -- its start, and how many they are
 pub record ListClaim (card later : List ℕ) (r : Rule) (buffer : List ℕ) : Type 0 where
@@ -50,10 +42,23 @@ pub record ListClaim (card later : List ℕ) (r : Rule) (buffer : List ℕ) : Ty
   pub long : length (trueRows later r) ≤ length buffer
       → listCall card later buffer ≡ record { result = Given (length (trueRows later r)); buffer = trueRows later r ++ drop (length (trueRows later r)) buffer }
 
--- a text that is accepted with a file is a rule, and for that rule all three hold
+-- `trueRows` has exactly the rows of table 1 where the rule is true, each once, rising
+pub record RowsExactly (later : List ℕ) (r : Rule) : Type 0 where
+  pub exactly : (row : ℕ) → List·Memᴰ row (trueRows later r) ↔ ((row < rowCount later 1) × (trueAt later r row ≡ true))
+  pub rising : IsChain _<_ (trueRows later r)
+
+-- the bytes are a sound card, made for the tables and columns of the file
+pub record SoundFor (card file : List ℕ) : Type 0 where
+  pub is-sound : checkCall card ≡ Given tt
+  pub tables-are : tablesIn card ≡ tableCount file
+  pub columns-are : columnsIn card ≡ columnsOf file
+
+-- a text that is accepted with a file is a rule, its card is sound for the file's columns, and all three calls keep what they promise of that rule
 pub record Demand3For (text file : List ℕ) : Type 0 where
   pub rule : Rule
   pub is-rule : ruleOf text (columnsOf file) ≡ some rule
+  pub sound-for : SoundFor (ruleBytes file rule) file
   pub cards : (buffer : List ℕ) → CardClaim text file rule buffer
   pub runs : (later : List ℕ) → Later file later → (row : ℕ) → RunClaim (ruleBytes file rule) later rule row
+  pub rows : (later : List ℕ) → Later file later → RowsExactly later rule
   pub listings : (later : List ℕ) → Later file later → (buffer : List ℕ) → ListClaim (ruleBytes file rule) later rule buffer

@@ -1,7 +1,11 @@
 -- Document 01, Card: the card of a rule, in its two interpretations, and the length sum.
+use mathlib.Core.Bool.{cond}
+use mathlib.Core.List.{List, [], _∷_}
 use Prim.Native.Nat.{ℕ, _+_, _-_, _*_}
+use lib.Dec.{eqb}
 use Rattle.tables.specs.Values.{Comparison, Eq, Ne, Lt, Le, Gt, Ge, Value, Connective, And, Or, Quantifier, Some, All}
 use Rattle.card.specs.Card.{Interpretation, AsNo, AsYes, Leaf, CompareLeaf, BlankLeaf, NotBlankLeaf, Card, LeafEntry, PairEntry, RowEntry}
+use Rattle.rule.specs.Parts.{Part}
 use Rattle.rule.specs.Condition.{Test, Compare, IsNull, IsNotNull, Atom, Join, Not, Exists, Listed, Rule, parts, nots, lists}
 
 -- ---- the two interpretations
@@ -66,3 +70,8 @@ ruleCard r = cardOf AsNo r
 -- ---- the published number of entries: NOTs have none, and a list has two more
 abbrev pub entrySum : Rule → ℕ
 entrySum r = parts r - nots r + 2 * lists r
+
+-- how many records of a list of parts have a kind
+unfoldable pub ofKind : ℕ → List Part → ℕ
+ofKind kind [] = 0
+ofKind kind (p ∷ ps) = cond (eqb (p .kind) kind) 1 0 + ofKind kind ps

@@ -1,7 +1,7 @@
 -- `runner::cells_hold` meets its contract: the comparison of the numbers is the answer only where neither cell is blank.
 use mathlib.Core.Path.{_∙_}
 use borrow.Author.Needs.{needs}
-use Rattle.runner.proofs.Numbers.{one-blank, none-blank}
+use Rattle.values.proofs.Numbers.{one-blank, none-blank}
 use Rattle.runner.proofs.cells_hold.Statement.{statement}
 use Rattle.runner.proofs.cells_hold.Tie as tie
 

@@ -1,0 +1,86 @@
+-- A line for each row, one behind another.
+use mathlib.Core.Path.{_≡_}
+use Prim.Native.Nat.{_+_, _*_, _-_, _≤_}
+use native.Mathlib.Omega.{arith}
+use lib.ListN.{length, getD, take, length-set}
+use Rattle.admission.specs.Output.{decimal, rowLines}
+use Rattle.admission.proofs.Writing.{Written, written-length, lines-none, line-written}
+use Rattle.admission.proofs.put_rows.Statement.{statement}
+use Rattle.admission.proofs.put_rows.Tie as tie
+
+abbrev Inv-loop : tie.InvT-loop
+Inv-loop out₀ i rows n at₀ k₀ out at k = (k ≤ n) × (length out ≡ 5018) × (at ≤ i + 5 * k) × Written out₀ i (rowLines (take k rows)) out at
+
+abbrev μ-loop : tie.MeasureT-loop
+μ-loop out₀ i rows n at₀ k₀ out at k = n - k
+
+loop-holds : tie.Need-loop-holds Inv-loop μ-loop
+loop-holds c = (omega arith, c .pre .0, omega arith, lines-none _ _)
+
+mul-put-decimal : tie.Need-mul-put-decimal Inv-loop μ-loop
+mul-put-decimal c = omega arith
+
+element-copy-out-put-decimal : tie.Need-element-copy-out-put-decimal Inv-loop μ-loop
+element-copy-out-put-decimal c = omega arith
+
+cast-put-decimal : tie.Need-cast-put-decimal Inv-loop μ-loop
+cast-put-decimal c =
+    let loop = c .before .before .before in
+    omega (arith, loop .before .pre .1 .1 .1 .0 (loop .loop .k) (omega arith))
+
+put-decimal-requires : tie.Need-put-decimal-requires Inv-loop μ-loop
+put-decimal-requires c κs =
+    let loop = c .before .before .before in
+    (loop .loop .inv .1, (loop .before .pre .1 .1 .1 .0 (loop .loop .k) (omega arith), omega arith))
+
+element-write-out : tie.Need-element-write-out Inv-loop μ-loop
+element-write-out c = omega arith
+
+add-at : tie.Need-add-at Inv-loop μ-loop
+add-at c = omega arith
+
+add-k : tie.Need-add-k Inv-loop μ-loop
+add-k c = omega arith
+
+loop-less : tie.Need-loop-less Inv-loop μ-loop
+loop-less c = omega arith
+
+loop-again : tie.Need-loop-again Inv-loop μ-loop
+loop-again c =
+    let start = c .before .before .before .before .before in
+    let loop = c .before .before .before .before .loop in
+    let number = c .put-decimal .ensures in
+    let before = start .args .out .now in
+    let rows = start .args .rows .now in
+    let size = start .pre .0 in
+    let count = start .pre .1 .0 in
+    let v : Written (loop .out) (loop .at) (decimal (getD rows (loop .k) 0)) _ _ = record { is = number .0; behind = number .1 .0 } in
+    let long = written-length (loop .out) (loop .at) _ _ _ v (omega arith) in
+    let w = line-written before rows (loop .out) _ (start .args .i) (loop .k) (loop .at) _ (omega arith) (omega arith) (omega arith) (omega arith) (loop .inv .3) v in
+    (omega arith, simp length-set (omega arith), omega arith, w)
+
+returns : tie.Need-returns Inv-loop μ-loop
+returns c =
+    let start = c .before .before in
+    let loop = c .before .loop in
+    let z : loop .k ≡ start .args .n = omega arith in
+    let w = rw z at (loop .inv .3) in
+    (w .is, (w .behind, omega arith))
+
+pub put-rows-spec : {M : Type 1} → statement M
+put-rows-spec =
+    tie.close
+    (tie.spec
+    Inv-loop
+    μ-loop
+    loop-holds
+    mul-put-decimal
+    element-copy-out-put-decimal
+    cast-put-decimal
+    put-decimal-requires
+    element-write-out
+    add-at
+    add-k
+    loop-less
+    loop-again
+    returns)

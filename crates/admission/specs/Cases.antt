@@ -1,0 +1,40 @@
+-- What the program prints on some files: the paper's example, an empty list, no files, and refusals beside one another.
+use mathlib.Core.List.{List, [], _∷_, _++_, map}
+use Prim.Native.Nat.{ℕ}
+use Prim.Native.String.{String}
+use Rattle.rule.specs.Tokens.{bytes}
+use Rattle.rule.specs.Cases.{caseTables}
+use Rattle.admission.specs.Output.{lineFeed, output}
+
+pub record OutputCase : Type 0 where
+  pub text : List ℕ
+  pub file : List ℕ
+  pub printed : List ℕ
+
+-- so many lines, each behind the other
+abbrev linesOf : List String → List ℕ
+linesOf [] = []
+linesOf (l ∷ ls) = (bytes l ++ lineFeed) ++ linesOf ls
+
+abbrev on : List ℕ → List ℕ → List String → OutputCase
+on text file ls = record { text = text; file = file; printed = linesOf ls }
+
+unfoldable pub outputCases : List OutputCase
+outputCases =
+    on (bytes "m.2 > 0 OR NOT m.2 > 0") caseTables ("rows 2 of 3" ∷ "0" ∷ "2" ∷ [])
+    ∷ on (bytes "EXISTS (FROM 2 v WHERE v.1 > 1)") caseTables ("rows 0 of 3" ∷ [])
+    ∷ on (bytes "1 = 1") (1 ∷ 1 ∷ 0 ∷ 0 ∷ []) ("rows 0 of 0" ∷ [])
+    ∷ on [] [] ("refused 1" ∷ [])
+    ∷ on [] caseTables ("refused 6" ∷ [])
+    ∷ on (bytes "k.1 = 1") caseTables ("refused 8" ∷ [])
+    ∷ []
+
+-- numbers, and how they are printed
+abbrev pub decimalNumbers : List ℕ
+decimalNumbers = 0 ∷ 9 ∷ 10 ∷ 42 ∷ 99 ∷ 100 ∷ 907 ∷ 999 ∷ 1000 ∷ []
+
+abbrev pub decimalTexts : List (List ℕ)
+decimalTexts = map bytes ("0" ∷ "9" ∷ "10" ∷ "42" ∷ "99" ∷ "100" ∷ "907" ∷ "999" ∷ "1000" ∷ [])
+
+abbrev pub printedOf : OutputCase → List ℕ
+printedOf c = output (c .text) (c .file)

@@ -1,0 +1,155 @@
+-- An entry without inner ones, as its numbers say it: a comparison, or a test for a blank.
+use mathlib.Core.Path.{_≡_, refl, ap, ap₂, _∙_}
+use mathlib.Core.Bool.{Bool, true, false, cond}
+use mathlib.Core.List.{List, [], _∷_, _++_}
+use Prim.Native.Nat.{ℕ, _+_, _*_}
+use native.Mathlib.Omega.{arith}
+use lib.ListN.{getD}
+use Rattle.tables.specs.Lists.{placed}
+use Rattle.tables.specs.Bytes.{bytes16, bytes32}
+use Rattle.tables.specs.Values.{Value, Comparison, Eq, Ne, Lt, Le, Gt, Ge, comparisonNumber}
+use Rattle.card.specs.Card.{Interpretation, Leaf, CompareLeaf, LeafEntry, entries}
+use Rattle.card.specs.Layout.{LeafHead, kindOf, valueBytes, noValue, fieldBytes, kindBytes, recordsFrom}
+use Rattle.translation.specs.Translation.{otherComparison}
+use Rattle.reader.proofs.Small.{comparison-small}
+use Rattle.records.specs.declared.LeafNumbers.{LeafNumbers}
+use Rattle.records.specs.Code.{byteNumber, LeafAt, LeafWritten, comparisonAs, compareKindAs, nullKindAs}
+use Rattle.records.proofs.Flags.{compare-kind-small, null-kind-small}
+use Rattle.entries.specs.Code.{interpretationOf, leafAs, nullLeaf, Wrote, valueBytesIn, CompareReady, NullReady}
+
+-- ---- numbers and bytes
+
+-- a value's two numbers stand one after the other
+pub value-at : (p : List ℕ) (i j : ℕ) → j ≡ i + 1 → getD p i 0 ∷ bytes32 (byteNumber (getD p i 0) (getD p j 0)) ≡ valueBytesIn p i
+value-at p i j e = ap (λ (k : ℕ). getD p i 0 ∷ bytes32 (byteNumber (getD p i 0) (getD p k 0))) e
+
+compare-kind-is : (negate unknown : Bool) (op : Comparison) (l r : Value)
+    → compareKindAs negate unknown ≡ kindOf (LeafHead (leafAs negate (CompareLeaf (interpretationOf unknown) op l r)))
+compare-kind-is false false op l r = refl
+compare-kind-is false true op l r = refl
+compare-kind-is true false op l r = refl
+compare-kind-is true true op l r = refl
+
+null-kind-is : (negate blank : Bool) (l : Value) → nullKindAs negate (cond blank 5 6) ≡ kindOf (LeafHead (leafAs negate (nullLeaf blank l)))
+null-kind-is false false l = refl
+null-kind-is false true l = refl
+null-kind-is true false l = refl
+null-kind-is true true l = refl
+
+comparison-is : (negate : Bool) (op : Comparison) → comparisonAs negate (comparisonNumber op) ≡ comparisonNumber (cond negate (otherComparison op) op)
+comparison-is false op = refl
+comparison-is true Eq = refl
+comparison-is true Ne = refl
+comparison-is true Lt = refl
+comparison-is true Le = refl
+comparison-is true Gt = refl
+comparison-is true Ge = refl
+
+compare-bytes : (negate : Bool) (u : Interpretation) (op : Comparison) (l r : Value)
+    → 0 ∷ comparisonNumber (cond negate (otherComparison op) op) ∷ valueBytes l ++ valueBytes r ≡ fieldBytes (LeafHead (leafAs negate (CompareLeaf u op l r)))
+compare-bytes false u op l r = refl
+compare-bytes true u op l r = refl
+
+null-bytes : (negate blank : Bool) (l : Value) → 0 ∷ 0 ∷ valueBytes l ++ noValue ≡ fieldBytes (LeafHead (leafAs negate (nullLeaf blank l)))
+null-bytes false false l = refl
+null-bytes false true l = refl
+null-bytes true false l = refl
+null-bytes true true l = refl
+
+-- ---- the entry
+
+leaf-written : {kinds records kinds′ records′ : List ℕ} {k : ℕ} {x : LeafNumbers} (y : Leaf) → LeafWritten kinds records kinds′ records′ k x
+    → x .kind ≡ kindOf (LeafHead y)
+    → 0 ∷ x .comparison
+    ∷ (x .«left_tag» ∷ bytes32 (byteNumber (x .«left_tag») (x .«left_number»)))
+    ++ (x .«right_tag» ∷ bytes32 (byteNumber (x .«right_tag») (x .«right_number»)))
+    ≡ fieldBytes (LeafHead y)
+    → Wrote k (LeafEntry y) kinds records kinds′ records′ (k + 1)
+unfolding entries kindBytes recordsFrom
+leaf-written {kinds} {records} {kinds′} {records′} {k} {x} y w p q = record {
+  next = refl;
+  kinds-are = w .kinds-are ∙ ap (λ (n : ℕ). placed kinds k (n ∷ [])) p;
+  records-are = w .records-are ∙ ap (λ (l : List ℕ). placed records (14 * k) (bytes16 (k + 1) ++ l)) q;
+}
+
+module _ {p : List ℕ} {s : ℕ} {kinds records : List ℕ} {k : ℕ} where
+  -- a comparison
+  module _ (h : CompareReady p s kinds records k) (negate unknown : Bool) (kind op : ℕ) (is-kind : kind ≡ compareKindAs negate unknown) (is-op : op ≡ comparisonAs negate (getD p (8 * s + 1) 0)) where
+    abbrev pub compareNumbers : LeafNumbers
+    compareNumbers = record {
+      kind = kind;
+      comparison = op;
+      «left_tag» = getD p (8 * s + 4) 0;
+      «left_number» = getD p (8 * s + 5) 0;
+      «right_tag» = getD p (8 * s + 6) 0;
+      «right_number» = getD p (8 * s + 7) 0;
+    }
+
+    op-is : op ≡ comparisonNumber (cond negate (otherComparison (h .comparison)) (h .comparison))
+    op-is = is-op ∙ ap (comparisonAs negate) (h .comparison-is) ∙ comparison-is negate (h .comparison)
+
+    pub compare-at : LeafAt kinds records k compareNumbers
+    compare-at =
+        let s = h .small in
+        let fit = h .room .kinds-fit in
+        let long = h .room .records-fit in
+        record {
+          kinds-size = h .room .kinds-size;
+          few = omega arith;
+          room = omega arith;
+          kind-small = omega (arith, is-kind, compare-kind-small negate unknown);
+          comparison-small = omega (arith, op-is, comparison-small (cond negate (otherComparison (h .comparison)) (h .comparison)));
+          left-tag-small = s .left-tag;
+          left-small = s .left-number .constant;
+          right-tag-small = s .right-tag;
+          right-small = s .right-number .constant;
+        }
+
+    pub compare-written : {kinds′ records′ : List ℕ} → LeafWritten kinds records kinds′ records′ k compareNumbers
+        → Wrote k (LeafEntry (leafAs negate (CompareLeaf (interpretationOf unknown) (h .comparison) (h .left) (h .right)))) kinds records kinds′ records′ (k + 1)
+    compare-written w =
+        leaf-written _ w
+        (is-kind ∙ compare-kind-is negate unknown (h .comparison) (h .left) (h .right))
+        (ap₂ (λ (n : ℕ) (v : List ℕ). 0 ∷ n ∷ v) op-is
+        (ap₂ _++_ (value-at p (8 * s + 4) (8 * s + 5) (omega arith) ∙ h .left-is) (value-at p (8 * s + 6) (8 * s + 7) (omega arith) ∙ h .right-is))
+        ∙ compare-bytes negate (interpretationOf unknown) (h .comparison) (h .left) (h .right))
+
+  -- a test for a blank
+  module _ (h : NullReady p s kinds records k) (negate : Bool) (kind : ℕ) (is-kind : kind ≡ nullKindAs negate (getD p (8 * s) 0)) where
+    abbrev pub nullNumbers : LeafNumbers
+    nullNumbers = record {
+      kind = kind;
+      comparison = 0;
+      «left_tag» = getD p (8 * s + 4) 0;
+      «left_number» = getD p (8 * s + 5) 0;
+      «right_tag» = 0;
+      «right_number» = 0;
+    }
+
+    kind-told : kind ≡ nullKindAs negate (cond (h .blank) 5 6)
+    kind-told = is-kind ∙ ap (nullKindAs negate) (h .kind-is)
+
+    pub null-at : LeafAt kinds records k nullNumbers
+    null-at =
+        let s = h .small in
+        let fit = h .room .kinds-fit in
+        let long = h .room .records-fit in
+        record {
+          kinds-size = h .room .kinds-size;
+          few = omega arith;
+          room = omega arith;
+          kind-small = omega (arith, kind-told, null-kind-small negate (h .blank));
+          comparison-small = omega arith;
+          left-tag-small = s .left-tag;
+          left-small = s .left-number .constant;
+          right-tag-small = omega arith;
+          right-small = omega arith;
+        }
+
+    pub null-written : {kinds′ records′ : List ℕ} → LeafWritten kinds records kinds′ records′ k nullNumbers
+        → Wrote k (LeafEntry (leafAs negate (nullLeaf (h .blank) (h .left)))) kinds records kinds′ records′ (k + 1)
+    null-written w =
+        leaf-written _ w
+        (kind-told ∙ null-kind-is negate (h .blank) (h .left))
+        (ap (λ (v : List ℕ). 0 ∷ 0 ∷ v ++ noValue) (value-at p (8 * s + 4) (8 * s + 5) (omega arith) ∙ h .left-is)
+        ∙ null-bytes negate (h .blank) (h .left))

@@ -1,0 +1,528 @@
+-- The entries of a part, by what the part is: what its inner parts ask, and that the entries around them are those of its card.
+use mathlib.Core.Path.{_≡_, refl, sym, ap, ap₂, subst, _∙_}
+use mathlib.Core.Bool.{Bool, true, false, not, cond, Bool·beq}
+use mathlib.Core.List.{List, [], _∷_, _++_}
+use Prim.Native.Nat.{ℕ, _+_, _*_, _<_, _≤_, max}
+use native.Mathlib.Omega.{arith}
+use borrow.Author.Tests.{ne-eqb, eqb-true, eqb-false}
+use lib.Dec.{T, eqb, ltb→lt}
+use lib.IntN.{ℤ, pos, negsuc}
+use lib.ListN.{length, getD, length-append}
+use Rattle.tables.specs.Lists.{placed}
+use Rattle.tables.specs.Bytes.{bytes16, bytes32, bits, inRange}
+use Rattle.tables.specs.Values.{Value, Constant, Column, Connective, And, Or, Quantifier, Some, All}
+use Rattle.cells.specs.Code.{excess, toExcess}
+use Rattle.card.specs.Card.{CompareLeaf, Card, LeafEntry, PairEntry, RowEntry, entries}
+use Rattle.card.specs.Layout.{PairHead, kindOf as cardKind, valueBytes}
+use Rattle.rule.specs.Condition.{Compare, IsNull, IsNotNull, parts, fromsDeep}
+use Rattle.rule.specs.Names.{ValueFits, Fits}
+use Rattle.rule.specs.Parts.{taggedOf}
+use Rattle.reader.specs.Code.{SmallPart}
+use Rattle.reader.proofs.Small.{heldNumber}
+use Rattle.reader.proofs.Parts.{parts-low, listedKind, part-comparison, part-table, part-left-tag, part-left-number, part-right-tag, part-right-number, IsJoin, IsNot, IsCompare, IsExists, IsListed, is-join, is-not, is-compare, is-blank, is-present, is-exists, is-listed}
+use Rattle.records.specs.Code.{byteNumber, plainRecord, pairKindAs, rowKindAs}
+use Rattle.records.proofs.Flags.{row-small}
+use Rattle.entries.specs.Code.{interpretationOf, leafAs, nullLeaf, cardAs, Room, Wrote, valueBytesIn, CompareReady, ComparedTo, NullReady, NulledTo, Writable, WroteTo}
+use Rattle.entries.proofs.Cards.{connectiveAs, quantifierOf, listConnective, everyRow, card-atom, card-not, card-join, card-exists, card-listed, pair-kind-is, list-kind-is, row-kind-is}
+use Rattle.translation.proofs.Demand3.{some-entries}
+use Rattle.entries.proofs.Spread.{Plain, room-less, room-plain, room-wrote, plain-asked, end-asked, row-written, pair-written}
+
+-- ---- a value of a part
+
+-- 32 bits from the excess
+excess-bits : (k : ℤ) → T (inRange k) → excess (toExcess k) ≡ bits k
+excess-bits (pos n) h = omega (arith, ltb→lt n 2147483648 h)
+excess-bits (negsuc n) h = omega (arith, ltb→lt n 2147483648 h)
+
+value-numbers : (columns levels : List ℕ) (v : Value) → length levels ≤ 4 → ValueFits columns levels v
+    → taggedOf v .tag ∷ bytes32 (byteNumber (taggedOf v .tag) (heldNumber (taggedOf v))) ≡ valueBytes v
+value-numbers columns levels (Constant k) few f = ap (λ (n : ℕ). 255 ∷ bytes32 n) (excess-bits k f)
+value-numbers columns levels (Column l c) few f = let level = f .0 in rw (ne-eqb l 255 (λ e. omega arith))
+
+value-in : (p : List ℕ) (i j : ℕ) (columns levels : List ℕ) (v : Value) → length levels ≤ 4 → ValueFits columns levels v → j ≡ i + 1
+    → getD p i 0 ≡ taggedOf v .tag → getD p j 0 ≡ heldNumber (taggedOf v) → valueBytesIn p i ≡ valueBytes v
+value-in p i j columns levels v few f e tag number =
+    ap (λ (k : ℕ). getD p i 0 ∷ bytes32 (byteNumber (getD p i 0) (getD p k 0))) (sym e)
+    ∙ ap₂ (λ (t n : ℕ). t ∷ bytes32 (byteNumber t n)) tag number
+    ∙ value-numbers columns levels v few f
+
+-- ---- a part
+
+-- the kind of a test for a blank
+null-kind : (n : ℕ) → 5 ≤ n → n ≤ 6 → n ≡ cond (eqb n 5) 5 6
+null-kind n a b = go (eqb n 5) refl
+  where
+    go : (t : Bool) → eqb n 5 ≡ t → n ≡ cond t 5 6
+    go true e = eqb-true n 5 e
+    go false e = let f = eqb-false n 5 e in omega arith
+
+-- the kind of a pair fits a byte
+pair-small : (j : Connective) → cardKind (PairHead j) < 256
+pair-small And = omega arith
+pair-small Or = omega arith
+
+-- ALL is kind 9
+every-row : (q : Quantifier) (negate : Bool) → not (Bool·beq (eqb (listedKind q) 9) negate) ≡ everyRow q negate
+every-row Some false = refl
+every-row Some true = refl
+every-row All false = refl
+every-row All true = refl
+
+module _ {p : List ℕ} {s : ℕ} {negate unknown : Bool} {kinds records : List ℕ} {k : ℕ} (h : Writable p s negate unknown kinds records k) where
+  -- there are few parts and few entries
+  pub part-few : s < 64
+  part-few = omega (arith, h .within, h .few, parts-low (h .rule))
+
+  pub entry-few : k < 192
+  entry-few = omega (arith, h .room .kinds-fit, some-entries (cardAs negate unknown (h .rule)))
+
+  pub part-small : SmallPart p s
+  part-small = h .small s (omega (arith, h .within, parts-low (h .rule)))
+
+  abbrev card : Card
+  card = cardAs negate unknown (h .rule)
+
+  -- room for the entries of the card that it is
+  room-for : {c : Card} → card ≡ c → Room kinds records k (entries c)
+  room-for e = subst (λ (c : Card). Room kinds records k (entries c)) e (h .room)
+
+  -- so many levels, whatever is around
+  levels-few : length (h .levels) ≤ 4
+  levels-few = omega (arith, h .deep)
+
+  -- ---- a comparison, and a test for a blank
+
+  module _ (kind : getD p (8 * s) 0 ≡ 4) where
+    compared : IsCompare p s (h .rule)
+    compared = is-compare p s (h .rule) (h .stands) kind
+
+    compare-card : card ≡ LeafEntry (leafAs negate (CompareLeaf (interpretationOf unknown) (compared .op) (compared .left) (compared .right)))
+    compare-card = ap (cardAs negate unknown) (compared .is) ∙ card-atom negate unknown (Compare (compared .op) (compared .left) (compared .right))
+
+    pub compare-ready : CompareReady p s kinds records k
+    unfolding entries Fits
+    compare-ready =
+        let x = compared in
+        let f = subst (Fits (h .columns) (h .levels)) (x .is) (h .fits) in
+        record {
+          size = h .size;
+          few = part-few;
+          small = part-small;
+          room = room-for compare-card;
+          comparison = x .op;
+          left = x .left;
+          right = x .right;
+          comparison-is = part-comparison (x .here);
+          left-is = value-in p (8 * s + 4) (8 * s + 5) (h .columns) (h .levels) (x .left) levels-few (f .0) (omega arith) (part-left-tag (x .here)) (part-left-number (x .here));
+          right-is = value-in p (8 * s + 6) (8 * s + 7) (h .columns) (h .levels) (x .right) levels-few (f .1) (omega arith) (part-right-tag (x .here)) (part-right-number (x .here));
+        }
+
+    pub compare-wrote : {kinds′ records′ : List ℕ} {r : ℕ} → ComparedTo p s negate unknown kinds records kinds′ records′ k r → Wrote k card kinds records kinds′ records′ r
+    unfolding compare-ready
+    compare-wrote f = rw compare-card (f compare-ready)
+
+  -- IS NULL, or IS NOT NULL
+  record Nulled (blank : Bool) : Type 0 where
+    left : Value
+    card-is : card ≡ LeafEntry (leafAs negate (nullLeaf blank left))
+    left-is : valueBytesIn p (8 * s + 4) ≡ valueBytes left
+
+  nulled : (blank : Bool) → getD p (8 * s) 0 ≡ cond blank 5 6 → Nulled blank
+  unfolding Fits
+  nulled true kind =
+      let x = is-blank p s (h .rule) (h .stands) kind in
+      let f = subst (Fits (h .columns) (h .levels)) (x .is) (h .fits) in
+      record {
+        left = x .left;
+        card-is = ap (cardAs negate unknown) (x .is) ∙ card-atom negate unknown (IsNull (x .left));
+        left-is = value-in p (8 * s + 4) (8 * s + 5) (h .columns) (h .levels) (x .left) levels-few f (omega arith) (part-left-tag (x .here)) (part-left-number (x .here));
+      }
+  nulled false kind =
+      let x = is-present p s (h .rule) (h .stands) kind in
+      let f = subst (Fits (h .columns) (h .levels)) (x .is) (h .fits) in
+      record {
+        left = x .left;
+        card-is = ap (cardAs negate unknown) (x .is) ∙ card-atom negate unknown (IsNotNull (x .left));
+        left-is = value-in p (8 * s + 4) (8 * s + 5) (h .columns) (h .levels) (x .left) levels-few f (omega arith) (part-left-tag (x .here)) (part-left-number (x .here));
+      }
+
+  module _ (low : 5 ≤ getD p (8 * s) 0) (high : getD p (8 * s) 0 ≤ 6) where
+    null-told : getD p (8 * s) 0 ≡ cond (eqb (getD p (8 * s) 0) 5) 5 6
+    null-told = null-kind (getD p (8 * s) 0) low high
+
+    null-test : Nulled (eqb (getD p (8 * s) 0) 5)
+    null-test = nulled (eqb (getD p (8 * s) 0) 5) null-told
+
+    pub null-ready : NullReady p s kinds records k
+    unfolding entries
+    null-ready =
+        record {
+          size = h .size;
+          few = part-few;
+          small = part-small;
+          room = room-for (null-test .card-is);
+          blank = eqb (getD p (8 * s) 0) 5;
+          left = null-test .left;
+          kind-is = null-told;
+          left-is = null-test .left-is;
+        }
+
+    pub null-wrote : {kinds′ records′ : List ℕ} {r : ℕ} → NulledTo p s negate kinds records kinds′ records′ k r → Wrote k card kinds records kinds′ records′ r
+    unfolding null-ready
+    null-wrote f = rw (null-test .card-is) (f null-ready)
+
+  -- ---- NOT
+
+  module _ (kind : getD p (8 * s) 0 ≡ 3) where
+    inverted : IsNot p s (h .rule)
+    inverted = is-not p s (h .rule) (h .stands) kind
+
+    not-card : card ≡ cardAs (not negate) (not unknown) (inverted .inner)
+    not-card = ap (cardAs negate unknown) (inverted .is) ∙ card-not negate unknown (inverted .inner)
+
+    pub not-ready : Writable p (s + 1) (not negate) (not unknown) kinds records k
+    unfolding parts fromsDeep Fits
+    not-ready =
+        let x = inverted in
+        let size = ap parts (x .is) in
+        let deep = ap fromsDeep (x .is) in
+        record {
+          rule = x .inner;
+          size = h .size;
+          stands = x .inner-stands;
+          count = h .count;
+          few = h .few;
+          within = omega (arith, size, h .within);
+          small = h .small;
+          columns = h .columns;
+          levels = h .levels;
+          deep = omega (arith, deep, h .deep);
+          fits = subst (Fits (h .columns) (h .levels)) (x .is) (h .fits);
+          room = room-for not-card;
+        }
+
+    pub not-wrote : {kinds′ records′ : List ℕ} {r : ℕ} → WroteTo p (s + 1) (not negate) (not unknown) kinds records kinds′ records′ k r → Wrote k card kinds records kinds′ records′ r
+    unfolding not-ready
+    not-wrote f = rw not-card (f not-ready)
+
+  -- ---- AND and OR
+
+  module _ (bounds : (1 ≤ getD p (8 * s) 0) × (getD p (8 * s) 0 ≤ 2)) (kind : ℕ) (is-kind : kind ≡ pairKindAs negate (getD p (8 * s) 0)) where
+    join : IsJoin p s (h .rule)
+    join = is-join p s (h .rule) (h .stands) (bounds .0) (bounds .1)
+
+    abbrev leftCard : Card
+    leftCard = cardAs negate unknown (join .left)
+
+    abbrev rightCard : Card
+    rightCard = cardAs negate unknown (join .right)
+
+    join-card : card ≡ PairEntry (connectiveAs negate (join .connective)) leftCard rightCard
+    join-card = ap (cardAs negate unknown) (join .is) ∙ card-join negate unknown (join .connective) (join .left) (join .right)
+
+    join-kind : kind ≡ cardKind (PairHead (connectiveAs negate (join .connective)))
+    join-kind = is-kind ∙ ap (pairKindAs negate) (join .kind-is) ∙ pair-kind-is negate (join .connective)
+
+    join-room : Room kinds records k (1 + entries leftCard + entries rightCard)
+    unfolding entries
+    join-room = room-for join-card
+
+    join-parts : parts (h .rule) ≡ 1 + parts (join .left) + parts (join .right)
+    unfolding parts
+    join-parts = ap parts (join .is)
+
+    join-deep : fromsDeep (h .rule) ≡ max (fromsDeep (join .left)) (fromsDeep (join .right))
+    unfolding fromsDeep
+    join-deep = ap fromsDeep (join .is)
+
+    join-fits : Fits (h .columns) (h .levels) (join .left) × Fits (h .columns) (h .levels) (join .right)
+    unfolding Fits
+    join-fits = subst (Fits (h .columns) (h .levels)) (join .is) (h .fits)
+
+    pub pair-plain-asked : (length kinds ≡ 192) × ((k < 192) × ((kind < 256) × ((0 < 256) × (14 * k + 14 ≤ length records))))
+    pair-plain-asked = plain-asked join-room kind 0 (omega arith) (omega (arith, join-kind, pair-small (connectiveAs negate (join .connective)))) (omega arith)
+
+    pub join-few : s + 1 < 64
+    join-few = omega (arith, join-parts, parts-low (join .left), parts-low (join .right), h .within, h .few)
+
+    pub next-above : s + 1 ≤ getD p (8 * (s + 1) + 3) 0
+    next-above = omega (arith, join .next)
+
+    module _ {kinds1 records1 : List ℕ} (put : (kinds1 ≡ placed kinds k (kind ∷ [])) × (records1 ≡ placed records (14 * k) (plainRecord 0 0))) where
+      put-pair : Plain k kind 0 kinds records kinds1 records1
+      put-pair = record { kinds-are = put .0; records-are = put .1 }
+
+      inner-room : Room kinds1 records1 (k + 1) (entries leftCard + entries rightCard)
+      inner-room = room-plain join-room (omega arith) put-pair (k + 1) (entries leftCard + entries rightCard) (omega arith)
+
+      pub left-ready : Writable p (s + 1) negate unknown kinds1 records1 (k + 1)
+      left-ready = record {
+        rule = join .left;
+        size = h .size;
+        stands = join .left-stands;
+        count = h .count;
+        few = h .few;
+        within = omega (arith, join-parts, h .within);
+        small = h .small;
+        columns = h .columns;
+        levels = h .levels;
+        deep = omega (arith, join-deep, h .deep);
+        fits = join-fits .0;
+        room = room-less inner-room (entries leftCard) (omega arith);
+      }
+
+      module _ {kinds2 records2 : List ℕ} {middle : ℕ} (wa : WroteTo p (s + 1) negate unknown kinds1 records1 kinds2 records2 (k + 1) middle) where
+        left-wrote : Wrote (k + 1) leftCard kinds1 records1 kinds2 records2 middle
+        unfolding left-ready
+        left-wrote = wa left-ready
+
+        pub right-ready : Writable p (getD p (8 * (s + 1) + 3) 0) negate unknown kinds2 records2 middle
+        right-ready = record {
+          rule = join .right;
+          size = h .size;
+          stands = rw (join .next) (join .right-stands);
+          count = h .count;
+          few = h .few;
+          within = omega (arith, join .next, join-parts, h .within);
+          small = h .small;
+          columns = h .columns;
+          levels = h .levels;
+          deep = omega (arith, join-deep, h .deep);
+          fits = join-fits .1;
+          room = room-wrote inner-room left-wrote (omega arith) middle (entries rightCard) (omega (arith, left-wrote .next));
+        }
+
+        module _ {kinds3 records3 : List ℕ} {r : ℕ} (wb : WroteTo p (getD p (8 * (s + 1) + 3) 0) negate unknown kinds2 records2 kinds3 records3 middle r) where
+          right-wrote : Wrote middle rightCard kinds2 records2 kinds3 records3 r
+          unfolding right-ready
+          right-wrote = wb right-ready
+
+          both-room : Room kinds3 records3 r 0
+          unfolding right-ready
+          both-room = room-wrote (right-ready .room) right-wrote (omega arith) r 0 (omega (arith, right-wrote .next))
+
+          pub pair-end-asked : (r < 65536) × (14 * k + 2 ≤ length records3)
+          pair-end-asked = end-asked both-room k (omega (arith, right-wrote .next, left-wrote .next))
+
+          pub pair-wrote : {records4 : List ℕ} → records4 ≡ placed records3 (14 * k) (bytes16 r) → Wrote k card kinds records kinds3 records4 r
+          pair-wrote e =
+              let low = join-room .kinds-fit in
+              let long = join-room .records-fit in
+              rw join-card (pair-written (omega (arith, h .room .kinds-size)) (omega arith) put-pair (connectiveAs negate (join .connective)) refl join-kind refl left-wrote right-wrote e)
+
+  -- ---- EXISTS
+
+  module _ (seven : getD p (8 * s) 0 ≡ 7) (kind : ℕ) (is-kind : kind ≡ rowKindAs negate) where
+    exists : IsExists p s (h .rule)
+    exists = is-exists p s (h .rule) (h .stands) seven
+
+    abbrev whereCard : Card
+    whereCard = cardAs negate false (exists .inner)
+
+    exists-card : card ≡ RowEntry (quantifierOf negate) (getD p (8 * s + 2) 0) whereCard
+    exists-card =
+        ap (cardAs negate unknown) (exists .is)
+        ∙ card-exists negate unknown (exists .table) (exists .inner)
+        ∙ ap (λ (t : ℕ). RowEntry (quantifierOf negate) t whereCard) (sym (part-table (exists .here)))
+
+    exists-room : Room kinds records k (1 + entries whereCard)
+    unfolding entries
+    exists-room = room-for exists-card
+
+    exists-parts : parts (h .rule) ≡ 1 + parts (exists .inner)
+    unfolding parts
+    exists-parts = ap parts (exists .is)
+
+    exists-deep : fromsDeep (h .rule) ≡ 1 + fromsDeep (exists .inner)
+    unfolding fromsDeep
+    exists-deep = ap fromsDeep (exists .is)
+
+    exists-fits : Fits (h .columns) (h .levels ++ (exists .table ∷ [])) (exists .inner)
+    unfolding Fits
+    exists-fits = subst (Fits (h .columns) (h .levels)) (exists .is) (h .fits) .1
+
+    pub exists-plain-asked : (length kinds ≡ 192) × ((k < 192) × ((kind < 256) × ((getD p (8 * s + 2) 0 < 256) × (14 * k + 14 ≤ length records))))
+    exists-plain-asked = plain-asked exists-room kind (getD p (8 * s + 2) 0) (omega arith) (omega (arith, is-kind, row-small negate)) (part-small .table)
+
+    module _ {kinds1 records1 : List ℕ} (put : (kinds1 ≡ placed kinds k (kind ∷ [])) × (records1 ≡ placed records (14 * k) (plainRecord 0 (getD p (8 * s + 2) 0)))) where
+      put-exists : Plain k kind (getD p (8 * s + 2) 0) kinds records kinds1 records1
+      put-exists = record { kinds-are = put .0; records-are = put .1 }
+
+      pub exists-ready : Writable p (s + 1) negate false kinds1 records1 (k + 1)
+      exists-ready = record {
+        rule = exists .inner;
+        size = h .size;
+        stands = exists .inner-stands;
+        count = h .count;
+        few = h .few;
+        within = omega (arith, exists-parts, h .within);
+        small = h .small;
+        columns = h .columns;
+        levels = h .levels ++ (exists .table ∷ []);
+        deep = omega (arith, exists-deep, h .deep, length-append (h .levels) (exists .table ∷ []));
+        fits = exists-fits;
+        room = room-plain exists-room (omega arith) put-exists (k + 1) (entries whereCard) (omega arith);
+      }
+
+      module _ {kinds2 records2 : List ℕ} {r : ℕ} (w : WroteTo p (s + 1) negate false kinds1 records1 kinds2 records2 (k + 1) r) where
+        where-wrote : Wrote (k + 1) whereCard kinds1 records1 kinds2 records2 r
+        unfolding exists-ready
+        where-wrote = w exists-ready
+
+        pub exists-end-asked : (r < 65536) × (14 * k + 2 ≤ length records2)
+        exists-end-asked =
+            let room = room-plain exists-room (omega arith) put-exists (k + 1) (entries whereCard) (omega arith) in
+            end-asked (room-wrote room where-wrote (omega arith) r 0 (omega (arith, where-wrote .next))) k (omega (arith, where-wrote .next))
+
+        pub exists-wrote : {records3 : List ℕ} → records3 ≡ placed records2 (14 * k) (bytes16 r) → Wrote k card kinds records kinds2 records3 r
+        exists-wrote e =
+            let low = exists-room .kinds-fit in
+            let long = exists-room .records-fit in
+            rw exists-card
+            (row-written (omega (arith, h .room .kinds-size)) (omega arith) put-exists (quantifierOf negate) (is-kind ∙ row-kind-is negate (getD p (8 * s + 2) 0)) refl where-wrote e)
+
+  -- ---- a list
+
+  -- the code's test
+  abbrev every : Bool
+  every = not (Bool·beq (eqb (getD p (8 * s) 0) 9) negate)
+
+  module _ (eight : 8 ≤ getD p (8 * s) 0) (row : ℕ) (is-row : row ≡ rowKindAs every) where
+    listed : IsListed p s (h .rule)
+    listed = is-listed p s (h .rule) (h .stands) eight
+
+    every-is : every ≡ everyRow (listed .quantifier) negate
+    every-is = ap (λ (n : ℕ). not (Bool·beq (eqb n 9) negate)) (listed .kind-is) ∙ every-row (listed .quantifier) negate
+
+    abbrev innerCard : Card
+    innerCard = cardAs every false (listed .inner)
+
+    abbrev lastCard : Card
+    lastCard = LeafEntry (leafAs negate (CompareLeaf (interpretationOf unknown) (listed .op) (listed .left) (listed .selected)))
+
+    abbrev pairCard : Card
+    pairCard = PairEntry (listConnective every) innerCard lastCard
+
+    list-card : card ≡ RowEntry (quantifierOf every) (getD p (8 * s + 2) 0) pairCard
+    list-card =
+        ap (cardAs negate unknown) (listed .is)
+        ∙ card-listed negate unknown (listed .quantifier) (listed .op) (listed .left) (listed .selected) (listed .table) (listed .inner)
+        ∙ ap₂ (λ (e : Bool) (t : ℕ). RowEntry (quantifierOf e) t (PairEntry (listConnective e) (cardAs e false (listed .inner)) lastCard)) (sym every-is) (sym (part-table (listed .here)))
+
+    list-room : Room kinds records k (1 + (1 + entries innerCard + 1))
+    unfolding entries
+    list-room = room-for list-card
+
+    list-parts : parts (h .rule) ≡ 1 + parts (listed .inner)
+    unfolding parts
+    list-parts = ap parts (listed .is)
+
+    list-deep : fromsDeep (h .rule) ≡ 1 + fromsDeep (listed .inner)
+    unfolding fromsDeep
+    list-deep = ap fromsDeep (listed .is)
+
+    abbrev innerLevels : List ℕ
+    innerLevels = h .levels ++ (listed .table ∷ [])
+
+    list-fits : ValueFits (h .columns) (h .levels) (listed .left) × ValueFits (h .columns) innerLevels (listed .selected) × Fits (h .columns) innerLevels (listed .inner)
+    unfolding Fits
+    list-fits = let f = subst (Fits (h .columns) (h .levels)) (listed .is) (h .fits) in (f .1, f .2, f .3)
+
+    inner-levels : length innerLevels + fromsDeep (listed .inner) ≤ 4
+    inner-levels = omega (arith, list-deep, h .deep, length-append (h .levels) (listed .table ∷ []))
+
+    pub list-plain-asked : (length kinds ≡ 192) × ((k < 192) × ((row < 256) × ((getD p (8 * s + 2) 0 < 256) × (14 * k + 14 ≤ length records))))
+    list-plain-asked = plain-asked list-room row (getD p (8 * s + 2) 0) (omega arith) (omega (arith, is-row, row-small every)) (part-small .table)
+
+    module _ {kinds1 records1 : List ℕ} (put : (kinds1 ≡ placed kinds k (row ∷ [])) × (records1 ≡ placed records (14 * k) (plainRecord 0 (getD p (8 * s + 2) 0))))
+        (kind : ℕ) (is-kind : kind ≡ pairKindAs every 1) where
+      put-row : Plain k row (getD p (8 * s + 2) 0) kinds records kinds1 records1
+      put-row = record { kinds-are = put .0; records-are = put .1 }
+
+      row-room : Room kinds1 records1 (k + 1) (1 + entries innerCard + 1)
+      row-room = room-plain list-room (omega arith) put-row (k + 1) (1 + entries innerCard + 1) (omega arith)
+
+      list-kind : kind ≡ cardKind (PairHead (listConnective every))
+      list-kind = is-kind ∙ list-kind-is every
+
+      pub list-plain-asked-2 : (length kinds1 ≡ 192) × ((k + 1 < 192) × ((kind < 256) × ((0 < 256) × (14 * (k + 1) + 14 ≤ length records1))))
+      list-plain-asked-2 = plain-asked row-room kind 0 (omega arith) (omega (arith, list-kind, pair-small (listConnective every))) (omega arith)
+
+      module _ {kinds2 records2 : List ℕ} (put2 : (kinds2 ≡ placed kinds1 (k + 1) (kind ∷ [])) × (records2 ≡ placed records1 (14 * (k + 1)) (plainRecord 0 0))) where
+        put-both : Plain (k + 1) kind 0 kinds1 records1 kinds2 records2
+        put-both = record { kinds-are = put2 .0; records-are = put2 .1 }
+
+        list-inner-room : Room kinds2 records2 (k + 2) (entries innerCard + 1)
+        list-inner-room = room-plain row-room (omega arith) put-both (k + 2) (entries innerCard + 1) (omega arith)
+
+        pub list-ready : Writable p (s + 1) every false kinds2 records2 (k + 2)
+        list-ready = record {
+          rule = listed .inner;
+          size = h .size;
+          stands = listed .inner-stands;
+          count = h .count;
+          few = h .few;
+          within = omega (arith, list-parts, h .within);
+          small = h .small;
+          columns = h .columns;
+          levels = innerLevels;
+          deep = inner-levels;
+          fits = list-fits .2;
+          room = room-less list-inner-room (entries innerCard) (omega arith);
+        }
+
+        module _ {kinds3 records3 : List ℕ} {last : ℕ} (w : WroteTo p (s + 1) every false kinds2 records2 kinds3 records3 (k + 2) last) where
+          inner-wrote : Wrote (k + 2) innerCard kinds2 records2 kinds3 records3 last
+          unfolding list-ready
+          inner-wrote = w list-ready
+
+          last-room : Room kinds3 records3 last 1
+          last-room = room-wrote list-inner-room inner-wrote (omega arith) last 1 (omega (arith, inner-wrote .next))
+
+          pub list-compare-ready : CompareReady p s kinds3 records3 last
+          list-compare-ready = let x = listed in record {
+            size = h .size;
+            few = part-few;
+            small = part-small;
+            room = last-room;
+            comparison = x .op;
+            left = x .left;
+            right = x .selected;
+            comparison-is = part-comparison (x .here);
+            left-is = value-in p (8 * s + 4) (8 * s + 5) (h .columns) (h .levels) (x .left) levels-few (list-fits .0) (omega arith) (part-left-tag (x .here)) (part-left-number (x .here));
+            right-is =
+                value-in p (8 * s + 6) (8 * s + 7) (h .columns) innerLevels (x .selected) (omega (arith, inner-levels)) (list-fits .1) (omega arith)
+                (part-right-tag (x .here))
+                (part-right-number (x .here));
+          }
+
+          module _ {kinds4 records4 : List ℕ} {r : ℕ} (v : ComparedTo p s negate unknown kinds3 records3 kinds4 records4 last r) where
+            last-wrote : Wrote last lastCard kinds3 records3 kinds4 records4 r
+            unfolding list-compare-ready
+            last-wrote = v list-compare-ready
+
+            last-next : r ≡ last + 1
+            unfolding entries
+            last-next = last-wrote .next
+
+            pub list-end-asked : (r < 65536) × (14 * (k + 1) + 2 ≤ length records4)
+            unfolding entries
+            list-end-asked = end-asked (room-wrote last-room last-wrote (omega arith) r 0 (omega (arith, last-next))) (k + 1) (omega (arith, last-next, inner-wrote .next))
+
+            module _ {records5 : List ℕ} (end : records5 ≡ placed records4 (14 * (k + 1)) (bytes16 r)) where
+              pair-done : Wrote (k + 1) pairCard kinds1 records1 kinds4 records5 r
+              pair-done =
+                  let low = row-room .kinds-fit in
+                  let long = row-room .records-fit in
+                  pair-written (omega (arith, row-room .kinds-size)) (omega arith) put-both (listConnective every) refl list-kind (omega arith) inner-wrote last-wrote end
+
+              pub list-end-asked-2 : (r < 65536) × (14 * k + 2 ≤ length records5)
+              unfolding entries
+              list-end-asked-2 = end-asked (room-wrote row-room pair-done (omega arith) r 0 (omega (arith, pair-done .next))) k (omega (arith, pair-done .next))
+
+              pub list-wrote : {records6 : List ℕ} → records6 ≡ placed records5 (14 * k) (bytes16 r) → Wrote k card kinds records kinds4 records6 r
+              list-wrote e =
+                  let low = list-room .kinds-fit in
+                  let long = list-room .records-fit in
+                  rw list-card
+                  (row-written (omega (arith, h .room .kinds-size)) (omega arith) put-row (quantifierOf every) (is-row ∙ row-kind-is every (getD p (8 * s + 2) 0)) refl pair-done e)

@@ -1,0 +1,107 @@
+-- What the functions of src/ promise one another and their callers, in the terms of the code: parts in an array, kinds and records in bytes. The
+-- contract of a public call cites nothing of this file.
+use mathlib.Core.Path.{_≡_}
+use mathlib.Core.Bool.{Bool, true, false, cond}
+use mathlib.Core.List.{List, _∷_}
+use Prim.Native.Nat.{ℕ, _+_, _*_, _<_, _≤_}
+use lib.ListN.{length, getD}
+use Rattle.tables.specs.Lists.{placed}
+use Rattle.tables.specs.Bytes.{bytes32}
+use Rattle.tables.specs.Values.{Value, Comparison, comparisonNumber}
+use Rattle.card.specs.Card.{Interpretation, AsNo, AsYes, Leaf, CompareLeaf, BlankLeaf, NotBlankLeaf, Card, LeafEntry, entries}
+use Rattle.card.specs.Layout.{valueBytes, kindBytes, recordsFrom}
+use Rattle.rule.specs.Condition.{Rule, parts, fromsDeep}
+use Rattle.rule.specs.Names.{Fits}
+use Rattle.translation.specs.Translation.{otherLeaf, negated, cardOf}
+use Rattle.reader.specs.Code.{SmallPart, SmallParts}
+use Rattle.reader.specs.Parts.{Stands}
+use Rattle.records.specs.Code.{byteNumber}
+
+-- ---- the card of a rule: false- or true-interpreted, and negated or not
+
+abbrev pub interpretationOf : Bool → Interpretation
+interpretationOf false = AsNo
+interpretationOf true = AsYes
+
+abbrev pub leafAs : Bool → Leaf → Leaf
+leafAs false x = x
+leafAs true x = otherLeaf x
+
+unfoldable pub cardAs : Bool → Bool → Rule → Card
+cardAs false unknown r = cardOf (interpretationOf unknown) r
+cardAs true unknown r = negated (cardOf (interpretationOf unknown) r)
+
+-- ---- what writing asks, and gives: for whatever rule the numbers stand for
+
+-- there is room for so many entries from number k on
+pub record Room (kinds records : List ℕ) (k n : ℕ) : Type 0 where
+  pub kinds-size : length kinds ≡ 192
+  pub kinds-fit : k + n ≤ 192
+  pub records-fit : 14 * (k + n) ≤ length records
+
+-- the entries of a card are written
+pub record Wrote (k : ℕ) (c : Card) (kinds records kinds′ records′ : List ℕ) (r : ℕ) : Type 0 where
+  pub next : r ≡ k + entries c
+  pub kinds-are : kinds′ ≡ placed kinds k (kindBytes c)
+  pub records-are : records′ ≡ placed records (14 * k) (recordsFrom k c)
+
+-- the value of two numbers of a part, from number i on, as a card has it
+abbrev pub valueBytesIn : List ℕ → ℕ → List ℕ
+valueBytesIn p i = getD p i 0 ∷ bytes32 (byteNumber (getD p i 0) (getD p (i + 1) 0))
+
+-- part s has a comparison and two values: it is a comparison, or a list
+pub record CompareReady (p : List ℕ) (s : ℕ) (kinds records : List ℕ) (k : ℕ) : Type 0 where
+  pub size : length p ≡ 512
+  pub few : s < 64
+  pub small : SmallPart p s
+  pub room : Room kinds records k 1
+  pub comparison : Comparison
+  pub left : Value
+  pub right : Value
+  pub comparison-is : getD p (8 * s + 1) 0 ≡ comparisonNumber comparison
+  pub left-is : valueBytesIn p (8 * s + 4) ≡ valueBytes left
+  pub right-is : valueBytesIn p (8 * s + 6) ≡ valueBytes right
+
+abbrev pub ComparedTo : (p : List ℕ) (s : ℕ) (negate unknown : Bool) (kinds records kinds′ records′ : List ℕ) (k : ℕ) → ℕ → Type 0
+ComparedTo p s negate unknown kinds records kinds′ records′ k r =
+    (h : CompareReady p s kinds records k)
+    → Wrote k (LeafEntry (leafAs negate (CompareLeaf (interpretationOf unknown) (h .comparison) (h .left) (h .right)))) kinds records kinds′ records′ r
+
+-- blank, or not blank
+abbrev pub nullLeaf : Bool → Value → Leaf
+nullLeaf true l = BlankLeaf l
+nullLeaf false l = NotBlankLeaf l
+
+-- part s is IS NULL, or IS NOT NULL
+pub record NullReady (p : List ℕ) (s : ℕ) (kinds records : List ℕ) (k : ℕ) : Type 0 where
+  pub size : length p ≡ 512
+  pub few : s < 64
+  pub small : SmallPart p s
+  pub room : Room kinds records k 1
+  pub blank : Bool
+  pub left : Value
+  pub kind-is : getD p (8 * s) 0 ≡ cond blank 5 6
+  pub left-is : valueBytesIn p (8 * s + 4) ≡ valueBytes left
+
+abbrev pub NulledTo : (p : List ℕ) (s : ℕ) (negate : Bool) (kinds records kinds′ records′ : List ℕ) (k : ℕ) → ℕ → Type 0
+NulledTo p s negate kinds records kinds′ records′ k r =
+    (h : NullReady p s kinds records k) → Wrote k (LeafEntry (leafAs negate (nullLeaf (h .blank) (h .left)))) kinds records kinds′ records′ r
+
+-- the parts from number s on are those of a rule that fits its tables, and there is room for the entries of its card
+pub record Writable (p : List ℕ) (s : ℕ) (negate unknown : Bool) (kinds records : List ℕ) (k : ℕ) : Type 0 where
+  pub rule : Rule
+  pub size : length p ≡ 512
+  pub stands : Stands p s rule
+  pub count : ℕ
+  pub few : count ≤ 64
+  pub within : s + parts rule ≤ count
+  pub small : SmallParts p count
+  pub columns : List ℕ
+  pub levels : List ℕ
+  pub deep : length levels + fromsDeep rule ≤ 4
+  pub fits : Fits columns levels rule
+  pub room : Room kinds records k (entries (cardAs negate unknown rule))
+
+abbrev pub WroteTo : (p : List ℕ) (s : ℕ) (negate unknown : Bool) (kinds records kinds′ records′ : List ℕ) (k : ℕ) → ℕ → Type 0
+WroteTo p s negate unknown kinds records kinds′ records′ k r =
+    (h : Writable p s negate unknown kinds records k) → Wrote k (cardAs negate unknown (h .rule)) kinds records kinds′ records′ r

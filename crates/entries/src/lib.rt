@@ -1,0 +1,162 @@
+// The entries of a card, written from the parts of a rule.
+// A rule is false- or true-interpreted, and negated or not; both flags go down to its parts, so that the card has no negation.
+// Short names: p, the parts as numbers; s, the number of a part; k, the number of an entry; unknown, what unknown counts as: no (false-interpreted) or yes;
+// negate, whether the part is negated.
+ghost use mathlib.Core.Path.{_≡_};
+ghost use Prim.Native.Nat.{_*_, _≤_};
+ghost use lib.ListN.{getD};
+ghost use Rattle.entries.specs.Code.{CompareReady, ComparedTo, NullReady, NulledTo, Writable, WroteTo};
+use card::MOST_ENTRIES;
+use card::RECORD_SIZE;
+use names::PART_COMPARISON;
+use names::PART_END;
+use names::PART_FIELDS;
+use names::PART_LEFT_NUMBER;
+use names::PART_LEFT_TAG;
+use names::PART_NUMBERS;
+use names::PART_RIGHT_NUMBER;
+use names::PART_RIGHT_TAG;
+use names::PART_TABLE;
+use records::LeafNumbers;
+
+// The comparison of part s, a list's too, as entry k.
+fn write_comparison(
+    p: &[usize; PART_NUMBERS],
+    s: usize,
+    negate: bool,
+    unknown: bool,
+    kinds: &mut [u8; MOST_ENTRIES],
+    records: &mut [u8],
+    k: usize,
+) -> usize
+    requires { ⌜ CompareReady (now p) s (now kinds) (now records) k ⌝ }
+    ensures { λ r. ⌜ ComparedTo (now (p .entry)) s negate unknown (now (kinds .entry)) (now (records .entry)) (now (kinds .exit)) (now (records .exit)) k r ⌝ }
+{
+    let leaf = LeafNumbers {
+        kind: records::compare_kind(negate, unknown),
+        comparison: records::comparison_as(p[PART_FIELDS * s + PART_COMPARISON], negate),
+        left_tag: p[PART_FIELDS * s + PART_LEFT_TAG],
+        left_number: p[PART_FIELDS * s + PART_LEFT_NUMBER],
+        right_tag: p[PART_FIELDS * s + PART_RIGHT_TAG],
+        right_number: p[PART_FIELDS * s + PART_RIGHT_NUMBER],
+    };
+    records::put_leaf(kinds, records, k, leaf);
+    k + 1
+}
+
+// IS NULL or IS NOT NULL.
+fn write_null(
+    p: &[usize; PART_NUMBERS],
+    s: usize,
+    negate: bool,
+    kinds: &mut [u8; MOST_ENTRIES],
+    records: &mut [u8],
+    k: usize,
+) -> usize
+    requires { ⌜ NullReady (now p) s (now kinds) (now records) k ⌝ }
+    ensures { λ r. ⌜ NulledTo (now (p .entry)) s negate (now (kinds .entry)) (now (records .entry)) (now (kinds .exit)) (now (records .exit)) k r ⌝ }
+{
+    let leaf = LeafNumbers {
+        kind: records::null_kind(p[PART_FIELDS * s], negate),
+        comparison: 0,
+        left_tag: p[PART_FIELDS * s + PART_LEFT_TAG],
+        left_number: p[PART_FIELDS * s + PART_LEFT_NUMBER],
+        right_tag: 0,
+        right_number: 0,
+    };
+    records::put_leaf(kinds, records, k, leaf);
+    k + 1
+}
+
+// The entries of part s with its inner parts, from number k on; the number of the next entry.
+pub fn write_part(
+    p: &[usize; PART_NUMBERS],
+    s: usize,
+    negate: bool,
+    unknown: bool,
+    kinds: &mut [u8; MOST_ENTRIES],
+    records: &mut [u8],
+    k: usize,
+) -> usize
+    requires { ⌜ Writable (now p) s negate unknown (now kinds) (now records) k ⌝ }
+    ensures { λ r. ⌜ WroteTo (now (p .entry)) s negate unknown (now (kinds .entry)) (now (records .entry)) (now (kinds .exit)) (now (records .exit)) k r ⌝ }
+{
+    let kind = p[PART_FIELDS * s];
+    match kind {
+        1 | 2 => write_pair(p, s, negate, unknown, kinds, records, k),
+        // NOT has no entry: what is under it is negated, in the other interpretation.
+        3 => write_part(p, s + 1, !negate, !unknown, kinds, records, k),
+        4 => write_comparison(p, s, negate, unknown, kinds, records, k),
+        5 | 6 => write_null(p, s, negate, kinds, records, k),
+        7 => write_exists(p, s, negate, unknown, kinds, records, k),
+        _ => write_list(p, s, negate, unknown, kinds, records, k),
+    }
+}
+
+// AND and OR.
+fn write_pair(
+    p: &[usize; PART_NUMBERS],
+    s: usize,
+    negate: bool,
+    unknown: bool,
+    kinds: &mut [u8; MOST_ENTRIES],
+    records: &mut [u8],
+    k: usize,
+) -> usize
+    requires { ⌜ Writable (now p) s negate unknown (now kinds) (now records) k ⌝ ∗ ⌜ (1 ≤ getD (now p) (8 * s) 0) × (getD (now p) (8 * s) 0 ≤ 2) ⌝ }
+    ensures { λ r. ⌜ WroteTo (now (p .entry)) s negate unknown (now (kinds .entry)) (now (records .entry)) (now (kinds .exit)) (now (records .exit)) k r ⌝ }
+{
+    let kind = records::pair_kind(p[PART_FIELDS * s], negate);
+    let next = p[PART_FIELDS * (s + 1) + PART_END];
+    records::put_plain(kinds, records, k, kind, 0);
+    let middle = write_part(p, s + 1, negate, unknown, kinds, records, k + 1);
+    let end = write_part(p, next, negate, unknown, kinds, records, middle);
+    records::put16(records, RECORD_SIZE * k, end);
+    end
+}
+
+// EXISTS: some row of its WHERE, which is false-interpreted; negated, every row of the negated one.
+fn write_exists(
+    p: &[usize; PART_NUMBERS],
+    s: usize,
+    negate: bool,
+    unknown: bool,
+    kinds: &mut [u8; MOST_ENTRIES],
+    records: &mut [u8],
+    k: usize,
+) -> usize
+    requires { ⌜ Writable (now p) s negate unknown (now kinds) (now records) k ⌝ ∗ ⌜ getD (now p) (8 * s) 0 ≡ 7 ⌝ }
+    ensures { λ r. ⌜ WroteTo (now (p .entry)) s negate unknown (now (kinds .entry)) (now (records .entry)) (now (kinds .exit)) (now (records .exit)) k r ⌝ }
+{
+    let kind = records::row_kind(negate);
+    let table = p[PART_FIELDS * s + PART_TABLE];
+    records::put_plain(kinds, records, k, kind, table);
+    let end = write_part(p, s + 1, negate, false, kinds, records, k + 1);
+    records::put16(records, RECORD_SIZE * k, end);
+    end
+}
+
+// SOME: some row, and, WHERE, comparison. ALL: every row, or, negated WHERE, comparison. Negating swaps the two; the WHERE is false-interpreted
+// before any negating.
+fn write_list(
+    p: &[usize; PART_NUMBERS],
+    s: usize,
+    negate: bool,
+    unknown: bool,
+    kinds: &mut [u8; MOST_ENTRIES],
+    records: &mut [u8],
+    k: usize,
+) -> usize
+    requires { ⌜ Writable (now p) s negate unknown (now kinds) (now records) k ⌝ ∗ ⌜ 8 ≤ getD (now p) (8 * s) 0 ⌝ }
+    ensures { λ r. ⌜ WroteTo (now (p .entry)) s negate unknown (now (kinds .entry)) (now (records .entry)) (now (kinds .exit)) (now (records .exit)) k r ⌝ }
+{
+    let every = (p[PART_FIELDS * s] == 9) != negate;
+    let table = p[PART_FIELDS * s + PART_TABLE];
+    records::put_plain(kinds, records, k, records::row_kind(every), table);
+    records::put_plain(kinds, records, k + 1, records::pair_kind(1, every), 0);
+    let last = write_part(p, s + 1, every, false, kinds, records, k + 2);
+    let end = write_comparison(p, s, negate, unknown, kinds, records, last);
+    records::put16(records, RECORD_SIZE * (k + 1), end);
+    records::put16(records, RECORD_SIZE * k, end);
+    end
+}

@@ -1,0 +1,1555 @@
+-- The functions that evaluate a part with its inner parts meet their contracts. Every inner part has a larger number, so 64 less the number falls.
+use mathlib.Core.Path.{refl}
+use Prim.Native.Nat.{ℕ, _+_, _-_, _*_, _<_}
+use native.Mathlib.Omega.{arith}
+use borrow.Author.Needs.{needs}
+use Rattle.tables.specs.Values.{And, Or, Some, All}
+use Rattle.evaluator.proofs.Truths.{none-is, none-high}
+use Rattle.evaluator.proofs.Evaluating.{RowsPassed, passed-none, passed-more, start, test-kinds, test-ready, test-evaluated, not-inner, not-room, not-evaluated, next-bounds, left-inner, right-inner, join-stops, join-evaluated, range-bounds, row-room, exists-ranging, exists-inner, exists-true, exists-lost, exists-false, listed-ranging, outer-ready, row-ready, row-valued, listed-decides, listed-ends, row-start, selected-ready, row-lost, row-compared}
+use borrow.Fn.Kinds.{In}
+use borrow.Fn.PlainCycle.{Measures, is, falls, and}
+use Rattle.evaluator.proofs.evaluate_and.Reads as evaluate-and
+use Rattle.evaluator.proofs.evaluate_and.Kinds as evaluate-and-kinds
+use Rattle.evaluator.proofs.+evaluate_and+evaluate_exists+evaluate_list+evaluate_or+evaluate_part+evaluate_row.Lts-evaluate_and as evaluate-and-lts
+use Rattle.evaluator.proofs.evaluate_exists.Reads as evaluate-exists
+use Rattle.evaluator.proofs.evaluate_exists.Kinds as evaluate-exists-kinds
+use Rattle.evaluator.proofs.+evaluate_and+evaluate_exists+evaluate_list+evaluate_or+evaluate_part+evaluate_row.Lts-evaluate_exists as evaluate-exists-lts
+use Rattle.evaluator.proofs.evaluate_list.Reads as evaluate-list
+use Rattle.evaluator.proofs.evaluate_list.Kinds as evaluate-list-kinds
+use Rattle.evaluator.proofs.+evaluate_and+evaluate_exists+evaluate_list+evaluate_or+evaluate_part+evaluate_row.Lts-evaluate_list as evaluate-list-lts
+use Rattle.evaluator.proofs.evaluate_or.Reads as evaluate-or
+use Rattle.evaluator.proofs.evaluate_or.Kinds as evaluate-or-kinds
+use Rattle.evaluator.proofs.+evaluate_and+evaluate_exists+evaluate_list+evaluate_or+evaluate_part+evaluate_row.Lts-evaluate_or as evaluate-or-lts
+use Rattle.evaluator.proofs.evaluate_part.Reads as evaluate-part
+use Rattle.evaluator.proofs.evaluate_part.Kinds as evaluate-part-kinds
+use Rattle.evaluator.proofs.+evaluate_and+evaluate_exists+evaluate_list+evaluate_or+evaluate_part+evaluate_row.Lts-evaluate_part as evaluate-part-lts
+use Rattle.evaluator.proofs.evaluate_row.Reads as evaluate-row
+use Rattle.evaluator.proofs.evaluate_row.Kinds as evaluate-row-kinds
+use Rattle.evaluator.proofs.+evaluate_and+evaluate_exists+evaluate_list+evaluate_or+evaluate_part+evaluate_row.Lts-evaluate_row as evaluate-row-lts
+use Rattle.evaluator.proofs.after.Reads as after-reads
+use Rattle.evaluator.proofs.compare.Reads as compare-reads
+use Rattle.evaluator.proofs.greater.Reads as greater-reads
+use Rattle.evaluator.proofs.evaluate_test.Reads as evaluate-test-reads
+use Rattle.evaluator.proofs.lesser.Reads as lesser-reads
+use Rattle.values.proofs.look.Reads as look-reads
+use Rattle.evaluator.proofs.+evaluate_and+evaluate_exists+evaluate_list+evaluate_or+evaluate_part+evaluate_row.{
+  statement,
+}
+use Rattle.evaluator.proofs.+evaluate_and+evaluate_exists+evaluate_list+evaluate_or+evaluate_part+evaluate_row.Tie.{
+  close,
+}
+
+abbrev μ-evaluate-and : Measures 4 evaluate-and-kinds.ps ℕ
+μ-evaluate-and κs a = 3 * (64 - a .1 .1 .1 .0) + 1
+
+abbrev μ-evaluate-exists : Measures 4 evaluate-exists-kinds.ps ℕ
+μ-evaluate-exists κs a = 3 * (64 - a .1 .1 .1 .0) + 1
+
+abbrev μ-evaluate-list : Measures 4 evaluate-list-kinds.ps ℕ
+μ-evaluate-list κs a = 3 * (64 - a .1 .1 .1 .0) + 1
+
+abbrev μ-evaluate-or : Measures 4 evaluate-or-kinds.ps ℕ
+μ-evaluate-or κs a = 3 * (64 - a .1 .1 .1 .0) + 1
+
+abbrev μ-evaluate-part : Measures 4 evaluate-part-kinds.ps ℕ
+μ-evaluate-part κs a = 3 * (64 - a .1 .1 .1 .0) + 2
+
+abbrev μ-evaluate-row : Measures 4 evaluate-row-kinds.ps ℕ
+μ-evaluate-row κs a = 3 * (64 - a .1 .1 .1 .0)
+
+abbrev evaluate-and-at : ℕ → In 4 evaluate-and-kinds.ps
+evaluate-and-at t = and 4 evaluate-and-kinds.ps (is 4 evaluate-and-kinds.ps μ-evaluate-and t) evaluate-and.Pre
+
+abbrev evaluate-and-below : ℕ → In 4 evaluate-and-kinds.ps
+evaluate-and-below t =
+    and 4 evaluate-and-kinds.ps (falls 4 evaluate-and-kinds.ps _<_ μ-evaluate-and t) evaluate-and.Pre
+
+abbrev evaluate-exists-at : ℕ → In 4 evaluate-exists-kinds.ps
+evaluate-exists-at t =
+    and 4 evaluate-exists-kinds.ps (is 4 evaluate-exists-kinds.ps μ-evaluate-exists t) evaluate-exists.Pre
+
+abbrev evaluate-exists-below : ℕ → In 4 evaluate-exists-kinds.ps
+evaluate-exists-below t =
+    and
+    4
+    evaluate-exists-kinds.ps
+    (falls 4 evaluate-exists-kinds.ps _<_ μ-evaluate-exists t)
+    evaluate-exists.Pre
+
+abbrev evaluate-list-at : ℕ → In 4 evaluate-list-kinds.ps
+evaluate-list-at t =
+    and 4 evaluate-list-kinds.ps (is 4 evaluate-list-kinds.ps μ-evaluate-list t) evaluate-list.Pre
+
+abbrev evaluate-list-below : ℕ → In 4 evaluate-list-kinds.ps
+evaluate-list-below t =
+    and 4 evaluate-list-kinds.ps (falls 4 evaluate-list-kinds.ps _<_ μ-evaluate-list t) evaluate-list.Pre
+
+abbrev evaluate-or-at : ℕ → In 4 evaluate-or-kinds.ps
+evaluate-or-at t = and 4 evaluate-or-kinds.ps (is 4 evaluate-or-kinds.ps μ-evaluate-or t) evaluate-or.Pre
+
+abbrev evaluate-or-below : ℕ → In 4 evaluate-or-kinds.ps
+evaluate-or-below t =
+    and 4 evaluate-or-kinds.ps (falls 4 evaluate-or-kinds.ps _<_ μ-evaluate-or t) evaluate-or.Pre
+
+abbrev evaluate-part-at : ℕ → In 4 evaluate-part-kinds.ps
+evaluate-part-at t =
+    and 4 evaluate-part-kinds.ps (is 4 evaluate-part-kinds.ps μ-evaluate-part t) evaluate-part.Pre
+
+abbrev evaluate-part-below : ℕ → In 4 evaluate-part-kinds.ps
+evaluate-part-below t =
+    and 4 evaluate-part-kinds.ps (falls 4 evaluate-part-kinds.ps _<_ μ-evaluate-part t) evaluate-part.Pre
+
+abbrev evaluate-row-at : ℕ → In 4 evaluate-row-kinds.ps
+evaluate-row-at t = and 4 evaluate-row-kinds.ps (is 4 evaluate-row-kinds.ps μ-evaluate-row t) evaluate-row.Pre
+
+abbrev evaluate-row-below : ℕ → In 4 evaluate-row-kinds.ps
+evaluate-row-below t =
+    and 4 evaluate-row-kinds.ps (falls 4 evaluate-row-kinds.ps _<_ μ-evaluate-row t) evaluate-row.Pre
+
+evaluate-and-add-evaluate-part : (t : ℕ) → evaluate-and-lts.Need-add-evaluate-part (
+  evaluate-part-below t,
+  evaluate-part.Post,
+  lesser-reads.Asked,
+  lesser-reads.Learnt,
+) (evaluate-and-at t) evaluate-and.Post
+evaluate-and-add-evaluate-part t c = let z = start (c .before .pre .1 .0) in omega arith
+
+evaluate-and-evaluate-part-requires : (t : ℕ) → evaluate-and-lts.Need-evaluate-part-requires (
+  evaluate-part-below t,
+  evaluate-part.Post,
+  lesser-reads.Asked,
+  lesser-reads.Learnt,
+) (evaluate-and-at t) evaluate-and.Post
+evaluate-and-evaluate-part-requires t c κs =
+    let m = c .before .pre .0 in
+    let z = start (c .before .pre .1 .0) in
+    (omega arith, left-inner (c .before .pre .1 .0) And (c .before .pre .1 .1))
+
+evaluate-and-returns : (t : ℕ) → evaluate-and-lts.Need-returns (
+  evaluate-part-below t,
+  evaluate-part.Post,
+  lesser-reads.Asked,
+  lesser-reads.Learnt,
+) (evaluate-and-at t) evaluate-and.Post
+evaluate-and-returns t c = λ h. join-stops h And (c .before .before .before .pre .1 .1) (c .before .evaluate-part .result) (c .before .evaluate-part .ensures) (c .if1 .taken)
+
+evaluate-and-add-next : (t : ℕ) → evaluate-and-lts.Need-add-next (
+  evaluate-part-below t,
+  evaluate-part.Post,
+  lesser-reads.Asked,
+  lesser-reads.Learnt,
+) (evaluate-and-at t) evaluate-and.Post
+evaluate-and-add-next t c = let z = next-bounds (c .before .before .before .pre .1 .0) And (c .before .before .before .pre .1 .1) in omega arith
+
+evaluate-and-mul-next : (t : ℕ) → evaluate-and-lts.Need-mul-next (
+  evaluate-part-below t,
+  evaluate-part.Post,
+  lesser-reads.Asked,
+  lesser-reads.Learnt,
+) (evaluate-and-at t) evaluate-and.Post
+evaluate-and-mul-next t c = let z = next-bounds (c .before .before .before .pre .1 .0) And (c .before .before .before .pre .1 .1) in omega arith
+
+evaluate-and-add-next-2 : (t : ℕ) → evaluate-and-lts.Need-add-next-2 (
+  evaluate-part-below t,
+  evaluate-part.Post,
+  lesser-reads.Asked,
+  lesser-reads.Learnt,
+) (evaluate-and-at t) evaluate-and.Post
+evaluate-and-add-next-2 t c = let z = next-bounds (c .before .before .before .pre .1 .0) And (c .before .before .before .pre .1 .1) in omega arith
+
+evaluate-and-mul-next-2 : (t : ℕ) → evaluate-and-lts.Need-mul-next-2 (
+  evaluate-part-below t,
+  evaluate-part.Post,
+  lesser-reads.Asked,
+  lesser-reads.Learnt,
+) (evaluate-and-at t) evaluate-and.Post
+evaluate-and-mul-next-2 t c = let z = next-bounds (c .before .before .before .pre .1 .0) And (c .before .before .before .pre .1 .1) in omega arith
+
+evaluate-and-element-copy-out-next : (t : ℕ) → evaluate-and-lts.Need-element-copy-out-next (
+  evaluate-part-below t,
+  evaluate-part.Post,
+  lesser-reads.Asked,
+  lesser-reads.Learnt,
+) (evaluate-and-at t) evaluate-and.Post
+evaluate-and-element-copy-out-next t c = let z = next-bounds (c .before .before .before .pre .1 .0) And (c .before .before .before .pre .1 .1) in omega arith
+
+evaluate-and-evaluate-part-requires-2 : (t : ℕ) → evaluate-and-lts.Need-evaluate-part-requires-2 (
+  evaluate-part-below t,
+  evaluate-part.Post,
+  lesser-reads.Asked,
+  lesser-reads.Learnt,
+) (evaluate-and-at t) evaluate-and.Post
+evaluate-and-evaluate-part-requires-2 t c κs =
+    let m = c .before .before .before .before .pre .0 in
+    let z = next-bounds (c .before .before .before .before .pre .1 .0) And (c .before .before .before .before .pre .1 .1) in
+    (omega arith, right-inner (c .before .before .before .before .pre .1 .0) And (c .before .before .before .before .pre .1 .1))
+
+evaluate-and-lesser-requires : (t : ℕ) → evaluate-and-lts.Need-lesser-requires (
+  evaluate-part-below t,
+  evaluate-part.Post,
+  lesser-reads.Asked,
+  lesser-reads.Learnt,
+) (evaluate-and-at t) evaluate-and.Post
+evaluate-and-lesser-requires t c κs = search needs
+
+evaluate-and-returns-2 : (t : ℕ) → evaluate-and-lts.Need-returns-2 (
+  evaluate-part-below t,
+  evaluate-part.Post,
+  lesser-reads.Asked,
+  lesser-reads.Learnt,
+) (evaluate-and-at t) evaluate-and.Post
+evaluate-and-returns-2 t c = λ h.
+    join-evaluated h And (c .before .before .before .before .before .before .pre .1 .1) (c .before .before .before .before .evaluate-part .result) (c .before .before .before .before .evaluate-part .ensures) (c .before .evaluate-part2 .result) (c .before .evaluate-part2 .ensures) _ (c .lesser .ensures)
+
+abbrev evaluate-exists-Inv-loop : evaluate-exists-lts.InvT-loop
+evaluate-exists-Inv-loop p g file s w depth t first₀ columns rows v₀ r₀ first v r = RowsPassed p g file w s depth 0 first₀ columns rows r first 0 v
+
+abbrev evaluate-exists-μ-loop : evaluate-exists-lts.MeasureT-loop
+evaluate-exists-μ-loop p g file s w depth t first₀ columns rows v₀ r₀ first v r = rows - r
+
+evaluate-exists-mul-t :
+    (t : ℕ) →
+    evaluate-exists-lts.Need-mul-t
+    (evaluate-part-below t, evaluate-part.Post)
+    (evaluate-exists-at t)
+    evaluate-exists.Post
+    evaluate-exists-Inv-loop
+    evaluate-exists-μ-loop
+evaluate-exists-mul-t t c = let z = start (c .before .pre .1 .0) in omega arith
+
+evaluate-exists-add-t :
+    (t : ℕ) →
+    evaluate-exists-lts.Need-add-t
+    (evaluate-part-below t, evaluate-part.Post)
+    (evaluate-exists-at t)
+    evaluate-exists.Post
+    evaluate-exists-Inv-loop
+    evaluate-exists-μ-loop
+evaluate-exists-add-t t c = let z = start (c .before .pre .1 .0) in omega arith
+
+evaluate-exists-mul-t-2 : (t : ℕ) → evaluate-exists-lts.Need-mul-t-2 (
+  evaluate-part-below t,
+  evaluate-part.Post,
+) (evaluate-exists-at t) evaluate-exists.Post evaluate-exists-Inv-loop evaluate-exists-μ-loop
+evaluate-exists-mul-t-2 t c = let z = start (c .before .pre .1 .0) in omega arith
+
+evaluate-exists-element-copy-out-t : (t : ℕ) → evaluate-exists-lts.Need-element-copy-out-t (
+  evaluate-part-below t,
+  evaluate-part.Post,
+) (evaluate-exists-at t) evaluate-exists.Post evaluate-exists-Inv-loop evaluate-exists-μ-loop
+evaluate-exists-element-copy-out-t t c = let z = start (c .before .pre .1 .0) in omega arith
+
+evaluate-exists-mul-first : (t : ℕ) → evaluate-exists-lts.Need-mul-first (
+  evaluate-part-below t,
+  evaluate-part.Post,
+) (evaluate-exists-at t) evaluate-exists.Post evaluate-exists-Inv-loop evaluate-exists-μ-loop
+evaluate-exists-mul-first t c = let z = range-bounds (c .before .before .pre .1 .0) (exists-ranging (c .before .before .pre .1 .0) (c .before .before .pre .1 .1)) in omega arith
+
+evaluate-exists-mul-first-2 : (t : ℕ) → evaluate-exists-lts.Need-mul-first-2 (
+  evaluate-part-below t,
+  evaluate-part.Post,
+) (evaluate-exists-at t) evaluate-exists.Post evaluate-exists-Inv-loop evaluate-exists-μ-loop
+evaluate-exists-mul-first-2 t c = let z = range-bounds (c .before .before .pre .1 .0) (exists-ranging (c .before .before .pre .1 .0) (c .before .before .pre .1 .1)) in omega arith
+
+evaluate-exists-element-copy-out-first : (t : ℕ) → evaluate-exists-lts.Need-element-copy-out-first (
+  evaluate-part-below t,
+  evaluate-part.Post,
+) (evaluate-exists-at t) evaluate-exists.Post evaluate-exists-Inv-loop evaluate-exists-μ-loop
+evaluate-exists-element-copy-out-first t c = let z = range-bounds (c .before .before .pre .1 .0) (exists-ranging (c .before .before .pre .1 .0) (c .before .before .pre .1 .1)) in omega arith
+
+evaluate-exists-mul-columns : (t : ℕ) → evaluate-exists-lts.Need-mul-columns (
+  evaluate-part-below t,
+  evaluate-part.Post,
+) (evaluate-exists-at t) evaluate-exists.Post evaluate-exists-Inv-loop evaluate-exists-μ-loop
+evaluate-exists-mul-columns t c = let z = range-bounds (c .before .before .before .pre .1 .0) (exists-ranging (c .before .before .before .pre .1 .0) (c .before .before .before .pre .1 .1)) in omega arith
+
+evaluate-exists-add-columns : (t : ℕ) → evaluate-exists-lts.Need-add-columns (
+  evaluate-part-below t,
+  evaluate-part.Post,
+) (evaluate-exists-at t) evaluate-exists.Post evaluate-exists-Inv-loop evaluate-exists-μ-loop
+evaluate-exists-add-columns t c = let z = range-bounds (c .before .before .before .pre .1 .0) (exists-ranging (c .before .before .before .pre .1 .0) (c .before .before .before .pre .1 .1)) in omega arith
+
+evaluate-exists-mul-columns-2 : (t : ℕ) → evaluate-exists-lts.Need-mul-columns-2 (
+  evaluate-part-below t,
+  evaluate-part.Post,
+) (evaluate-exists-at t) evaluate-exists.Post evaluate-exists-Inv-loop evaluate-exists-μ-loop
+evaluate-exists-mul-columns-2 t c = let z = range-bounds (c .before .before .before .pre .1 .0) (exists-ranging (c .before .before .before .pre .1 .0) (c .before .before .before .pre .1 .1)) in omega arith
+
+evaluate-exists-element-copy-out-columns : (t : ℕ) → evaluate-exists-lts.Need-element-copy-out-columns (
+  evaluate-part-below t,
+  evaluate-part.Post,
+) (evaluate-exists-at t) evaluate-exists.Post evaluate-exists-Inv-loop evaluate-exists-μ-loop
+evaluate-exists-element-copy-out-columns t c = let z = range-bounds (c .before .before .before .pre .1 .0) (exists-ranging (c .before .before .before .pre .1 .0) (c .before .before .before .pre .1 .1)) in omega arith
+
+evaluate-exists-mul-rows : (t : ℕ) → evaluate-exists-lts.Need-mul-rows (
+  evaluate-part-below t,
+  evaluate-part.Post,
+) (evaluate-exists-at t) evaluate-exists.Post evaluate-exists-Inv-loop evaluate-exists-μ-loop
+evaluate-exists-mul-rows t c = let z = range-bounds (c .before .before .before .before .pre .1 .0) (exists-ranging (c .before .before .before .before .pre .1 .0) (c .before .before .before .before .pre .1 .1)) in omega arith
+
+evaluate-exists-add-rows : (t : ℕ) → evaluate-exists-lts.Need-add-rows (
+  evaluate-part-below t,
+  evaluate-part.Post,
+) (evaluate-exists-at t) evaluate-exists.Post evaluate-exists-Inv-loop evaluate-exists-μ-loop
+evaluate-exists-add-rows t c = let z = range-bounds (c .before .before .before .before .pre .1 .0) (exists-ranging (c .before .before .before .before .pre .1 .0) (c .before .before .before .before .pre .1 .1)) in omega arith
+
+evaluate-exists-mul-rows-2 : (t : ℕ) → evaluate-exists-lts.Need-mul-rows-2 (
+  evaluate-part-below t,
+  evaluate-part.Post,
+) (evaluate-exists-at t) evaluate-exists.Post evaluate-exists-Inv-loop evaluate-exists-μ-loop
+evaluate-exists-mul-rows-2 t c = let z = range-bounds (c .before .before .before .before .pre .1 .0) (exists-ranging (c .before .before .before .before .pre .1 .0) (c .before .before .before .before .pre .1 .1)) in omega arith
+
+evaluate-exists-element-copy-out-rows : (t : ℕ) → evaluate-exists-lts.Need-element-copy-out-rows (
+  evaluate-part-below t,
+  evaluate-part.Post,
+) (evaluate-exists-at t) evaluate-exists.Post evaluate-exists-Inv-loop evaluate-exists-μ-loop
+evaluate-exists-element-copy-out-rows t c = let z = range-bounds (c .before .before .before .before .pre .1 .0) (exists-ranging (c .before .before .before .before .pre .1 .0) (c .before .before .before .before .pre .1 .1)) in omega arith
+
+evaluate-exists-loop-holds : (t : ℕ) → evaluate-exists-lts.Need-loop-holds (
+  evaluate-part-below t,
+  evaluate-part.Post,
+) (evaluate-exists-at t) evaluate-exists.Post evaluate-exists-Inv-loop evaluate-exists-μ-loop
+evaluate-exists-loop-holds t c = passed-none _ _ _ _ _ _ 0 _ _ _ refl (c .before .before .before .before .before .before .pre .1 .0 .readable .standing .size)
+
+evaluate-exists-mul-v :
+    (t : ℕ) →
+    evaluate-exists-lts.Need-mul-v
+    (evaluate-part-below t, evaluate-part.Post)
+    (evaluate-exists-at t)
+    evaluate-exists.Post
+    evaluate-exists-Inv-loop
+    evaluate-exists-μ-loop
+evaluate-exists-mul-v t c = let z = range-bounds (c .before .before .before .before .before .before .before .before .pre .1 .0) (exists-ranging (c .before .before .before .before .before .before .before .before .pre .1 .0) (c .before .before .before .before .before .before .before .before .pre .1 .1)) in omega arith
+
+evaluate-exists-array-write-v : (t : ℕ) → evaluate-exists-lts.Need-array-write-v (
+  evaluate-part-below t,
+  evaluate-part.Post,
+) (evaluate-exists-at t) evaluate-exists.Post evaluate-exists-Inv-loop evaluate-exists-μ-loop
+evaluate-exists-array-write-v t c = let z = range-bounds (c .before .before .before .before .before .before .before .before .pre .1 .0) (exists-ranging (c .before .before .before .before .before .before .before .before .pre .1 .0) (c .before .before .before .before .before .before .before .before .pre .1 .1)) in omega arith
+
+evaluate-exists-add-evaluate-part : (t : ℕ) → evaluate-exists-lts.Need-add-evaluate-part (
+  evaluate-part-below t,
+  evaluate-part.Post,
+) (evaluate-exists-at t) evaluate-exists.Post evaluate-exists-Inv-loop evaluate-exists-μ-loop
+evaluate-exists-add-evaluate-part t c = let z = range-bounds (c .before .before .before .before .before .before .before .before .pre .1 .0) (exists-ranging (c .before .before .before .before .before .before .before .before .pre .1 .0) (c .before .before .before .before .before .before .before .before .pre .1 .1)) in omega arith
+
+evaluate-exists-add-evaluate-part-2 : (t : ℕ) → evaluate-exists-lts.Need-add-evaluate-part-2 (
+  evaluate-part-below t,
+  evaluate-part.Post,
+) (evaluate-exists-at t) evaluate-exists.Post evaluate-exists-Inv-loop evaluate-exists-μ-loop
+evaluate-exists-add-evaluate-part-2 t c = let z = range-bounds (c .before .before .before .before .before .before .before .before .before .pre .1 .0) (exists-ranging (c .before .before .before .before .before .before .before .before .before .pre .1 .0) (c .before .before .before .before .before .before .before .before .before .pre .1 .1)) in omega arith
+
+evaluate-exists-evaluate-part-requires : (t : ℕ) → evaluate-exists-lts.Need-evaluate-part-requires (
+  evaluate-part-below t,
+  evaluate-part.Post,
+) (evaluate-exists-at t) evaluate-exists.Post evaluate-exists-Inv-loop evaluate-exists-μ-loop
+evaluate-exists-evaluate-part-requires t c κs =
+    let m = c .before .before .before .before .before .before .before .before .before .pre .0 in
+    let z = start (c .before .before .before .before .before .before .before .before .before .pre .1 .0) in
+    (omega arith, exists-inner (c .before .before .before .before .before .before .before .before .before .pre .1 .0) (c .before .before .before .before .before .before .before .before .before .pre .1 .1) (c .before .loop-test .taken) (c .before .before .loop .inv))
+
+evaluate-exists-returns : (t : ℕ) → evaluate-exists-lts.Need-returns (
+  evaluate-part-below t,
+  evaluate-part.Post,
+) (evaluate-exists-at t) evaluate-exists.Post evaluate-exists-Inv-loop evaluate-exists-μ-loop
+evaluate-exists-returns t c = λ h.
+    exists-true h (c .before .before .before .before .before .before .before .before .before .before .before .pre .1 .1) (c .before .before .before .loop-test .taken) (c .before .before .before .before .loop .inv) (c .before .evaluate-part .result) (c .before .evaluate-part .ensures) (c .if1 .taken)
+
+evaluate-exists-add-first : (t : ℕ) → evaluate-exists-lts.Need-add-first (
+  evaluate-part-below t,
+  evaluate-part.Post,
+) (evaluate-exists-at t) evaluate-exists.Post evaluate-exists-Inv-loop evaluate-exists-μ-loop
+evaluate-exists-add-first t c =
+    let z = row-room (c .before .before .before .before .before .before .before .before .before .before .before .pre .1 .0) (exists-ranging (c .before .before .before .before .before .before .before .before .before .before .before .pre .1 .0) (c .before .before .before .before .before .before .before .before .before .before .before .pre .1 .1)) (c .before .before .before .loop-test .taken) (c .before .before .before .before .loop .inv) in
+    omega arith
+
+evaluate-exists-add-r :
+    (t : ℕ) →
+    evaluate-exists-lts.Need-add-r
+    (evaluate-part-below t, evaluate-part.Post)
+    (evaluate-exists-at t)
+    evaluate-exists.Post
+    evaluate-exists-Inv-loop
+    evaluate-exists-μ-loop
+evaluate-exists-add-r t c = let z = range-bounds (c .before .before .before .before .before .before .before .before .before .before .before .pre .1 .0) (exists-ranging (c .before .before .before .before .before .before .before .before .before .before .before .pre .1 .0) (c .before .before .before .before .before .before .before .before .before .before .before .pre .1 .1)) in omega arith
+
+evaluate-exists-loop-less : (t : ℕ) → evaluate-exists-lts.Need-loop-less (
+  evaluate-part-below t,
+  evaluate-part.Post,
+) (evaluate-exists-at t) evaluate-exists.Post evaluate-exists-Inv-loop evaluate-exists-μ-loop
+evaluate-exists-loop-less t c = omega arith
+
+evaluate-exists-loop-again : (t : ℕ) → evaluate-exists-lts.Need-loop-again (
+  evaluate-part-below t,
+  evaluate-part.Post,
+) (evaluate-exists-at t) evaluate-exists.Post evaluate-exists-Inv-loop evaluate-exists-μ-loop
+evaluate-exists-loop-again t c =
+    passed-more _ _ _ _ _ _ 0 _ _ _ refl (c .before .before .before .before .loop .inv) (c .before .before .before .loop-test .taken) 0 (λ e. omega arith) (λ h.
+    exists-lost h (c .before .before .before .before .before .before .before .before .before .before .before .pre .1 .1) (c .before .before .before .loop-test .taken) (c .before .before .before .before .loop .inv) (c .before .evaluate-part .result) (c .before .evaluate-part .ensures) (c .if1 .left)) 0 refl
+
+evaluate-exists-returns-2 : (t : ℕ) → evaluate-exists-lts.Need-returns-2 (
+  evaluate-part-below t,
+  evaluate-part.Post,
+) (evaluate-exists-at t) evaluate-exists.Post evaluate-exists-Inv-loop evaluate-exists-μ-loop
+evaluate-exists-returns-2 t c = λ h. exists-false h (c .before .before .before .before .before .before .before .before .pre .1 .1) (c .before .loop .inv) (c .loop-test .left)
+
+abbrev evaluate-list-Inv-loop : evaluate-list-lts.InvT-loop
+evaluate-list-Inv-loop p g file s w depth empty t first₀ columns rows x v₀ value₀ r₀ first v value r = RowsPassed p g file w s depth empty first₀ columns rows r first value v
+
+abbrev evaluate-list-μ-loop : evaluate-list-lts.MeasureT-loop
+evaluate-list-μ-loop p g file s w depth empty t first₀ columns rows x v₀ value₀ r₀ first v value r = rows - r
+
+evaluate-list-mul-t : (t : ℕ) → evaluate-list-lts.Need-mul-t (
+  look-reads.Asked,
+  look-reads.Learnt,
+  evaluate-row-below t,
+  evaluate-row.Post,
+  after-reads.Asked,
+  after-reads.Learnt,
+) (evaluate-list-at t) evaluate-list.Post evaluate-list-Inv-loop evaluate-list-μ-loop
+evaluate-list-mul-t t c = let z = start (c .before .pre .1 .0) in omega arith
+
+evaluate-list-add-t : (t : ℕ) → evaluate-list-lts.Need-add-t (
+  look-reads.Asked,
+  look-reads.Learnt,
+  evaluate-row-below t,
+  evaluate-row.Post,
+  after-reads.Asked,
+  after-reads.Learnt,
+) (evaluate-list-at t) evaluate-list.Post evaluate-list-Inv-loop evaluate-list-μ-loop
+evaluate-list-add-t t c = let z = start (c .before .pre .1 .0) in omega arith
+
+evaluate-list-mul-t-2 : (t : ℕ) → evaluate-list-lts.Need-mul-t-2 (
+  look-reads.Asked,
+  look-reads.Learnt,
+  evaluate-row-below t,
+  evaluate-row.Post,
+  after-reads.Asked,
+  after-reads.Learnt,
+) (evaluate-list-at t) evaluate-list.Post evaluate-list-Inv-loop evaluate-list-μ-loop
+evaluate-list-mul-t-2 t c = let z = start (c .before .pre .1 .0) in omega arith
+
+evaluate-list-element-copy-out-t : (t : ℕ) → evaluate-list-lts.Need-element-copy-out-t (
+  look-reads.Asked,
+  look-reads.Learnt,
+  evaluate-row-below t,
+  evaluate-row.Post,
+  after-reads.Asked,
+  after-reads.Learnt,
+) (evaluate-list-at t) evaluate-list.Post evaluate-list-Inv-loop evaluate-list-μ-loop
+evaluate-list-element-copy-out-t t c = let z = start (c .before .pre .1 .0) in omega arith
+
+evaluate-list-mul-first : (t : ℕ) → evaluate-list-lts.Need-mul-first (
+  look-reads.Asked,
+  look-reads.Learnt,
+  evaluate-row-below t,
+  evaluate-row.Post,
+  after-reads.Asked,
+  after-reads.Learnt,
+) (evaluate-list-at t) evaluate-list.Post evaluate-list-Inv-loop evaluate-list-μ-loop
+evaluate-list-mul-first t c = let z = range-bounds (c .before .before .pre .1 .0) (listed-ranging (c .before .before .pre .1 .0) (c .before .before .pre .1 .1)) in omega arith
+
+evaluate-list-mul-first-2 : (t : ℕ) → evaluate-list-lts.Need-mul-first-2 (
+  look-reads.Asked,
+  look-reads.Learnt,
+  evaluate-row-below t,
+  evaluate-row.Post,
+  after-reads.Asked,
+  after-reads.Learnt,
+) (evaluate-list-at t) evaluate-list.Post evaluate-list-Inv-loop evaluate-list-μ-loop
+evaluate-list-mul-first-2 t c = let z = range-bounds (c .before .before .pre .1 .0) (listed-ranging (c .before .before .pre .1 .0) (c .before .before .pre .1 .1)) in omega arith
+
+evaluate-list-element-copy-out-first : (t : ℕ) → evaluate-list-lts.Need-element-copy-out-first (
+  look-reads.Asked,
+  look-reads.Learnt,
+  evaluate-row-below t,
+  evaluate-row.Post,
+  after-reads.Asked,
+  after-reads.Learnt,
+) (evaluate-list-at t) evaluate-list.Post evaluate-list-Inv-loop evaluate-list-μ-loop
+evaluate-list-element-copy-out-first t c = let z = range-bounds (c .before .before .pre .1 .0) (listed-ranging (c .before .before .pre .1 .0) (c .before .before .pre .1 .1)) in omega arith
+
+evaluate-list-mul-columns : (t : ℕ) → evaluate-list-lts.Need-mul-columns (
+  look-reads.Asked,
+  look-reads.Learnt,
+  evaluate-row-below t,
+  evaluate-row.Post,
+  after-reads.Asked,
+  after-reads.Learnt,
+) (evaluate-list-at t) evaluate-list.Post evaluate-list-Inv-loop evaluate-list-μ-loop
+evaluate-list-mul-columns t c = let z = range-bounds (c .before .before .before .pre .1 .0) (listed-ranging (c .before .before .before .pre .1 .0) (c .before .before .before .pre .1 .1)) in omega arith
+
+evaluate-list-add-columns : (t : ℕ) → evaluate-list-lts.Need-add-columns (
+  look-reads.Asked,
+  look-reads.Learnt,
+  evaluate-row-below t,
+  evaluate-row.Post,
+  after-reads.Asked,
+  after-reads.Learnt,
+) (evaluate-list-at t) evaluate-list.Post evaluate-list-Inv-loop evaluate-list-μ-loop
+evaluate-list-add-columns t c = let z = range-bounds (c .before .before .before .pre .1 .0) (listed-ranging (c .before .before .before .pre .1 .0) (c .before .before .before .pre .1 .1)) in omega arith
+
+evaluate-list-mul-columns-2 : (t : ℕ) → evaluate-list-lts.Need-mul-columns-2 (
+  look-reads.Asked,
+  look-reads.Learnt,
+  evaluate-row-below t,
+  evaluate-row.Post,
+  after-reads.Asked,
+  after-reads.Learnt,
+) (evaluate-list-at t) evaluate-list.Post evaluate-list-Inv-loop evaluate-list-μ-loop
+evaluate-list-mul-columns-2 t c = let z = range-bounds (c .before .before .before .pre .1 .0) (listed-ranging (c .before .before .before .pre .1 .0) (c .before .before .before .pre .1 .1)) in omega arith
+
+evaluate-list-element-copy-out-columns : (t : ℕ) → evaluate-list-lts.Need-element-copy-out-columns (
+  look-reads.Asked,
+  look-reads.Learnt,
+  evaluate-row-below t,
+  evaluate-row.Post,
+  after-reads.Asked,
+  after-reads.Learnt,
+) (evaluate-list-at t) evaluate-list.Post evaluate-list-Inv-loop evaluate-list-μ-loop
+evaluate-list-element-copy-out-columns t c = let z = range-bounds (c .before .before .before .pre .1 .0) (listed-ranging (c .before .before .before .pre .1 .0) (c .before .before .before .pre .1 .1)) in omega arith
+
+evaluate-list-mul-rows : (t : ℕ) → evaluate-list-lts.Need-mul-rows (
+  look-reads.Asked,
+  look-reads.Learnt,
+  evaluate-row-below t,
+  evaluate-row.Post,
+  after-reads.Asked,
+  after-reads.Learnt,
+) (evaluate-list-at t) evaluate-list.Post evaluate-list-Inv-loop evaluate-list-μ-loop
+evaluate-list-mul-rows t c = let z = range-bounds (c .before .before .before .before .pre .1 .0) (listed-ranging (c .before .before .before .before .pre .1 .0) (c .before .before .before .before .pre .1 .1)) in omega arith
+
+evaluate-list-add-rows : (t : ℕ) → evaluate-list-lts.Need-add-rows (
+  look-reads.Asked,
+  look-reads.Learnt,
+  evaluate-row-below t,
+  evaluate-row.Post,
+  after-reads.Asked,
+  after-reads.Learnt,
+) (evaluate-list-at t) evaluate-list.Post evaluate-list-Inv-loop evaluate-list-μ-loop
+evaluate-list-add-rows t c = let z = range-bounds (c .before .before .before .before .pre .1 .0) (listed-ranging (c .before .before .before .before .pre .1 .0) (c .before .before .before .before .pre .1 .1)) in omega arith
+
+evaluate-list-mul-rows-2 : (t : ℕ) → evaluate-list-lts.Need-mul-rows-2 (
+  look-reads.Asked,
+  look-reads.Learnt,
+  evaluate-row-below t,
+  evaluate-row.Post,
+  after-reads.Asked,
+  after-reads.Learnt,
+) (evaluate-list-at t) evaluate-list.Post evaluate-list-Inv-loop evaluate-list-μ-loop
+evaluate-list-mul-rows-2 t c = let z = range-bounds (c .before .before .before .before .pre .1 .0) (listed-ranging (c .before .before .before .before .pre .1 .0) (c .before .before .before .before .pre .1 .1)) in omega arith
+
+evaluate-list-element-copy-out-rows : (t : ℕ) → evaluate-list-lts.Need-element-copy-out-rows (
+  look-reads.Asked,
+  look-reads.Learnt,
+  evaluate-row-below t,
+  evaluate-row.Post,
+  after-reads.Asked,
+  after-reads.Learnt,
+) (evaluate-list-at t) evaluate-list.Post evaluate-list-Inv-loop evaluate-list-μ-loop
+evaluate-list-element-copy-out-rows t c = let z = range-bounds (c .before .before .before .before .pre .1 .0) (listed-ranging (c .before .before .before .before .pre .1 .0) (c .before .before .before .before .pre .1 .1)) in omega arith
+
+evaluate-list-mul-look : (t : ℕ) → evaluate-list-lts.Need-mul-look (
+  look-reads.Asked,
+  look-reads.Learnt,
+  evaluate-row-below t,
+  evaluate-row.Post,
+  after-reads.Asked,
+  after-reads.Learnt,
+) (evaluate-list-at t) evaluate-list.Post evaluate-list-Inv-loop evaluate-list-μ-loop
+evaluate-list-mul-look t c = let z = start (c .before .before .before .before .before .pre .1 .0) in omega arith
+
+evaluate-list-add-look : (t : ℕ) → evaluate-list-lts.Need-add-look (
+  look-reads.Asked,
+  look-reads.Learnt,
+  evaluate-row-below t,
+  evaluate-row.Post,
+  after-reads.Asked,
+  after-reads.Learnt,
+) (evaluate-list-at t) evaluate-list.Post evaluate-list-Inv-loop evaluate-list-μ-loop
+evaluate-list-add-look t c = let z = start (c .before .before .before .before .before .pre .1 .0) in omega arith
+
+evaluate-list-mul-look-2 : (t : ℕ) → evaluate-list-lts.Need-mul-look-2 (
+  look-reads.Asked,
+  look-reads.Learnt,
+  evaluate-row-below t,
+  evaluate-row.Post,
+  after-reads.Asked,
+  after-reads.Learnt,
+) (evaluate-list-at t) evaluate-list.Post evaluate-list-Inv-loop evaluate-list-μ-loop
+evaluate-list-mul-look-2 t c = let z = start (c .before .before .before .before .before .pre .1 .0) in omega arith
+
+evaluate-list-element-copy-out-look : (t : ℕ) → evaluate-list-lts.Need-element-copy-out-look (
+  look-reads.Asked,
+  look-reads.Learnt,
+  evaluate-row-below t,
+  evaluate-row.Post,
+  after-reads.Asked,
+  after-reads.Learnt,
+) (evaluate-list-at t) evaluate-list.Post evaluate-list-Inv-loop evaluate-list-μ-loop
+evaluate-list-element-copy-out-look t c = let z = start (c .before .before .before .before .before .pre .1 .0) in omega arith
+
+evaluate-list-mul-look-3 : (t : ℕ) → evaluate-list-lts.Need-mul-look-3 (
+  look-reads.Asked,
+  look-reads.Learnt,
+  evaluate-row-below t,
+  evaluate-row.Post,
+  after-reads.Asked,
+  after-reads.Learnt,
+) (evaluate-list-at t) evaluate-list.Post evaluate-list-Inv-loop evaluate-list-μ-loop
+evaluate-list-mul-look-3 t c = let z = start (c .before .before .before .before .before .before .pre .1 .0) in omega arith
+
+evaluate-list-add-look-2 : (t : ℕ) → evaluate-list-lts.Need-add-look-2 (
+  look-reads.Asked,
+  look-reads.Learnt,
+  evaluate-row-below t,
+  evaluate-row.Post,
+  after-reads.Asked,
+  after-reads.Learnt,
+) (evaluate-list-at t) evaluate-list.Post evaluate-list-Inv-loop evaluate-list-μ-loop
+evaluate-list-add-look-2 t c = let z = start (c .before .before .before .before .before .before .pre .1 .0) in omega arith
+
+evaluate-list-mul-look-4 : (t : ℕ) → evaluate-list-lts.Need-mul-look-4 (
+  look-reads.Asked,
+  look-reads.Learnt,
+  evaluate-row-below t,
+  evaluate-row.Post,
+  after-reads.Asked,
+  after-reads.Learnt,
+) (evaluate-list-at t) evaluate-list.Post evaluate-list-Inv-loop evaluate-list-μ-loop
+evaluate-list-mul-look-4 t c = let z = start (c .before .before .before .before .before .before .pre .1 .0) in omega arith
+
+evaluate-list-element-copy-out-look-2 : (t : ℕ) → evaluate-list-lts.Need-element-copy-out-look-2 (
+  look-reads.Asked,
+  look-reads.Learnt,
+  evaluate-row-below t,
+  evaluate-row.Post,
+  after-reads.Asked,
+  after-reads.Learnt,
+) (evaluate-list-at t) evaluate-list.Post evaluate-list-Inv-loop evaluate-list-μ-loop
+evaluate-list-element-copy-out-look-2 t c = let z = start (c .before .before .before .before .before .before .pre .1 .0) in omega arith
+
+evaluate-list-look-requires : (t : ℕ) → evaluate-list-lts.Need-look-requires (
+  look-reads.Asked,
+  look-reads.Learnt,
+  evaluate-row-below t,
+  evaluate-row.Post,
+  after-reads.Asked,
+  after-reads.Learnt,
+) (evaluate-list-at t) evaluate-list.Post evaluate-list-Inv-loop evaluate-list-μ-loop
+evaluate-list-look-requires t c κs = outer-ready (c .before .before .before .before .before .before .before .pre .1 .0) (c .before .before .before .before .before .before .before .pre .1 .1)
+
+evaluate-list-loop-holds : (t : ℕ) → evaluate-list-lts.Need-loop-holds (
+  look-reads.Asked,
+  look-reads.Learnt,
+  evaluate-row-below t,
+  evaluate-row.Post,
+  after-reads.Asked,
+  after-reads.Learnt,
+) (evaluate-list-at t) evaluate-list.Post evaluate-list-Inv-loop evaluate-list-μ-loop
+evaluate-list-loop-holds t c = passed-none _ _ _ _ _ _ _ _ _ _ (none-is (c .before .before .before .before .before .before .before .before .before .pre .1 .1)) (c .before .before .before .before .before .before .before .before .before .pre .1 .0 .readable .standing .size)
+
+evaluate-list-mul-v : (t : ℕ) → evaluate-list-lts.Need-mul-v (
+  look-reads.Asked,
+  look-reads.Learnt,
+  evaluate-row-below t,
+  evaluate-row.Post,
+  after-reads.Asked,
+  after-reads.Learnt,
+) (evaluate-list-at t) evaluate-list.Post evaluate-list-Inv-loop evaluate-list-μ-loop
+evaluate-list-mul-v t c = let z = range-bounds (c .before .before .before .before .before .before .before .before .before .before .before .pre .1 .0) (listed-ranging (c .before .before .before .before .before .before .before .before .before .before .before .pre .1 .0) (c .before .before .before .before .before .before .before .before .before .before .before .pre .1 .1)) in omega arith
+
+evaluate-list-array-write-v : (t : ℕ) → evaluate-list-lts.Need-array-write-v (
+  look-reads.Asked,
+  look-reads.Learnt,
+  evaluate-row-below t,
+  evaluate-row.Post,
+  after-reads.Asked,
+  after-reads.Learnt,
+) (evaluate-list-at t) evaluate-list.Post evaluate-list-Inv-loop evaluate-list-μ-loop
+evaluate-list-array-write-v t c = let z = range-bounds (c .before .before .before .before .before .before .before .before .before .before .before .pre .1 .0) (listed-ranging (c .before .before .before .before .before .before .before .before .before .before .before .pre .1 .0) (c .before .before .before .before .before .before .before .before .before .before .before .pre .1 .1)) in omega arith
+
+evaluate-list-add-evaluate-row : (t : ℕ) → evaluate-list-lts.Need-add-evaluate-row (
+  look-reads.Asked,
+  look-reads.Learnt,
+  evaluate-row-below t,
+  evaluate-row.Post,
+  after-reads.Asked,
+  after-reads.Learnt,
+) (evaluate-list-at t) evaluate-list.Post evaluate-list-Inv-loop evaluate-list-μ-loop
+evaluate-list-add-evaluate-row t c = let z = range-bounds (c .before .before .before .before .before .before .before .before .before .before .before .before .pre .1 .0) (listed-ranging (c .before .before .before .before .before .before .before .before .before .before .before .before .pre .1 .0) (c .before .before .before .before .before .before .before .before .before .before .before .before .pre .1 .1)) in omega arith
+
+evaluate-list-evaluate-row-requires : (t : ℕ) → evaluate-list-lts.Need-evaluate-row-requires (
+  look-reads.Asked,
+  look-reads.Learnt,
+  evaluate-row-below t,
+  evaluate-row.Post,
+  after-reads.Asked,
+  after-reads.Learnt,
+) (evaluate-list-at t) evaluate-list.Post evaluate-list-Inv-loop evaluate-list-μ-loop
+evaluate-list-evaluate-row-requires t c κs =
+    let m = c .before .before .before .before .before .before .before .before .before .before .before .before .pre .0 in
+    let z = start (c .before .before .before .before .before .before .before .before .before .before .before .before .pre .1 .0) in
+    (omega arith, row-ready (c .before .before .before .before .before .before .before .before .before .before .before .before .pre .1 .0) (c .before .before .before .before .before .before .before .before .before .before .before .before .pre .1 .1) (c .before .loop-test .taken) (c .before .before .loop .inv) (c .before .before .before .before .look .result))
+
+evaluate-list-sub-if1 : (t : ℕ) → evaluate-list-lts.Need-sub-if1 (
+  look-reads.Asked,
+  look-reads.Learnt,
+  evaluate-row-below t,
+  evaluate-row.Post,
+  after-reads.Asked,
+  after-reads.Learnt,
+) (evaluate-list-at t) evaluate-list.Post evaluate-list-Inv-loop evaluate-list-μ-loop
+evaluate-list-sub-if1 t c = let z = none-high (c .before .before .before .before .before .before .before .before .before .before .before .before .before .pre .1 .1) in omega arith
+
+evaluate-list-returns : (t : ℕ) → evaluate-list-lts.Need-returns (
+  look-reads.Asked,
+  look-reads.Learnt,
+  evaluate-row-below t,
+  evaluate-row.Post,
+  after-reads.Asked,
+  after-reads.Learnt,
+) (evaluate-list-at t) evaluate-list.Post evaluate-list-Inv-loop evaluate-list-μ-loop
+evaluate-list-returns t c = λ h.
+    listed-decides h (c .before .before .before .before .before .before .before .before .before .before .before .before .before .before .pre .1 .1) (c .before .before .before .loop-test .taken) (c .before .before .before .before .loop .inv) (c .before .before .before .before .before .before .look .result) (c .before .before .before .before .before .before .look .ensures) (c .before .evaluate-row .result) (c .before .evaluate-row .ensures)
+    (c .if1 .taken)
+
+evaluate-list-after-requires : (t : ℕ) → evaluate-list-lts.Need-after-requires (
+  look-reads.Asked,
+  look-reads.Learnt,
+  evaluate-row-below t,
+  evaluate-row.Post,
+  after-reads.Asked,
+  after-reads.Learnt,
+) (evaluate-list-at t) evaluate-list.Post evaluate-list-Inv-loop evaluate-list-μ-loop
+evaluate-list-after-requires t c κs = search needs
+
+evaluate-list-add-first : (t : ℕ) → evaluate-list-lts.Need-add-first (
+  look-reads.Asked,
+  look-reads.Learnt,
+  evaluate-row-below t,
+  evaluate-row.Post,
+  after-reads.Asked,
+  after-reads.Learnt,
+) (evaluate-list-at t) evaluate-list.Post evaluate-list-Inv-loop evaluate-list-μ-loop
+evaluate-list-add-first t c =
+    let z = row-room (c .before .before .before .before .before .before .before .before .before .before .before .before .before .before .before .pre .1 .0) (listed-ranging (c .before .before .before .before .before .before .before .before .before .before .before .before .before .before .before .pre .1 .0) (c .before .before .before .before .before .before .before .before .before .before .before .before .before .before .before .pre .1 .1)) (c .before .before .before .before .loop-test .taken) (c .before .before .before .before .before .loop .inv) in
+    omega arith
+
+evaluate-list-add-r : (t : ℕ) → evaluate-list-lts.Need-add-r (
+  look-reads.Asked,
+  look-reads.Learnt,
+  evaluate-row-below t,
+  evaluate-row.Post,
+  after-reads.Asked,
+  after-reads.Learnt,
+) (evaluate-list-at t) evaluate-list.Post evaluate-list-Inv-loop evaluate-list-μ-loop
+evaluate-list-add-r t c = let z = range-bounds (c .before .before .before .before .before .before .before .before .before .before .before .before .before .before .before .pre .1 .0) (listed-ranging (c .before .before .before .before .before .before .before .before .before .before .before .before .before .before .before .pre .1 .0) (c .before .before .before .before .before .before .before .before .before .before .before .before .before .before .before .pre .1 .1)) in omega arith
+
+evaluate-list-loop-less : (t : ℕ) → evaluate-list-lts.Need-loop-less (
+  look-reads.Asked,
+  look-reads.Learnt,
+  evaluate-row-below t,
+  evaluate-row.Post,
+  after-reads.Asked,
+  after-reads.Learnt,
+) (evaluate-list-at t) evaluate-list.Post evaluate-list-Inv-loop evaluate-list-μ-loop
+evaluate-list-loop-less t c = omega arith
+
+evaluate-list-loop-again : (t : ℕ) → evaluate-list-lts.Need-loop-again (
+  look-reads.Asked,
+  look-reads.Learnt,
+  evaluate-row-below t,
+  evaluate-row.Post,
+  after-reads.Asked,
+  after-reads.Learnt,
+) (evaluate-list-at t) evaluate-list.Post evaluate-list-Inv-loop evaluate-list-μ-loop
+evaluate-list-loop-again t c =
+    passed-more _ _ _ _ _ _ _ _ _ _ (none-is (c .before .before .before .before .before .before .before .before .before .before .before .before .before .before .before .pre .1 .1)) (c .before .before .before .before .before .loop .inv) (c .before .before .before .before .loop-test .taken) (c .before .before .evaluate-row .result) (c .before .if1 .left) (λ h.
+    row-valued h (c .before .before .before .before .before .before .before .before .before .before .before .before .before .before .before .pre .1 .1) (c .before .before .before .before .loop-test .taken) (c .before .before .before .before .before .loop .inv) (c .before .before .before .before .before .before .before .look .result) (c .before .before .before .before .before .before .before .look .ensures) (c .before .before .evaluate-row .result) (c .before .before .evaluate-row .ensures))
+    _ (c .after .ensures)
+
+evaluate-list-returns-2 : (t : ℕ) → evaluate-list-lts.Need-returns-2 (
+  look-reads.Asked,
+  look-reads.Learnt,
+  evaluate-row-below t,
+  evaluate-row.Post,
+  after-reads.Asked,
+  after-reads.Learnt,
+) (evaluate-list-at t) evaluate-list.Post evaluate-list-Inv-loop evaluate-list-μ-loop
+evaluate-list-returns-2 t c = λ h. listed-ends h (c .before .before .before .before .before .before .before .before .before .before .before .pre .1 .1) (c .before .loop .inv) (c .loop-test .left)
+
+evaluate-or-add-evaluate-part : (t : ℕ) → evaluate-or-lts.Need-add-evaluate-part (
+  evaluate-part-below t,
+  evaluate-part.Post,
+  greater-reads.Asked,
+  greater-reads.Learnt,
+) (evaluate-or-at t) evaluate-or.Post
+evaluate-or-add-evaluate-part t c = let z = start (c .before .pre .1 .0) in omega arith
+
+evaluate-or-evaluate-part-requires : (t : ℕ) → evaluate-or-lts.Need-evaluate-part-requires (
+  evaluate-part-below t,
+  evaluate-part.Post,
+  greater-reads.Asked,
+  greater-reads.Learnt,
+) (evaluate-or-at t) evaluate-or.Post
+evaluate-or-evaluate-part-requires t c κs =
+    let m = c .before .pre .0 in
+    let z = start (c .before .pre .1 .0) in
+    (omega arith, left-inner (c .before .pre .1 .0) Or (c .before .pre .1 .1))
+
+evaluate-or-returns : (t : ℕ) → evaluate-or-lts.Need-returns (
+  evaluate-part-below t,
+  evaluate-part.Post,
+  greater-reads.Asked,
+  greater-reads.Learnt,
+) (evaluate-or-at t) evaluate-or.Post
+evaluate-or-returns t c = λ h. join-stops h Or (c .before .before .before .pre .1 .1) (c .before .evaluate-part .result) (c .before .evaluate-part .ensures) (c .if1 .taken)
+
+evaluate-or-add-next : (t : ℕ) → evaluate-or-lts.Need-add-next (
+  evaluate-part-below t,
+  evaluate-part.Post,
+  greater-reads.Asked,
+  greater-reads.Learnt,
+) (evaluate-or-at t) evaluate-or.Post
+evaluate-or-add-next t c = let z = next-bounds (c .before .before .before .pre .1 .0) Or (c .before .before .before .pre .1 .1) in omega arith
+
+evaluate-or-mul-next : (t : ℕ) → evaluate-or-lts.Need-mul-next (
+  evaluate-part-below t,
+  evaluate-part.Post,
+  greater-reads.Asked,
+  greater-reads.Learnt,
+) (evaluate-or-at t) evaluate-or.Post
+evaluate-or-mul-next t c = let z = next-bounds (c .before .before .before .pre .1 .0) Or (c .before .before .before .pre .1 .1) in omega arith
+
+evaluate-or-add-next-2 : (t : ℕ) → evaluate-or-lts.Need-add-next-2 (
+  evaluate-part-below t,
+  evaluate-part.Post,
+  greater-reads.Asked,
+  greater-reads.Learnt,
+) (evaluate-or-at t) evaluate-or.Post
+evaluate-or-add-next-2 t c = let z = next-bounds (c .before .before .before .pre .1 .0) Or (c .before .before .before .pre .1 .1) in omega arith
+
+evaluate-or-mul-next-2 : (t : ℕ) → evaluate-or-lts.Need-mul-next-2 (
+  evaluate-part-below t,
+  evaluate-part.Post,
+  greater-reads.Asked,
+  greater-reads.Learnt,
+) (evaluate-or-at t) evaluate-or.Post
+evaluate-or-mul-next-2 t c = let z = next-bounds (c .before .before .before .pre .1 .0) Or (c .before .before .before .pre .1 .1) in omega arith
+
+evaluate-or-element-copy-out-next : (t : ℕ) → evaluate-or-lts.Need-element-copy-out-next (
+  evaluate-part-below t,
+  evaluate-part.Post,
+  greater-reads.Asked,
+  greater-reads.Learnt,
+) (evaluate-or-at t) evaluate-or.Post
+evaluate-or-element-copy-out-next t c = let z = next-bounds (c .before .before .before .pre .1 .0) Or (c .before .before .before .pre .1 .1) in omega arith
+
+evaluate-or-evaluate-part-requires-2 : (t : ℕ) → evaluate-or-lts.Need-evaluate-part-requires-2 (
+  evaluate-part-below t,
+  evaluate-part.Post,
+  greater-reads.Asked,
+  greater-reads.Learnt,
+) (evaluate-or-at t) evaluate-or.Post
+evaluate-or-evaluate-part-requires-2 t c κs =
+    let m = c .before .before .before .before .pre .0 in
+    let z = next-bounds (c .before .before .before .before .pre .1 .0) Or (c .before .before .before .before .pre .1 .1) in
+    (omega arith, right-inner (c .before .before .before .before .pre .1 .0) Or (c .before .before .before .before .pre .1 .1))
+
+evaluate-or-greater-requires : (t : ℕ) → evaluate-or-lts.Need-greater-requires (
+  evaluate-part-below t,
+  evaluate-part.Post,
+  greater-reads.Asked,
+  greater-reads.Learnt,
+) (evaluate-or-at t) evaluate-or.Post
+evaluate-or-greater-requires t c κs = search needs
+
+evaluate-or-returns-2 : (t : ℕ) → evaluate-or-lts.Need-returns-2 (
+  evaluate-part-below t,
+  evaluate-part.Post,
+  greater-reads.Asked,
+  greater-reads.Learnt,
+) (evaluate-or-at t) evaluate-or.Post
+evaluate-or-returns-2 t c = λ h.
+    join-evaluated h Or (c .before .before .before .before .before .before .pre .1 .1) (c .before .before .before .before .evaluate-part .result) (c .before .before .before .before .evaluate-part .ensures) (c .before .evaluate-part2 .result) (c .before .evaluate-part2 .ensures) _ (c .greater .ensures)
+
+evaluate-part-mul-kind : (t : ℕ) → evaluate-part-lts.Need-mul-kind (
+  evaluate-and-below t,
+  evaluate-and.Post,
+  evaluate-or-below t,
+  evaluate-or.Post,
+  evaluate-part-below t,
+  evaluate-part.Post,
+  evaluate-exists-below t,
+  evaluate-exists.Post,
+  evaluate-list-below t,
+  evaluate-list.Post,
+  evaluate-test-reads.Asked,
+  evaluate-test-reads.Learnt,
+) (evaluate-part-at t) evaluate-part.Post
+evaluate-part-mul-kind t c = let z = start (c .before .pre .1) in omega arith
+
+evaluate-part-mul-kind-2 : (t : ℕ) → evaluate-part-lts.Need-mul-kind-2 (
+  evaluate-and-below t,
+  evaluate-and.Post,
+  evaluate-or-below t,
+  evaluate-or.Post,
+  evaluate-part-below t,
+  evaluate-part.Post,
+  evaluate-exists-below t,
+  evaluate-exists.Post,
+  evaluate-list-below t,
+  evaluate-list.Post,
+  evaluate-test-reads.Asked,
+  evaluate-test-reads.Learnt,
+) (evaluate-part-at t) evaluate-part.Post
+evaluate-part-mul-kind-2 t c = let z = start (c .before .pre .1) in omega arith
+
+evaluate-part-element-copy-out-kind : (t : ℕ) → evaluate-part-lts.Need-element-copy-out-kind (
+  evaluate-and-below t,
+  evaluate-and.Post,
+  evaluate-or-below t,
+  evaluate-or.Post,
+  evaluate-part-below t,
+  evaluate-part.Post,
+  evaluate-exists-below t,
+  evaluate-exists.Post,
+  evaluate-list-below t,
+  evaluate-list.Post,
+  evaluate-test-reads.Asked,
+  evaluate-test-reads.Learnt,
+) (evaluate-part-at t) evaluate-part.Post
+evaluate-part-element-copy-out-kind t c = let z = start (c .before .pre .1) in omega arith
+
+evaluate-part-evaluate-and-requires : (t : ℕ) → evaluate-part-lts.Need-evaluate-and-requires (
+  evaluate-and-below t,
+  evaluate-and.Post,
+  evaluate-or-below t,
+  evaluate-or.Post,
+  evaluate-part-below t,
+  evaluate-part.Post,
+  evaluate-exists-below t,
+  evaluate-exists.Post,
+  evaluate-list-below t,
+  evaluate-list.Post,
+  evaluate-test-reads.Asked,
+  evaluate-test-reads.Learnt,
+) (evaluate-part-at t) evaluate-part.Post
+evaluate-part-evaluate-and-requires t c κs = let m = c .before .before .before .pre .0 in (omega arith, (c .before .before .before .pre .1, c .match .keys1))
+
+evaluate-part-evaluate-or-requires : (t : ℕ) → evaluate-part-lts.Need-evaluate-or-requires (
+  evaluate-and-below t,
+  evaluate-and.Post,
+  evaluate-or-below t,
+  evaluate-or.Post,
+  evaluate-part-below t,
+  evaluate-part.Post,
+  evaluate-exists-below t,
+  evaluate-exists.Post,
+  evaluate-list-below t,
+  evaluate-list.Post,
+  evaluate-test-reads.Asked,
+  evaluate-test-reads.Learnt,
+) (evaluate-part-at t) evaluate-part.Post
+evaluate-part-evaluate-or-requires t c κs = let m = c .before .before .before .pre .0 in (omega arith, (c .before .before .before .pre .1, c .match .keys2))
+
+evaluate-part-add-evaluate-part : (t : ℕ) → evaluate-part-lts.Need-add-evaluate-part (
+  evaluate-and-below t,
+  evaluate-and.Post,
+  evaluate-or-below t,
+  evaluate-or.Post,
+  evaluate-part-below t,
+  evaluate-part.Post,
+  evaluate-exists-below t,
+  evaluate-exists.Post,
+  evaluate-list-below t,
+  evaluate-list.Post,
+  evaluate-test-reads.Asked,
+  evaluate-test-reads.Learnt,
+) (evaluate-part-at t) evaluate-part.Post
+evaluate-part-add-evaluate-part t c = let z = start (c .before .before .before .pre .1) in omega arith
+
+evaluate-part-evaluate-part-requires : (t : ℕ) → evaluate-part-lts.Need-evaluate-part-requires (
+  evaluate-and-below t,
+  evaluate-and.Post,
+  evaluate-or-below t,
+  evaluate-or.Post,
+  evaluate-part-below t,
+  evaluate-part.Post,
+  evaluate-exists-below t,
+  evaluate-exists.Post,
+  evaluate-list-below t,
+  evaluate-list.Post,
+  evaluate-test-reads.Asked,
+  evaluate-test-reads.Learnt,
+) (evaluate-part-at t) evaluate-part.Post
+evaluate-part-evaluate-part-requires t c κs = let m = c .before .before .before .pre .0 in let z = start (c .before .before .before .pre .1) in (omega arith, not-inner (c .before .before .before .pre .1) (c .match .keys3))
+
+evaluate-part-sub-result : (t : ℕ) → evaluate-part-lts.Need-sub-result (
+  evaluate-and-below t,
+  evaluate-and.Post,
+  evaluate-or-below t,
+  evaluate-or.Post,
+  evaluate-part-below t,
+  evaluate-part.Post,
+  evaluate-exists-below t,
+  evaluate-exists.Post,
+  evaluate-list-below t,
+  evaluate-list.Post,
+  evaluate-test-reads.Asked,
+  evaluate-test-reads.Learnt,
+) (evaluate-part-at t) evaluate-part.Post
+evaluate-part-sub-result t c = let z = not-room (c .before .before .before .before .pre .1) (c .before .match .keys3) (c .evaluate-part .result) (c .evaluate-part .ensures) in omega arith
+
+evaluate-part-evaluate-exists-requires : (t : ℕ) → evaluate-part-lts.Need-evaluate-exists-requires (
+  evaluate-and-below t,
+  evaluate-and.Post,
+  evaluate-or-below t,
+  evaluate-or.Post,
+  evaluate-part-below t,
+  evaluate-part.Post,
+  evaluate-exists-below t,
+  evaluate-exists.Post,
+  evaluate-list-below t,
+  evaluate-list.Post,
+  evaluate-test-reads.Asked,
+  evaluate-test-reads.Learnt,
+) (evaluate-part-at t) evaluate-part.Post
+evaluate-part-evaluate-exists-requires t c κs = let m = c .before .before .before .pre .0 in (omega arith, (c .before .before .before .pre .1, c .match .keys4))
+
+evaluate-part-evaluate-list-requires : (t : ℕ) → evaluate-part-lts.Need-evaluate-list-requires (
+  evaluate-and-below t,
+  evaluate-and.Post,
+  evaluate-or-below t,
+  evaluate-or.Post,
+  evaluate-part-below t,
+  evaluate-part.Post,
+  evaluate-exists-below t,
+  evaluate-exists.Post,
+  evaluate-list-below t,
+  evaluate-list.Post,
+  evaluate-test-reads.Asked,
+  evaluate-test-reads.Learnt,
+) (evaluate-part-at t) evaluate-part.Post
+evaluate-part-evaluate-list-requires t c κs = let m = c .before .before .before .pre .0 in (omega arith, (c .before .before .before .pre .1, record { quantifier = Some; kind-is = c .match .keys5; empty-is = refl }))
+
+evaluate-part-evaluate-list-requires-2 : (t : ℕ) → evaluate-part-lts.Need-evaluate-list-requires-2 (
+  evaluate-and-below t,
+  evaluate-and.Post,
+  evaluate-or-below t,
+  evaluate-or.Post,
+  evaluate-part-below t,
+  evaluate-part.Post,
+  evaluate-exists-below t,
+  evaluate-exists.Post,
+  evaluate-list-below t,
+  evaluate-list.Post,
+  evaluate-test-reads.Asked,
+  evaluate-test-reads.Learnt,
+) (evaluate-part-at t) evaluate-part.Post
+evaluate-part-evaluate-list-requires-2 t c κs = let m = c .before .before .before .pre .0 in (omega arith, (c .before .before .before .pre .1, record { quantifier = All; kind-is = c .match .keys6; empty-is = refl }))
+
+evaluate-part-evaluate-test-requires : (t : ℕ) → evaluate-part-lts.Need-evaluate-test-requires (
+  evaluate-and-below t,
+  evaluate-and.Post,
+  evaluate-or-below t,
+  evaluate-or.Post,
+  evaluate-part-below t,
+  evaluate-part.Post,
+  evaluate-exists-below t,
+  evaluate-exists.Post,
+  evaluate-list-below t,
+  evaluate-list.Post,
+  evaluate-test-reads.Asked,
+  evaluate-test-reads.Learnt,
+) (evaluate-part-at t) evaluate-part.Post
+evaluate-part-evaluate-test-requires t c κs =
+    let (low, high) = test-kinds (c .before .before .before .pre .1) (c .match .rest) in
+    test-ready (c .before .before .before .pre .1) low high
+
+evaluate-part-returns : (t : ℕ) → evaluate-part-lts.Need-returns (
+  evaluate-and-below t,
+  evaluate-and.Post,
+  evaluate-or-below t,
+  evaluate-or.Post,
+  evaluate-part-below t,
+  evaluate-part.Post,
+  evaluate-exists-below t,
+  evaluate-exists.Post,
+  evaluate-list-below t,
+  evaluate-list.Post,
+  evaluate-test-reads.Asked,
+  evaluate-test-reads.Learnt,
+) (evaluate-part-at t) evaluate-part.Post
+evaluate-part-returns t c = c .evaluate-and .ensures
+
+evaluate-part-returns-2 : (t : ℕ) → evaluate-part-lts.Need-returns-2 (
+  evaluate-and-below t,
+  evaluate-and.Post,
+  evaluate-or-below t,
+  evaluate-or.Post,
+  evaluate-part-below t,
+  evaluate-part.Post,
+  evaluate-exists-below t,
+  evaluate-exists.Post,
+  evaluate-list-below t,
+  evaluate-list.Post,
+  evaluate-test-reads.Asked,
+  evaluate-test-reads.Learnt,
+) (evaluate-part-at t) evaluate-part.Post
+evaluate-part-returns-2 t c = c .evaluate-or .ensures
+
+evaluate-part-returns-3 : (t : ℕ) → evaluate-part-lts.Need-returns-3 (
+  evaluate-and-below t,
+  evaluate-and.Post,
+  evaluate-or-below t,
+  evaluate-or.Post,
+  evaluate-part-below t,
+  evaluate-part.Post,
+  evaluate-exists-below t,
+  evaluate-exists.Post,
+  evaluate-list-below t,
+  evaluate-list.Post,
+  evaluate-test-reads.Asked,
+  evaluate-test-reads.Learnt,
+) (evaluate-part-at t) evaluate-part.Post
+evaluate-part-returns-3 t c = λ h. not-evaluated h (c .before .match .keys3) (c .evaluate-part .result) (c .evaluate-part .ensures)
+
+evaluate-part-returns-4 : (t : ℕ) → evaluate-part-lts.Need-returns-4 (
+  evaluate-and-below t,
+  evaluate-and.Post,
+  evaluate-or-below t,
+  evaluate-or.Post,
+  evaluate-part-below t,
+  evaluate-part.Post,
+  evaluate-exists-below t,
+  evaluate-exists.Post,
+  evaluate-list-below t,
+  evaluate-list.Post,
+  evaluate-test-reads.Asked,
+  evaluate-test-reads.Learnt,
+) (evaluate-part-at t) evaluate-part.Post
+evaluate-part-returns-4 t c = c .evaluate-exists .ensures
+
+evaluate-part-returns-5 : (t : ℕ) → evaluate-part-lts.Need-returns-5 (
+  evaluate-and-below t,
+  evaluate-and.Post,
+  evaluate-or-below t,
+  evaluate-or.Post,
+  evaluate-part-below t,
+  evaluate-part.Post,
+  evaluate-exists-below t,
+  evaluate-exists.Post,
+  evaluate-list-below t,
+  evaluate-list.Post,
+  evaluate-test-reads.Asked,
+  evaluate-test-reads.Learnt,
+) (evaluate-part-at t) evaluate-part.Post
+evaluate-part-returns-5 t c = c .evaluate-list .ensures
+
+evaluate-part-returns-6 : (t : ℕ) → evaluate-part-lts.Need-returns-6 (
+  evaluate-and-below t,
+  evaluate-and.Post,
+  evaluate-or-below t,
+  evaluate-or.Post,
+  evaluate-part-below t,
+  evaluate-part.Post,
+  evaluate-exists-below t,
+  evaluate-exists.Post,
+  evaluate-list-below t,
+  evaluate-list.Post,
+  evaluate-test-reads.Asked,
+  evaluate-test-reads.Learnt,
+) (evaluate-part-at t) evaluate-part.Post
+evaluate-part-returns-6 t c = c .evaluate-list2 .ensures
+
+evaluate-part-returns-7 : (t : ℕ) → evaluate-part-lts.Need-returns-7 (
+  evaluate-and-below t,
+  evaluate-and.Post,
+  evaluate-or-below t,
+  evaluate-or.Post,
+  evaluate-part-below t,
+  evaluate-part.Post,
+  evaluate-exists-below t,
+  evaluate-exists.Post,
+  evaluate-list-below t,
+  evaluate-list.Post,
+  evaluate-test-reads.Asked,
+  evaluate-test-reads.Learnt,
+) (evaluate-part-at t) evaluate-part.Post
+evaluate-part-returns-7 t c = λ h. let (low, high) = test-kinds h (c .before .match .rest) in test-evaluated h low high (c .evaluate-test .result) (c .evaluate-test .ensures)
+
+evaluate-row-add-evaluate-part : (t : ℕ) → evaluate-row-lts.Need-add-evaluate-part (
+  evaluate-part-below t,
+  evaluate-part.Post,
+  look-reads.Asked,
+  look-reads.Learnt,
+  compare-reads.Asked,
+  compare-reads.Learnt,
+) (evaluate-row-at t) evaluate-row.Post
+evaluate-row-add-evaluate-part t c = let z = row-start (c .before .pre .1) in omega arith
+
+evaluate-row-evaluate-part-requires : (t : ℕ) → evaluate-row-lts.Need-evaluate-part-requires (
+  evaluate-part-below t,
+  evaluate-part.Post,
+  look-reads.Asked,
+  look-reads.Learnt,
+  compare-reads.Asked,
+  compare-reads.Learnt,
+) (evaluate-row-at t) evaluate-row.Post
+evaluate-row-evaluate-part-requires t c κs = let m = c .before .pre .0 in let z = row-start (c .before .pre .1) in (omega arith, c .before .pre .1 .inner)
+
+evaluate-row-returns : (t : ℕ) → evaluate-row-lts.Need-returns (
+  evaluate-part-below t,
+  evaluate-part.Post,
+  look-reads.Asked,
+  look-reads.Learnt,
+  compare-reads.Asked,
+  compare-reads.Learnt,
+) (evaluate-row-at t) evaluate-row.Post
+evaluate-row-returns t c = λ h. row-lost h (c .before .evaluate-part .result) (c .before .evaluate-part .ensures) (λ e. omega (arith, e, c .if1 .taken))
+
+evaluate-row-mul-look : (t : ℕ) → evaluate-row-lts.Need-mul-look (
+  evaluate-part-below t,
+  evaluate-part.Post,
+  look-reads.Asked,
+  look-reads.Learnt,
+  compare-reads.Asked,
+  compare-reads.Learnt,
+) (evaluate-row-at t) evaluate-row.Post
+evaluate-row-mul-look t c = let z = row-start (c .before .before .before .pre .1) in omega arith
+
+evaluate-row-add-look : (t : ℕ) → evaluate-row-lts.Need-add-look (
+  evaluate-part-below t,
+  evaluate-part.Post,
+  look-reads.Asked,
+  look-reads.Learnt,
+  compare-reads.Asked,
+  compare-reads.Learnt,
+) (evaluate-row-at t) evaluate-row.Post
+evaluate-row-add-look t c = let z = row-start (c .before .before .before .pre .1) in omega arith
+
+evaluate-row-mul-look-2 : (t : ℕ) → evaluate-row-lts.Need-mul-look-2 (
+  evaluate-part-below t,
+  evaluate-part.Post,
+  look-reads.Asked,
+  look-reads.Learnt,
+  compare-reads.Asked,
+  compare-reads.Learnt,
+) (evaluate-row-at t) evaluate-row.Post
+evaluate-row-mul-look-2 t c = let z = row-start (c .before .before .before .pre .1) in omega arith
+
+evaluate-row-element-copy-out-look : (t : ℕ) → evaluate-row-lts.Need-element-copy-out-look (
+  evaluate-part-below t,
+  evaluate-part.Post,
+  look-reads.Asked,
+  look-reads.Learnt,
+  compare-reads.Asked,
+  compare-reads.Learnt,
+) (evaluate-row-at t) evaluate-row.Post
+evaluate-row-element-copy-out-look t c = let z = row-start (c .before .before .before .pre .1) in omega arith
+
+evaluate-row-mul-look-3 : (t : ℕ) → evaluate-row-lts.Need-mul-look-3 (
+  evaluate-part-below t,
+  evaluate-part.Post,
+  look-reads.Asked,
+  look-reads.Learnt,
+  compare-reads.Asked,
+  compare-reads.Learnt,
+) (evaluate-row-at t) evaluate-row.Post
+evaluate-row-mul-look-3 t c = let z = row-start (c .before .before .before .before .pre .1) in omega arith
+
+evaluate-row-add-look-2 : (t : ℕ) → evaluate-row-lts.Need-add-look-2 (
+  evaluate-part-below t,
+  evaluate-part.Post,
+  look-reads.Asked,
+  look-reads.Learnt,
+  compare-reads.Asked,
+  compare-reads.Learnt,
+) (evaluate-row-at t) evaluate-row.Post
+evaluate-row-add-look-2 t c = let z = row-start (c .before .before .before .before .pre .1) in omega arith
+
+evaluate-row-mul-look-4 : (t : ℕ) → evaluate-row-lts.Need-mul-look-4 (
+  evaluate-part-below t,
+  evaluate-part.Post,
+  look-reads.Asked,
+  look-reads.Learnt,
+  compare-reads.Asked,
+  compare-reads.Learnt,
+) (evaluate-row-at t) evaluate-row.Post
+evaluate-row-mul-look-4 t c = let z = row-start (c .before .before .before .before .pre .1) in omega arith
+
+evaluate-row-element-copy-out-look-2 : (t : ℕ) → evaluate-row-lts.Need-element-copy-out-look-2 (
+  evaluate-part-below t,
+  evaluate-part.Post,
+  look-reads.Asked,
+  look-reads.Learnt,
+  compare-reads.Asked,
+  compare-reads.Learnt,
+) (evaluate-row-at t) evaluate-row.Post
+evaluate-row-element-copy-out-look-2 t c = let z = row-start (c .before .before .before .before .pre .1) in omega arith
+
+evaluate-row-look-requires : (t : ℕ) → evaluate-row-lts.Need-look-requires (
+  evaluate-part-below t,
+  evaluate-part.Post,
+  look-reads.Asked,
+  look-reads.Learnt,
+  compare-reads.Asked,
+  compare-reads.Learnt,
+) (evaluate-row-at t) evaluate-row.Post
+evaluate-row-look-requires t c κs = selected-ready (c .before .before .before .before .before .pre .1)
+
+evaluate-row-mul-compare : (t : ℕ) → evaluate-row-lts.Need-mul-compare (
+  evaluate-part-below t,
+  evaluate-part.Post,
+  look-reads.Asked,
+  look-reads.Learnt,
+  compare-reads.Asked,
+  compare-reads.Learnt,
+) (evaluate-row-at t) evaluate-row.Post
+evaluate-row-mul-compare t c = let z = row-start (c .before .before .before .before .before .before .pre .1) in omega arith
+
+evaluate-row-add-compare : (t : ℕ) → evaluate-row-lts.Need-add-compare (
+  evaluate-part-below t,
+  evaluate-part.Post,
+  look-reads.Asked,
+  look-reads.Learnt,
+  compare-reads.Asked,
+  compare-reads.Learnt,
+) (evaluate-row-at t) evaluate-row.Post
+evaluate-row-add-compare t c = let z = row-start (c .before .before .before .before .before .before .pre .1) in omega arith
+
+evaluate-row-mul-compare-2 : (t : ℕ) → evaluate-row-lts.Need-mul-compare-2 (
+  evaluate-part-below t,
+  evaluate-part.Post,
+  look-reads.Asked,
+  look-reads.Learnt,
+  compare-reads.Asked,
+  compare-reads.Learnt,
+) (evaluate-row-at t) evaluate-row.Post
+evaluate-row-mul-compare-2 t c = let z = row-start (c .before .before .before .before .before .before .pre .1) in omega arith
+
+evaluate-row-element-copy-out-compare : (t : ℕ) → evaluate-row-lts.Need-element-copy-out-compare (
+  evaluate-part-below t,
+  evaluate-part.Post,
+  look-reads.Asked,
+  look-reads.Learnt,
+  compare-reads.Asked,
+  compare-reads.Learnt,
+) (evaluate-row-at t) evaluate-row.Post
+evaluate-row-element-copy-out-compare t c = let z = row-start (c .before .before .before .before .before .before .pre .1) in omega arith
+
+evaluate-row-compare-requires : (t : ℕ) → evaluate-row-lts.Need-compare-requires (
+  evaluate-part-below t,
+  evaluate-part.Post,
+  look-reads.Asked,
+  look-reads.Learnt,
+  compare-reads.Asked,
+  compare-reads.Learnt,
+) (evaluate-row-at t) evaluate-row.Post
+evaluate-row-compare-requires t c κs = search needs
+
+evaluate-row-returns-2 : (t : ℕ) → evaluate-row-lts.Need-returns-2 (
+  evaluate-part-below t,
+  evaluate-part.Post,
+  look-reads.Asked,
+  look-reads.Learnt,
+  compare-reads.Asked,
+  compare-reads.Learnt,
+) (evaluate-row-at t) evaluate-row.Post
+evaluate-row-returns-2 t c = λ h. row-compared h (c .before .before .before .before .before .before .evaluate-part .result) (c .before .before .before .before .before .before .evaluate-part .ensures) (c .before .before .before .before .before .if1 .left) (c .before .before .look .result) (c .before .before .look .ensures) _ (c .compare .ensures)
+
+pub +evaluate-and+evaluate-exists+evaluate-list+evaluate-or+evaluate-part+evaluate-row-spec :
+    {M : Type 1} → statement M
++evaluate-and+evaluate-exists+evaluate-list+evaluate-or+evaluate-part+evaluate-row-spec =
+    close
+    μ-evaluate-and
+    μ-evaluate-exists
+    μ-evaluate-list
+    μ-evaluate-or
+    μ-evaluate-part
+    μ-evaluate-row
+    (λ t. evaluate-and-lts.spec (
+      evaluate-part-below t,
+      evaluate-part.Post,
+      lesser-reads.Asked,
+      lesser-reads.Learnt,
+    )
+    (evaluate-and-at t)
+    evaluate-and.Post
+    (evaluate-and-add-evaluate-part t)
+    (evaluate-and-evaluate-part-requires t)
+    (evaluate-and-returns t)
+    (evaluate-and-add-next t)
+    (evaluate-and-mul-next t)
+    (evaluate-and-add-next-2 t)
+    (evaluate-and-mul-next-2 t)
+    (evaluate-and-element-copy-out-next t)
+    (evaluate-and-evaluate-part-requires-2 t)
+    (evaluate-and-lesser-requires t)
+    (evaluate-and-returns-2 t))
+    (λ t. evaluate-exists-lts.spec
+    (evaluate-part-below t, evaluate-part.Post)
+    (evaluate-exists-at t)
+    evaluate-exists.Post
+    evaluate-exists-Inv-loop
+    evaluate-exists-μ-loop
+    (evaluate-exists-mul-t t)
+    (evaluate-exists-add-t t)
+    (evaluate-exists-mul-t-2 t)
+    (evaluate-exists-element-copy-out-t t)
+    (evaluate-exists-mul-first t)
+    (evaluate-exists-mul-first-2 t)
+    (evaluate-exists-element-copy-out-first t)
+    (evaluate-exists-mul-columns t)
+    (evaluate-exists-add-columns t)
+    (evaluate-exists-mul-columns-2 t)
+    (evaluate-exists-element-copy-out-columns t)
+    (evaluate-exists-mul-rows t)
+    (evaluate-exists-add-rows t)
+    (evaluate-exists-mul-rows-2 t)
+    (evaluate-exists-element-copy-out-rows t)
+    (evaluate-exists-loop-holds t)
+    (evaluate-exists-mul-v t)
+    (evaluate-exists-array-write-v t)
+    (evaluate-exists-add-evaluate-part t)
+    (evaluate-exists-add-evaluate-part-2 t)
+    (evaluate-exists-evaluate-part-requires t)
+    (evaluate-exists-returns t)
+    (evaluate-exists-add-first t)
+    (evaluate-exists-add-r t)
+    (evaluate-exists-loop-less t)
+    (evaluate-exists-loop-again t)
+    (evaluate-exists-returns-2 t))
+    (λ t. evaluate-list-lts.spec (
+      look-reads.Asked,
+      look-reads.Learnt,
+      evaluate-row-below t,
+      evaluate-row.Post,
+      after-reads.Asked,
+      after-reads.Learnt,
+    )
+    (evaluate-list-at t)
+    evaluate-list.Post
+    evaluate-list-Inv-loop
+    evaluate-list-μ-loop
+    (evaluate-list-mul-t t)
+    (evaluate-list-add-t t)
+    (evaluate-list-mul-t-2 t)
+    (evaluate-list-element-copy-out-t t)
+    (evaluate-list-mul-first t)
+    (evaluate-list-mul-first-2 t)
+    (evaluate-list-element-copy-out-first t)
+    (evaluate-list-mul-columns t)
+    (evaluate-list-add-columns t)
+    (evaluate-list-mul-columns-2 t)
+    (evaluate-list-element-copy-out-columns t)
+    (evaluate-list-mul-rows t)
+    (evaluate-list-add-rows t)
+    (evaluate-list-mul-rows-2 t)
+    (evaluate-list-element-copy-out-rows t)
+    (evaluate-list-mul-look t)
+    (evaluate-list-add-look t)
+    (evaluate-list-mul-look-2 t)
+    (evaluate-list-element-copy-out-look t)
+    (evaluate-list-mul-look-3 t)
+    (evaluate-list-add-look-2 t)
+    (evaluate-list-mul-look-4 t)
+    (evaluate-list-element-copy-out-look-2 t)
+    (evaluate-list-look-requires t)
+    (evaluate-list-loop-holds t)
+    (evaluate-list-mul-v t)
+    (evaluate-list-array-write-v t)
+    (evaluate-list-add-evaluate-row t)
+    (evaluate-list-evaluate-row-requires t)
+    (evaluate-list-sub-if1 t)
+    (evaluate-list-returns t)
+    (evaluate-list-after-requires t)
+    (evaluate-list-add-first t)
+    (evaluate-list-add-r t)
+    (evaluate-list-loop-less t)
+    (evaluate-list-loop-again t)
+    (evaluate-list-returns-2 t))
+    (λ t. evaluate-or-lts.spec (
+      evaluate-part-below t,
+      evaluate-part.Post,
+      greater-reads.Asked,
+      greater-reads.Learnt,
+    )
+    (evaluate-or-at t)
+    evaluate-or.Post
+    (evaluate-or-add-evaluate-part t)
+    (evaluate-or-evaluate-part-requires t)
+    (evaluate-or-returns t)
+    (evaluate-or-add-next t)
+    (evaluate-or-mul-next t)
+    (evaluate-or-add-next-2 t)
+    (evaluate-or-mul-next-2 t)
+    (evaluate-or-element-copy-out-next t)
+    (evaluate-or-evaluate-part-requires-2 t)
+    (evaluate-or-greater-requires t)
+    (evaluate-or-returns-2 t))
+    (λ t. evaluate-part-lts.spec (
+      evaluate-and-below t,
+      evaluate-and.Post,
+      evaluate-or-below t,
+      evaluate-or.Post,
+      evaluate-part-below t,
+      evaluate-part.Post,
+      evaluate-exists-below t,
+      evaluate-exists.Post,
+      evaluate-list-below t,
+      evaluate-list.Post,
+      evaluate-test-reads.Asked,
+      evaluate-test-reads.Learnt,
+    )
+    (evaluate-part-at t)
+    evaluate-part.Post
+    (evaluate-part-mul-kind t)
+    (evaluate-part-mul-kind-2 t)
+    (evaluate-part-element-copy-out-kind t)
+    (evaluate-part-evaluate-and-requires t)
+    (evaluate-part-evaluate-or-requires t)
+    (evaluate-part-add-evaluate-part t)
+    (evaluate-part-evaluate-part-requires t)
+    (evaluate-part-sub-result t)
+    (evaluate-part-evaluate-exists-requires t)
+    (evaluate-part-evaluate-list-requires t)
+    (evaluate-part-evaluate-list-requires-2 t)
+    (evaluate-part-evaluate-test-requires t)
+    (evaluate-part-returns t)
+    (evaluate-part-returns-2 t)
+    (evaluate-part-returns-3 t)
+    (evaluate-part-returns-4 t)
+    (evaluate-part-returns-5 t)
+    (evaluate-part-returns-6 t)
+    (evaluate-part-returns-7 t))
+    λ t. evaluate-row-lts.spec (
+      evaluate-part-below t,
+      evaluate-part.Post,
+      look-reads.Asked,
+      look-reads.Learnt,
+      compare-reads.Asked,
+      compare-reads.Learnt,
+    )
+    (evaluate-row-at t)
+    evaluate-row.Post
+    (evaluate-row-add-evaluate-part t)
+    (evaluate-row-evaluate-part-requires t)
+    (evaluate-row-returns t)
+    (evaluate-row-mul-look t)
+    (evaluate-row-add-look t)
+    (evaluate-row-mul-look-2 t)
+    (evaluate-row-element-copy-out-look t)
+    (evaluate-row-mul-look-3 t)
+    (evaluate-row-add-look-2 t)
+    (evaluate-row-mul-look-4 t)
+    (evaluate-row-element-copy-out-look-2 t)
+    (evaluate-row-look-requires t)
+    (evaluate-row-mul-compare t)
+    (evaluate-row-add-compare t)
+    (evaluate-row-mul-compare-2 t)
+    (evaluate-row-element-copy-out-compare t)
+    (evaluate-row-compare-requires t)
+    (evaluate-row-returns-2 t)

@@ -1,0 +1,3 @@
+pub mod Truths
+pub mod Testing
+pub mod Evaluating

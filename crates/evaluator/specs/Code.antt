@@ -1,0 +1,89 @@
+-- What the functions of src/ promise one another and their callers, in the terms of the code: truth values as numbers, parts in an array, a row as the
+-- number of its first cell. The contract of a public call cites nothing of this file.
+use mathlib.Core.Path.{_≡_}
+use mathlib.Core.Bool.{cond}
+use mathlib.Core.List.{List}
+use Prim.Native.Nat.{ℕ, _+_, _<_, _≤_}
+use lib.Dec.{eqb}
+use lib.ListN.{length}
+use Rattle.tables.specs.Tables.{columnsOf, tablesOf}
+use Rattle.tables.specs.Values.{Value, Comparison, Quantifier, Some, All, Env, cellOf}
+use Rattle.cells.specs.Code.{seenCell}
+use Rattle.cells.specs.declared.Seen.{Seen}
+use Rattle.values.specs.Code.{Readable}
+use Rattle.rule.specs.Condition.{Test, Rule, parts, fromsDeep}
+use Rattle.rule.specs.Names.{ValueFits, TestFits, Fits}
+use Rattle.rule.specs.Parts.{AtomHead, ListedHead, partOf}
+use Rattle.rule.specs.Meaning.{test3, compare3, isTrue, meaning, truthNumber}
+use Rattle.reader.specs.Parts.{PartAt, Stands}
+
+-- ---- truth values as numbers
+
+-- a list's value after one more row
+abbrev pub unlessUnknown : ℕ → ℕ → ℕ
+unlessUnknown row value = cond (eqb row 1) 1 value
+
+-- the value over no rows, as a number, by the kind of a list
+abbrev pub emptyOver : Quantifier → ℕ
+emptyOver Some = 0
+emptyOver All = 2
+
+abbrev pub listKind : Quantifier → ℕ
+listKind Some = 8
+listKind All = 9
+
+-- empty is the value over no rows of a list of this kind
+pub record OverNone (kind empty : ℕ) : Type 0 where
+  pub quantifier : Quantifier
+  pub kind-is : kind ≡ listKind quantifier
+  pub empty-is : empty ≡ emptyOver quantifier
+
+-- ---- what evaluating asks, and answers: for whatever levels, rows and rule the numbers stand for
+
+pub record TestReady (p g file w : List ℕ) (s : ℕ) : Type 0 where
+  pub levels : List ℕ
+  pub env : Env
+  pub test : Test Value
+  pub readable : Readable g file w levels env
+  pub size : length p ≡ 512
+  pub few : s < 64
+  pub here : PartAt p s (partOf (s + 1) (AtomHead test))
+  pub fits : TestFits (columnsOf file) levels test
+
+abbrev pub TestEvaluated : (p g file w : List ℕ) (s : ℕ) → ℕ → Type 0
+TestEvaluated p g file w s r = (h : TestReady p g file w s) → r ≡ truthNumber (test3 (h .env) (h .test))
+
+pub record Evaluable (p g file w : List ℕ) (s depth : ℕ) : Type 0 where
+  pub levels : List ℕ
+  pub env : Env
+  pub rule : Rule
+  pub readable : Readable g file w levels env
+  pub size : length p ≡ 512
+  pub few : s + parts rule ≤ 64
+  pub stands : Stands p s rule
+  pub deep : depth ≡ length levels
+  pub room : depth + fromsDeep rule ≤ 4
+  pub fits : Fits (columnsOf file) levels rule
+
+abbrev pub Evaluates : (p g file w : List ℕ) (s depth : ℕ) → ℕ → Type 0
+Evaluates p g file w s depth r = (h : Evaluable p g file w s depth) → r ≡ truthNumber (meaning (tablesOf file) (h .env) (h .rule))
+
+-- a list at one row of its table: inner is its WHERE, with the row's level the last; x is what was seen of the left value
+pub record RowReady (p g file v : List ℕ) (s depth empty : ℕ) (x : Seen) : Type 0 where
+  pub quantifier : Quantifier
+  pub comparison : Comparison
+  pub left : Value
+  pub selected : Value
+  pub table : ℕ
+  pub end : ℕ
+  pub here : PartAt p s (partOf end (ListedHead quantifier comparison left selected table))
+  pub inner : Evaluable p g file v (s + 1) depth
+  pub selected-fits : ValueFits (columnsOf file) (inner .levels) selected
+
+-- the comparison at that row, if it is retained, else the value over no rows
+abbrev pub RowEvaluated : (p g file v : List ℕ) (s depth empty : ℕ) (x : Seen) → ℕ → Type 0
+RowEvaluated p g file v s depth empty x r =
+    (h : RowReady p g file v s depth empty x)
+    → r ≡ cond (isTrue (meaning (tablesOf file) (h .inner .env) (h .inner .rule)))
+    (truthNumber (compare3 (h .comparison) (seenCell x) (cellOf (h .inner .env) (h .selected))))
+    empty

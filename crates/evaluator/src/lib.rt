@@ -1,0 +1,279 @@
+// The value of a rule on rows, true, false or unknown, from the values of its parts. No card is made or run.
+// A truth value is a number: 0 false, 1 unknown, 2 true, so that AND takes the lesser, OR the greater, and NOT what is left to 2.
+// Short names: p, the parts as numbers; g, where the tables stand; s, the number of a part; w, for each level the number of its row's first cell, and
+// depth, how many levels there are; v, the same with one level more.
+ghost use mathlib.Core.Path.{_≡_};
+ghost use Prim.Native.Nat.{_*_, min, max};
+ghost use lib.ListN.{getD};
+ghost use Rattle.tables.specs.Values.{comparisonOf};
+ghost use Rattle.cells.specs.Code.{seenCell};
+ghost use Rattle.rule.specs.Meaning.{truth, compare3, truthNumber};
+ghost use Rattle.evaluator.specs.Code.{unlessUnknown, TestReady, TestEvaluated, Evaluable, Evaluates, RowReady, RowEvaluated, OverNone};
+use cells::PLACES;
+use cells::Seen;
+use names::PART_COMPARISON;
+use names::PART_END;
+use names::PART_FIELDS;
+use names::PART_LEFT_NUMBER;
+use names::PART_LEFT_TAG;
+use names::PART_NUMBERS;
+use names::PART_RIGHT_NUMBER;
+use names::PART_RIGHT_TAG;
+use names::PART_TABLE;
+use values::LEVELS;
+
+const FALSE: usize = 0;
+
+const UNKNOWN: usize = 1;
+
+const TRUE: usize = 2;
+
+fn truth_of(b: bool) -> usize
+    ensures { λ r. ⌜ r ≡ truthNumber (truth b) ⌝ }
+{
+    if b {
+        return TRUE;
+    }
+    FALSE
+}
+
+fn lesser(a: usize, b: usize) -> usize
+    ensures { λ r. ⌜ r ≡ min a b ⌝ }
+{
+    if a < b {
+        return a;
+    }
+    b
+}
+
+fn greater(a: usize, b: usize) -> usize
+    ensures { λ r. ⌜ r ≡ max a b ⌝ }
+{
+    if a < b {
+        return b;
+    }
+    a
+}
+
+// A comparison of two cells: unknown where one of them is blank.
+fn compare(op: usize, x: Seen, y: Seen) -> usize
+    ensures { λ r. ⌜ r ≡ truthNumber (compare3 (comparisonOf op) (seenCell x) (seenCell y)) ⌝ }
+{
+    let holds = values::numbers_hold(op, x.number, y.number);
+    if x.blank | y.blank {
+        return UNKNOWN;
+    }
+    truth_of(holds)
+}
+
+// A comparison, IS NULL or IS NOT NULL.
+fn evaluate_test(
+    p: &[usize; PART_NUMBERS],
+    g: &[usize; PLACES],
+    file: &[u8],
+    s: usize,
+    w: &[usize; LEVELS],
+) -> usize
+    requires { ⌜ TestReady (now p) (now g) (now file) (now w) s ⌝ }
+    ensures { λ r. ⌜ TestEvaluated (now (p .entry)) (now (g .entry)) (now (file .entry)) (now (w .entry)) s r ⌝ }
+{
+    let kind = p[PART_FIELDS * s];
+    let x = values::look(
+        g,
+        file,
+        w,
+        p[PART_FIELDS * s + PART_LEFT_TAG],
+        p[PART_FIELDS * s + PART_LEFT_NUMBER],
+    );
+    if kind == 5 {
+        return truth_of(x.blank);
+    }
+    if kind == 6 {
+        return truth_of(!x.blank);
+    }
+    let y = values::look(
+        g,
+        file,
+        w,
+        p[PART_FIELDS * s + PART_RIGHT_TAG],
+        p[PART_FIELDS * s + PART_RIGHT_NUMBER],
+    );
+    compare(p[PART_FIELDS * s + PART_COMPARISON], x, y)
+}
+
+// The value of part s with its inner parts.
+pub fn evaluate_part(
+    p: &[usize; PART_NUMBERS],
+    g: &[usize; PLACES],
+    file: &[u8],
+    s: usize,
+    w: &[usize; LEVELS],
+    depth: usize,
+) -> usize
+    requires { ⌜ Evaluable (now p) (now g) (now file) (now w) s depth ⌝ }
+    ensures { λ r. ⌜ Evaluates (now (p .entry)) (now (g .entry)) (now (file .entry)) (now (w .entry)) s depth r ⌝ }
+{
+    let kind = p[PART_FIELDS * s];
+    match kind {
+        1 => evaluate_and(p, g, file, s, w, depth),
+        2 => evaluate_or(p, g, file, s, w, depth),
+        3 => {
+            let inner = evaluate_part(p, g, file, s + 1, w, depth);
+            TRUE - inner
+        }
+        7 => evaluate_exists(p, g, file, s, w, depth),
+        8 => evaluate_list(p, g, file, s, w, depth, FALSE),
+        9 => evaluate_list(p, g, file, s, w, depth, TRUE),
+        _ => evaluate_test(p, g, file, s, w),
+    }
+}
+
+fn evaluate_and(
+    p: &[usize; PART_NUMBERS],
+    g: &[usize; PLACES],
+    file: &[u8],
+    s: usize,
+    w: &[usize; LEVELS],
+    depth: usize,
+) -> usize
+    requires { ⌜ Evaluable (now p) (now g) (now file) (now w) s depth ⌝ ∗ ⌜ getD (now p) (8 * s) 0 ≡ 1 ⌝ }
+    ensures { λ r. ⌜ Evaluates (now (p .entry)) (now (g .entry)) (now (file .entry)) (now (w .entry)) s depth r ⌝ }
+{
+    let left = evaluate_part(p, g, file, s + 1, w, depth);
+    if left == FALSE {
+        return FALSE;
+    }
+    let next = p[PART_FIELDS * (s + 1) + PART_END];
+    let right = evaluate_part(p, g, file, next, w, depth);
+    lesser(left, right)
+}
+
+fn evaluate_or(
+    p: &[usize; PART_NUMBERS],
+    g: &[usize; PLACES],
+    file: &[u8],
+    s: usize,
+    w: &[usize; LEVELS],
+    depth: usize,
+) -> usize
+    requires { ⌜ Evaluable (now p) (now g) (now file) (now w) s depth ⌝ ∗ ⌜ getD (now p) (8 * s) 0 ≡ 2 ⌝ }
+    ensures { λ r. ⌜ Evaluates (now (p .entry)) (now (g .entry)) (now (file .entry)) (now (w .entry)) s depth r ⌝ }
+{
+    let left = evaluate_part(p, g, file, s + 1, w, depth);
+    if left == TRUE {
+        return TRUE;
+    }
+    let next = p[PART_FIELDS * (s + 1) + PART_END];
+    let right = evaluate_part(p, g, file, next, w, depth);
+    greater(left, right)
+}
+
+// EXISTS: true as soon as its WHERE is true on a row.
+fn evaluate_exists(
+    p: &[usize; PART_NUMBERS],
+    g: &[usize; PLACES],
+    file: &[u8],
+    s: usize,
+    w: &[usize; LEVELS],
+    depth: usize,
+) -> usize
+    requires { ⌜ Evaluable (now p) (now g) (now file) (now w) s depth ⌝ ∗ ⌜ getD (now p) (8 * s) 0 ≡ 7 ⌝ }
+    ensures { λ r. ⌜ Evaluates (now (p .entry)) (now (g .entry)) (now (file .entry)) (now (w .entry)) s depth r ⌝ }
+{
+    let t = p[PART_FIELDS * s + PART_TABLE];
+    let mut first = g[3 * t];
+    let columns = g[3 * t + 1];
+    let rows = g[3 * t + 2];
+    let mut v = *w;
+    let mut r: usize = 0;
+    while r < rows {
+        v[depth] = first;
+        let kept = evaluate_part(p, g, file, s + 1, &v, depth + 1);
+        if kept == TRUE {
+            return TRUE;
+        }
+        first += columns;
+        r += 1;
+    }
+    FALSE
+}
+
+// The comparison of a list's left value x with the value selected at a row, v; a row that the WHERE does not retain counts as empty, the value over no
+// rows, which decides nothing.
+fn evaluate_row(
+    p: &[usize; PART_NUMBERS],
+    g: &[usize; PLACES],
+    file: &[u8],
+    s: usize,
+    v: &[usize; LEVELS],
+    depth: usize,
+    empty: usize,
+    x: Seen,
+) -> usize
+    requires { ⌜ RowReady (now p) (now g) (now file) (now v) s depth empty x ⌝ }
+    ensures { λ r. ⌜ RowEvaluated (now (p .entry)) (now (g .entry)) (now (file .entry)) (now (v .entry)) s depth empty x r ⌝ }
+{
+    let kept = evaluate_part(p, g, file, s + 1, v, depth);
+    if kept != TRUE {
+        return empty;
+    }
+    let y = values::look(
+        g,
+        file,
+        v,
+        p[PART_FIELDS * s + PART_RIGHT_TAG],
+        p[PART_FIELDS * s + PART_RIGHT_NUMBER],
+    );
+    compare(p[PART_FIELDS * s + PART_COMPARISON], x, y)
+}
+
+// A list's value after one more row: once unknown, it stays so until a row decides.
+fn after(value: usize, row: usize) -> usize
+    ensures { λ r. ⌜ r ≡ unlessUnknown row value ⌝ }
+{
+    if row == UNKNOWN {
+        return UNKNOWN;
+    }
+    value
+}
+
+// SOME and ALL. empty is the value over no rows: false of SOME, which a true comparison decides, and true of ALL, which a false one decides.
+fn evaluate_list(
+    p: &[usize; PART_NUMBERS],
+    g: &[usize; PLACES],
+    file: &[u8],
+    s: usize,
+    w: &[usize; LEVELS],
+    depth: usize,
+    empty: usize,
+) -> usize
+    requires { ⌜ Evaluable (now p) (now g) (now file) (now w) s depth ⌝ ∗ ⌜ OverNone (getD (now p) (8 * s) 0) empty ⌝ }
+    ensures { λ r. ⌜ Evaluates (now (p .entry)) (now (g .entry)) (now (file .entry)) (now (w .entry)) s depth r ⌝ }
+{
+    let t = p[PART_FIELDS * s + PART_TABLE];
+    let mut first = g[3 * t];
+    let columns = g[3 * t + 1];
+    let rows = g[3 * t + 2];
+    // The value left of a list is read outside it.
+    let x = values::look(
+        g,
+        file,
+        w,
+        p[PART_FIELDS * s + PART_LEFT_TAG],
+        p[PART_FIELDS * s + PART_LEFT_NUMBER],
+    );
+    let mut v = *w;
+    let mut value = empty;
+    let mut r: usize = 0;
+    while r < rows {
+        v[depth] = first;
+        let row = evaluate_row(p, g, file, s, &v, depth + 1, empty, x);
+        if row == TRUE - empty {
+            return row;
+        }
+        value = after(value, row);
+        first += columns;
+        r += 1;
+    }
+    value
+}

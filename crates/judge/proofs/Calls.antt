@@ -1,0 +1,90 @@
+-- JUDGE by cases: a refusal of reading, a row that is missing, and the rule's value on the row.
+use mathlib.Core.Path.{_≡_, refl, sym, ap, _∙_}
+use mathlib.Core.List.{List, _∷_, []}
+use Prim.Native.Nat.{ℕ, zero, suc, _+_, _*_, _≤_, _<_}
+use native.Mathlib.Omega.{arith}
+use lib.ListN.{length, getD, take}
+use Rattle.tables.specs.Tables.{mostCells, tablesOf}
+use Rattle.tables.specs.Values.{judgedLevels, judgedRow}
+use Rattle.tables.specs.Refusals.{Refused, Given}
+use Rattle.cells.specs.Code.{Sized, Places}
+use Rattle.cells.specs.declared.Reason.{Reason}
+use Rattle.values.proofs.Judged.{one-rows, row-room, row-readable}
+use Rattle.rule.specs.Meaning.{Truth, False, Unknown, True, judged, truthNumber}
+use Rattle.rule.specs.Calls.{judgeCall}
+use Rattle.rule.proofs.Calls.{calls-claim}
+use Rattle.reader.specs.Code.{parsedAnswer, parseCall, Parsing, ParsedTo}
+use Rattle.reader.specs.declared.Parsed.{Parsed}
+use Rattle.reader.proofs.Known.{Known, known, parse-refused, parse-given}
+use Rattle.reader.proofs.Parts.{rule-stands}
+use Rattle.evaluator.specs.Code.{Evaluable, Evaluates}
+use Rattle.judge.specs.Answers.{judgedAnswer}
+use Rattle.judge.specs.Code.{judgedBy, passedUp}
+use Rattle.judge.specs.declared.Judged.{Judged}
+use Rattle.judge.specs.declared.Judged.the-variants.{True as JudgedTrue}
+
+-- ---- a truth value as JUDGE answers it
+
+pub judged-true : (n : ℕ) → (n ≡ 0 → ⊥) → (n ≡ 1 → ⊥) → JudgedTrue ≡ judgedBy n
+judged-true zero f g = absurd (f refl)
+judged-true (suc zero) f g = absurd (g refl)
+judged-true (suc (suc n)) f g = refl
+
+judged-rank : (t : Truth) → judgedAnswer (judgedBy (truthNumber t)) ≡ Given t
+judged-rank False = refl
+judged-rank Unknown = refl
+judged-rank True = refl
+
+-- ---- the call
+
+module _ (text file : List ℕ) (row : ℕ) (r : Parsed) where
+  pub judge-refused : (x : Reason) (up : Judged) → parsedAnswer r ≡ parseCall text file → r ≡ Parsed.Refused x → up ≡ passedUp r
+      → judgedAnswer up ≡ judgeCall text file row
+  judge-refused x up p e u = ap judgedAnswer (u ∙ ap passedUp e) ∙ sym (calls-claim .judge-refused text file row _ (parse-refused text file r x p e))
+
+  module _ (new : List ℕ) (n : ℕ) (told : ParsedTo text file new r) (e : r ≡ Parsed.Rule n) where
+    parsing : Parsing text file new n
+    parsing = parse-given text file r new n told e
+
+    rule-known : Known file (parsing .rule)
+    rule-known = let q = parsing in known text file (q .rule) (q .accepted) (q .is-rule)
+
+    pub file-sized : Sized file
+    file-sized = rule-known .sized
+
+    module _ (g : List ℕ) (places : Places file g) where
+      pub judge-no-row : getD g 5 0 ≤ row → Refused 11 ≡ judgeCall text file row
+      judge-no-row h = sym (calls-claim .judge-no-row text file row (parsing .accepted) (omega (arith, one-rows file g file-sized places)))
+
+      module _ (below : row < getD g 5 0) where
+        pub judge-room : row * getD g 4 0 + getD g 4 0 ≤ mostCells
+        judge-room = row-room file g file-sized places row (row * getD g 4 0) below refl
+
+        module _ (size : length new ≡ 512) where
+          abbrev firsts : List ℕ
+          firsts = row * getD g 4 0 ∷ 0 ∷ 0 ∷ 0 ∷ []
+
+          pub whole-rule : Evaluable new g file firsts 0 1
+          whole-rule =
+              let q = parsing in
+              let k = rule-known in
+              record {
+                levels = judgedLevels;
+                env = judgedRow (tablesOf file) row;
+                rule = q .rule;
+                readable = row-readable file g file-sized places row (row * getD g 4 0) below refl firsts refl refl;
+                size = size;
+                few = omega (arith, k .few-parts);
+                stands = rule-stands new (q .rule) (sym (ap (λ (m : ℕ). take (8 * m) new) (q .count)) ∙ q .written);
+                deep = refl;
+                room = omega (arith, k .few-froms);
+                fits = k .fits;
+              }
+
+          pub judge-given : (v : ℕ) → Evaluates new g file firsts 0 1 v → (a : Judged) → a ≡ judgedBy v → judgedAnswer a ≡ judgeCall text file row
+          unfolding whole-rule judged
+          judge-given v evaluates a is =
+              let q = parsing in
+              ap judgedAnswer (is ∙ ap judgedBy (evaluates whole-rule))
+              ∙ judged-rank (judged (tablesOf file) row (q .rule))
+              ∙ sym (calls-claim .judge-given text file row (q .accepted) (q .rule) (q .is-rule) (omega (arith, one-rows file g file-sized places)))

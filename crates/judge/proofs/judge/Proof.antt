@@ -1,0 +1,84 @@
+-- `judge::judge` meets its contract: it reads the rule, finds the row, and evaluates the whole rule there.
+use mathlib.Core.Path.{refl}
+use native.Mathlib.Omega.{arith}
+use Rattle.judge.proofs.Calls.{judge-refused, file-sized, judge-no-row, judge-room, whole-rule, judge-given}
+use borrow.Author.Needs.{needs}
+use Rattle.judge.proofs.judge.Statement.{statement}
+use Rattle.judge.proofs.judge.Tie as tie
+
+parse-requires : tie.Need-parse-requires
+parse-requires c κs = search needs
+
+enum-told : tie.Need-enum-told
+enum-told c = search needs
+
+enum-told-2 : tie.Need-enum-told-2
+enum-told-2 c = search needs
+
+passed-up-requires : tie.Need-passed-up-requires
+passed-up-requires c κs = search needs
+
+returns : tie.Need-returns
+returns c = judge-refused _ _ _ (c .before .before .before .parse .result) _ _ (c .before .before .before .parse .ensures .0) (c .before .enum-told2 .given .1) (c .passed-up .ensures)
+
+places-requires : tie.Need-places-requires
+places-requires c κs =
+    let parse = c .before .before .before .parse in
+    let told = parse .ensures .1 .0 in
+    let is = c .before .enum-told .given .1 in
+    (file-sized (c .before .before .before .before .before .before .before .args .text .now) _ (c .before .before .before .before .before .before .before .args .row) (parse .result) (parse .last .1 .1 .0) _ told is, refl)
+
+array-read-if1 : tie.Need-array-read-if1
+array-read-if1 c = search needs
+
+returns-2 : tie.Need-returns-2
+returns-2 c =
+    let parse = c .before .before .before .before .before .parse in
+    let told = parse .ensures .1 .0 in
+    let is = c .before .before .before .enum-told .given .1 in
+    judge-no-row _ _ _ (parse .result) (parse .last .1 .1 .0) _ told is _ (c .before .places .ensures) (omega (arith, c .if1 .taken))
+
+array-read-t14 : tie.Need-array-read-t14
+array-read-t14 c = search needs
+
+mul-t19 : tie.Need-mul-t19
+mul-t19 c =
+    let parse = c .before .before .before .before .before .parse in
+    let told = parse .ensures .1 .0 in
+    let is = c .before .before .before .enum-told .given .1 in
+    omega (arith, judge-room (c .before .before .before .before .before .before .before .before .before .args .text .now) (c .before .before .before .before .before .before .before .before .before .args .file .now) (c .before .before .before .before .before .before .before .before .before .args .row) (parse .result) (parse .last .1 .1 .0) _ told is _ (c .before .places .ensures) (c .if1 .left))
+
+evaluate-part-requires : tie.Need-evaluate-part-requires
+evaluate-part-requires c κs =
+    let parse = c .before .before .before .before .before .before .before .before .parse in
+    let told = parse .ensures .1 .0 in
+    let is = c .before .before .before .before .before .before .enum-told .given .1 in
+    whole-rule _ _ _ (parse .result) (parse .last .1 .1 .0) _ told is _ (c .before .before .before .before .places .ensures) (c .before .before .before .if1 .left) (parse .ensures .1 .1)
+
+judged-by-requires : tie.Need-judged-by-requires
+judged-by-requires c κs = search needs
+
+returns-3 : tie.Need-returns-3
+returns-3 c =
+    let parse = c .before .before .before .before .before .before .before .before .before .before .parse in
+    let told = parse .ensures .1 .0 in
+    let is = c .before .before .before .before .before .before .before .before .enum-told .given .1 in
+    judge-given _ _ _ (parse .result) (parse .last .1 .1 .0) _ told is _ (c .before .before .before .before .before .before .places .ensures) (c .before .before .before .before .before .if1 .left) (parse .ensures .1 .1) (c .before .evaluate-part .result) (c .before .evaluate-part .ensures) _ (c .judged-by .ensures)
+
+pub judge-spec : {M : Type 1} → statement M
+judge-spec =
+    tie.close
+    (tie.spec
+    parse-requires
+    enum-told
+    enum-told-2
+    passed-up-requires
+    returns
+    places-requires
+    array-read-if1
+    returns-2
+    array-read-t14
+    mul-t19
+    evaluate-part-requires
+    judged-by-requires
+    returns-3)

@@ -1,0 +1,57 @@
+// JUDGE: the rule is read, the row is found, and the answer is the value of the rule there.
+// Short names: p, the parts of the rule as numbers; g, where the tables stand; w, for each level the number of its row's first cell.
+ghost use mathlib.Core.Path.{_≡_};
+ghost use Rattle.rule.specs.Calls.{judgeCall};
+ghost use Rattle.judge.specs.Answers.{judgedAnswer};
+ghost use Rattle.judge.specs.Code.{passedUp, judgedBy};
+use cells::PLACES;
+use cells::Reason;
+use names::PART_NUMBERS;
+use reader::Parsed;
+
+pub enum Judged {
+    True,
+    False,
+    Unknown,
+    NotJudged(Reason),
+}
+
+// A truth value, 0 false, 1 unknown or 2 true, as JUDGE answers it.
+fn judged_by(value: usize) -> Judged
+    ensures { λ r. ⌜ r ≡ judgedBy value ⌝ }
+{
+    match value {
+        0 => Judged::False,
+        1 => Judged::Unknown,
+        _ => Judged::True,
+    }
+}
+
+// A refusal of reading, as JUDGE answers it; it is asked of refusals alone, so what a rule gives here does not matter.
+fn passed_up(parsed: Parsed) -> Judged
+    ensures { λ r. ⌜ r ≡ passedUp parsed ⌝ }
+{
+    match parsed {
+        Parsed::Rule(_) => Judged::Unknown,
+        Parsed::Refused(x) => Judged::NotJudged(x),
+    }
+}
+
+// JUDGE: the value of the rule on a row of table 1.
+pub fn judge(text: &[u8], file: &[u8], row: usize) -> Judged
+    ensures { λ r. ⌜ judgedAnswer r ≡ judgeCall (now (text .entry)) (now (file .entry)) row ⌝ }
+{
+    let mut p = [0usize; PART_NUMBERS];
+    let parsed = reader::parse(text, file, &mut p);
+    let Parsed::Rule(_) = parsed else {
+        return passed_up(parsed);
+    };
+    let mut g = [0usize; PLACES];
+    cells::places(file, &mut g);
+    if g[5] <= row {
+        return Judged::NotJudged(Reason::Row);
+    }
+    let w = [row * g[4], 0, 0, 0];
+    let value = evaluator::evaluate_part(&p, &g, file, 0, &w, 1);
+    judged_by(value)
+}

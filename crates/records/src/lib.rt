@@ -1,0 +1,151 @@
+// The bytes of a card's entries, and their kinds: numbers, values and records in their places, and what negating makes of a kind and of a comparison.
+// Short names: k, the number of an entry; r, where its record starts.
+ghost use mathlib.Core.Path.{_≡_};
+ghost use mathlib.Core.List.{_∷_, []};
+ghost use Prim.Native.Nat.{_+_, _*_, _<_, _≤_};
+ghost use lib.ListN.{length};
+ghost use Rattle.tables.specs.Lists.{placed};
+ghost use Rattle.tables.specs.Bytes.{bytes16, bytes32};
+ghost use Rattle.records.specs.Code.{byteNumber, plainRecord, LeafAt, LeafWritten, comparisonAs, pairKindAs, rowKindAs, compareKindAs, nullKindAs};
+use card::COMPARISON_PLACE;
+use card::LEFT_PLACE;
+use card::MOST_ENTRIES;
+use card::RECORD_SIZE;
+use card::RIGHT_PLACE;
+use card::TABLE_PLACE;
+use cells::EXCESS;
+use values::CONSTANT;
+
+// A number of two bytes, from place i on.
+pub fn put16(bytes: &mut [u8], i: usize, n: usize)
+    requires { ⌜ n < 65536 ⌝ ∗ ⌜ i + 2 ≤ length (now bytes) ⌝ }
+    ensures { λ _. ⌜ now (bytes .exit) ≡ placed (now (bytes .entry)) i (bytes16 n) ⌝ }
+{
+    bytes[i] = (n % 256) as u8;
+    bytes[i + 1] = (n / 256) as u8;
+}
+
+// A number of four bytes.
+fn put32(bytes: &mut [u8], i: usize, n: usize)
+    requires { ⌜ n < 4294967296 ⌝ ∗ ⌜ i + 4 ≤ length (now bytes) ⌝ }
+    ensures { λ _. ⌜ now (bytes .exit) ≡ placed (now (bytes .entry)) i (bytes32 n) ⌝ }
+{
+    put16(bytes, i, n % 65536);
+    put16(bytes, i + 2, n / 65536);
+}
+
+// A value: the byte of its tag, and its number, which of a constant is kept plus 2 ^ 31.
+fn put_value(bytes: &mut [u8], i: usize, tag: usize, n: usize)
+    requires { ⌜ tag < 256 ⌝ ∗ ⌜ n < 4294967296 ⌝ ∗ ⌜ i + 5 ≤ length (now bytes) ⌝ }
+    ensures { λ _. ⌜ now (bytes .exit) ≡ placed (now (bytes .entry)) i (tag ∷ bytes32 (byteNumber tag n)) ⌝ }
+{
+    bytes[i] = tag as u8;
+    if tag == CONSTANT {
+        put32(bytes, i + 1, (n + EXCESS) % 4294967296);
+        return;
+    }
+    put32(bytes, i + 1, n);
+}
+
+// An entry with inner ones: its kind and its table, 0 where it has none. Its end is written once its last inner entry is in place.
+pub fn put_plain(
+    kinds: &mut [u8; MOST_ENTRIES],
+    records: &mut [u8],
+    k: usize,
+    kind: usize,
+    table: usize,
+)
+    requires { ⌜ length (now kinds) ≡ 192 ⌝ ∗ ⌜ k < 192 ⌝ ∗ ⌜ kind < 256 ⌝ ∗ ⌜ table < 256 ⌝ ∗ ⌜ 14 * k + 14 ≤ length (now records) ⌝ }
+    ensures kinds { λ _. ⌜ now (kinds .exit) ≡ placed (now (kinds .entry)) k (kind ∷ []) ⌝ }
+    ensures records { λ _. ⌜ now (records .exit) ≡ placed (now (records .entry)) (14 * k) (plainRecord 0 table) ⌝ }
+{
+    let r = RECORD_SIZE * k;
+    kinds[k] = kind as u8;
+    put16(records, r, 0);
+    records[r + TABLE_PLACE] = table as u8;
+    records[r + COMPARISON_PLACE] = 0;
+    put_value(records, r + LEFT_PLACE, 0, 0);
+    put_value(records, r + RIGHT_PLACE, 0, 0);
+}
+
+// What an entry without inner ones says, as numbers.
+pub struct LeafNumbers {
+    pub kind: usize,
+    pub comparison: usize,
+    pub left_tag: usize,
+    pub left_number: usize,
+    pub right_tag: usize,
+    pub right_number: usize,
+}
+
+// Such an entry, with its end.
+pub fn put_leaf(kinds: &mut [u8; MOST_ENTRIES], records: &mut [u8], k: usize, leaf: LeafNumbers)
+    requires { ⌜ LeafAt (now kinds) (now records) k leaf ⌝ }
+    ensures { λ _. ⌜ LeafWritten (now (kinds .entry)) (now (records .entry)) (now (kinds .exit)) (now (records .exit)) k leaf ⌝ }
+{
+    let r = RECORD_SIZE * k;
+    kinds[k] = leaf.kind as u8;
+    put16(records, r, k + 1);
+    records[r + TABLE_PLACE] = 0;
+    records[r + COMPARISON_PLACE] = leaf.comparison as u8;
+    put_value(records, r + LEFT_PLACE, leaf.left_tag, leaf.left_number);
+    put_value(records, r + RIGHT_PLACE, leaf.right_tag, leaf.right_number);
+}
+
+// A comparison, or the one that holds just where it does not.
+pub fn comparison_as(op: usize, negate: bool) -> usize
+    ensures { λ r. ⌜ r ≡ comparisonAs negate op ⌝ }
+{
+    if !negate {
+        return op;
+    }
+    match op {
+        1 => 2,
+        2 => 1,
+        3 => 6,
+        4 => 5,
+        5 => 4,
+        6 => 3,
+        _ => op,
+    }
+}
+
+// AND and OR, which negating swaps.
+pub fn pair_kind(kind: usize, negate: bool) -> usize
+    ensures { λ r. ⌜ r ≡ pairKindAs negate kind ⌝ }
+{
+    if (kind == 2) == negate {
+        return 1;
+    }
+    2
+}
+
+// A test of every row, or of some row.
+pub fn row_kind(every: bool) -> usize
+    ensures { λ r. ⌜ r ≡ rowKindAs every ⌝ }
+{
+    if every {
+        return 4;
+    }
+    3
+}
+
+// A comparison where unknown counts as yes, or as no; negating swaps these.
+pub fn compare_kind(negate: bool, unknown: bool) -> usize
+    ensures { λ r. ⌜ r ≡ compareKindAs negate unknown ⌝ }
+{
+    if negate == unknown {
+        return 5;
+    }
+    6
+}
+
+// Blank and not blank, from IS NULL and IS NOT NULL, which negating swaps.
+pub fn null_kind(kind: usize, negate: bool) -> usize
+    ensures { λ r. ⌜ r ≡ nullKindAs negate kind ⌝ }
+{
+    if (kind == 6) == negate {
+        return 7;
+    }
+    8
+}

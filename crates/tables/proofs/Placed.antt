@@ -1,0 +1,107 @@
+-- A list with another in its place from some number on: its length, one after another, one over another, and the list around a part that was lent.
+use mathlib.Core.Path.{_≡_, sym, ap, ap₂, _∙_}
+use mathlib.Core.List.{List, [], _∷_, _++_, append-assoc}
+use Prim.Native.Nat.{ℕ, _+_, _-_, _<_, _≤_}
+use native.Mathlib.Nat.{zero-add, add-zero}
+use native.Mathlib.Numerals.{add-one}
+use native.Mathlib.Omega.{arith}
+use lib.ListN.{length, take, drop, set, length-append, length-drop, take-append-drop}
+use lib.Seq.{length-take-le, take-at, drop-at, take-take, take-append-le, take-append-seam, drop-drop, set-split}
+use Rattle.tables.specs.Lists.{placed}
+
+module _ {A : Type 0} where
+  -- ---- the length, and the whole list
+
+  pub placed-length : (old : List A) (i : ℕ) (new : List A) → i + length new ≤ length old → length (placed old i new) ≡ length old
+  unfolding placed
+  placed-length old i new h =
+      let l : i ≤ length old = omega arith in
+      let t = length-take-le i old l in
+      simp (length-append, length-drop) (omega arith)
+
+  pub placed-none : (old : List A) (i : ℕ) → placed old i [] ≡ old
+  unfolding placed
+  placed-none old i = ap (λ (k : ℕ). take i old ++ drop k old) (add-zero i) ∙ take-append-drop i old
+
+  pub placed-start : (old new : List A) → placed old 0 new ≡ new ++ drop (length new) old
+  unfolding placed
+  placed-start old new = ap (λ (k : ℕ). new ++ drop k old) (zero-add (length new))
+
+  -- what was placed first
+  pub taken-start : (old new : List A) → take (length new) (placed old 0 new) ≡ new
+  taken-start old new = ap (take (length new)) (placed-start old new) ∙ take-append-seam new _
+
+  -- one element
+  pub placed-one : (old : List A) (i : ℕ) (x : A) → i < length old → set old i x ≡ placed old i (x ∷ [])
+  unfolding placed
+  placed-one old i x h = set-split old i x h ∙ ap (λ (k : ℕ). take i old ++ (x ∷ drop k old)) (sym (add-one i))
+
+  -- ---- what is before and behind
+
+  pub taken-before : (old : List A) (i : ℕ) (new : List A) → i ≤ length old → take i (placed old i new) ≡ take i old
+  unfolding placed
+  taken-before old i new h = take-at (take i old) _ i (length-take-le i old h)
+
+  pub dropped-before : (old : List A) (i : ℕ) (new : List A) → i ≤ length old → drop i (placed old i new) ≡ new ++ drop (i + length new) old
+  unfolding placed
+  dropped-before old i new h = drop-at (take i old) _ i (length-take-le i old h)
+
+  -- behind the first m of what was placed
+  pub dropped-part : (old : List A) (i : ℕ) (xs zs : List A) (m : ℕ) → i ≤ length old → length xs ≡ m
+      → drop (i + m) (placed old i (xs ++ zs)) ≡ zs ++ drop (i + length (xs ++ zs)) old
+  dropped-part old i xs zs m h e =
+      sym (drop-drop m i (placed old i (xs ++ zs)))
+      ∙ ap (drop m) (dropped-before old i (xs ++ zs) h ∙ append-assoc xs zs _)
+      ∙ drop-at xs _ m e
+
+  -- ---- one after another
+
+  placed-then : (old : List A) (i : ℕ) (xs ys : List A) → i ≤ length old → placed (placed old i xs) (i + length xs) ys ≡ placed old i (xs ++ ys)
+  unfolding placed
+  placed-then old i xs ys h =
+      let t : length (take i old ++ xs) ≡ i + length xs = simp (length-append, length-take-le i old h) in
+      let whole : placed old i xs ≡ (take i old ++ xs) ++ drop (i + length xs) old = sym (append-assoc (take i old) xs _) in
+      let low : take (i + length xs) (placed old i xs) ≡ take i old ++ xs = ap (take (i + length xs)) whole ∙ take-at (take i old ++ xs) _ _ t in
+      let rest : drop (i + length xs) (placed old i xs) ≡ drop (i + length xs) old =
+      ap (drop (i + length xs)) whole ∙ drop-at (take i old ++ xs) _ _ t in
+      let z : i + length xs + length ys ≡ i + length (xs ++ ys) = omega (arith, length-append xs ys) in
+      let high : drop (i + length xs + length ys) (placed old i xs) ≡ drop (i + length (xs ++ ys)) old =
+      sym (drop-drop (length ys) (i + length xs) (placed old i xs))
+      ∙ ap (drop (length ys)) rest
+      ∙ drop-drop (length ys) (i + length xs) old
+      ∙ ap (λ (k : ℕ). drop k old) z in
+      ap₂ (λ (a b : List A). a ++ (ys ++ b)) low high
+      ∙ append-assoc (take i old) xs _
+      ∙ ap (λ (r : List A). take i old ++ r) (sym (append-assoc xs ys _))
+
+  pub placed-next : (old : List A) (i : ℕ) (xs : List A) (j : ℕ) (ys : List A) → i ≤ length old → j ≡ i + length xs
+      → placed (placed old i xs) j ys ≡ placed old i (xs ++ ys)
+  placed-next old i xs j ys h e = ap (λ (k : ℕ). placed (placed old i xs) k ys) e ∙ placed-then old i xs ys h
+
+  -- the front of what was placed, anew
+  pub placed-over : (old : List A) (i : ℕ) (xs zs ys : List A) → i ≤ length old → length ys ≡ length xs
+      → placed (placed old i (xs ++ zs)) i ys ≡ placed old i (ys ++ zs)
+  unfolding placed
+  placed-over old i xs zs ys h e =
+      let z : i + length (xs ++ zs) ≡ i + length (ys ++ zs) = omega (arith, length-append xs zs, length-append ys zs) in
+      ap₂ (λ (a b : List A). a ++ (ys ++ b)) (taken-before old i (xs ++ zs) h) (dropped-part old i xs zs (length ys) h (sym e))
+      ∙ ap (λ (r : List A). take i old ++ r) (sym (append-assoc ys zs _) ∙ ap (λ (k : ℕ). (ys ++ zs) ++ drop k old) z)
+
+  -- one in front of another
+  pub placed-before : (old : List A) (i : ℕ) (xs : List A) (j : ℕ) (ys : List A) → j ≤ length old → j ≡ i + length xs
+      → placed (placed old j ys) i xs ≡ placed old i (xs ++ ys)
+  unfolding placed
+  placed-before old i xs j ys h e =
+      let l : i ≤ j = omega arith in
+      let z : j + length ys ≡ i + length (xs ++ ys) = omega (arith, length-append xs ys) in
+      let low : take i (placed old j ys) ≡ take i old =
+      take-append-le i (take j old) _ (omega (arith, length-take-le j old h)) ∙ take-take i j old l in
+      let high : drop (i + length xs) (placed old j ys) ≡ ys ++ drop (i + length (xs ++ ys)) old =
+      ap (λ (k : ℕ). drop k (placed old j ys)) (sym e) ∙ dropped-before old j ys h ∙ ap (λ (k : ℕ). ys ++ drop k old) z in
+      ap₂ (λ (a b : List A). a ++ (xs ++ b)) low high ∙ ap (λ (r : List A). take i old ++ r) (sym (append-assoc xs ys _))
+
+  -- ---- a part from a to e that was lent and comes back as ys
+
+  pub placed-lent : (xs : List A) (a e : ℕ) (ys : List A) → length ys ≡ e - a → take a xs ++ (ys ++ drop (e - a) (drop a xs)) ≡ placed xs a ys
+  unfolding placed
+  placed-lent xs a e ys h = ap (λ (r : List A). take a xs ++ (ys ++ r)) (drop-drop (e - a) a xs ∙ ap (λ (k : ℕ). drop (a + k) xs) (sym h))

@@ -1,0 +1,49 @@
+-- What the functions of src/ promise one another. The contract of a public call cites nothing of this file.
+use mathlib.Core.Path.{_≡_}
+use mathlib.Core.List.{List, [], _∷_}
+use Prim.Native.Nat.{ℕ, zero, suc, _+_, _*_, _≤_}
+use lib.ListN.{length, getD, take}
+use Rattle.tables.specs.Lists.{placed}
+use Rattle.tables.specs.Tables.{tableCount, columnsOf}
+use Rattle.tables.specs.Values.{judgedLevels}
+use Rattle.cells.specs.Code.{Sized}
+use Rattle.card.specs.Card.{entries}
+use Rattle.card.specs.Layout.{cardBytes, cardLength}
+use Rattle.rule.specs.Condition.{Rule, parts, fromsDeep}
+use Rattle.rule.specs.Names.{Fits}
+use Rattle.rule.specs.Parts.{partsOf}
+use Rattle.translation.specs.Translation.{ruleCard}
+use Rattle.names.specs.Code.{partsNumbers}
+use Rattle.reader.specs.declared.Parsed.{Parsed}
+use Rattle.reader.specs.declared.Parsed.the-variants.{Rule as ParsedRule, Refused as ParsedRefused}
+use Rattle.translator.specs.declared.Made.{Made}
+use Rattle.translator.specs.declared.Made.the-variants.{Bytes, NotMade}
+
+-- how many entries a part of a kind makes up by itself
+abbrev pub entriesOfKind : ℕ → ℕ
+entriesOfKind kind = getD (1 ∷ 1 ∷ 1 ∷ 0 ∷ 1 ∷ 1 ∷ 1 ∷ 1 ∷ 3 ∷ 3 ∷ []) kind 1
+
+-- and the first n parts of an array, eight numbers for each
+unfoldable pub entriesIn : List ℕ → ℕ → ℕ
+entriesIn p zero = 0
+entriesIn p (suc n) = entriesIn p n + entriesOfKind (getD p (8 * n) 0)
+
+abbrev pub passedUp : Parsed → Made
+passedUp (ParsedRule n) = Bytes n
+passedUp (ParsedRefused x) = NotMade x
+
+-- the parts are those of a rule that fits the tables, and there is room for its card
+pub record CardReady (p file : List ℕ) (n : ℕ) (out : List ℕ) : Type 0 where
+  pub size : length p ≡ 512
+  pub sized : Sized file
+  pub rule : Rule
+  pub few : parts rule ≤ 64
+  pub deep : fromsDeep rule ≤ 3
+  pub written : take (8 * parts rule) p ≡ partsNumbers (partsOf rule)
+  pub fits : Fits (columnsOf file) judgedLevels rule
+  pub count : n ≡ entries (ruleCard rule)
+  pub most : n ≤ 192
+  pub room : cardLength (tableCount file) n ≤ length out
+
+abbrev pub CardWritten : (p file : List ℕ) (n : ℕ) (out out′ : List ℕ) → Type 0
+CardWritten p file n out out′ = (h : CardReady p file n out) → out′ ≡ placed out 0 (cardBytes (columnsOf file) (ruleCard (h .rule)))

@@ -1,0 +1,121 @@
+// CARD: text and tables to the bytes of a card.
+// Short names: p, the parts as numbers.
+ghost use mathlib.Core.Path.{_≡_};
+ghost use mathlib.Core.List.{_∷_, _++_};
+ghost use Prim.Native.Nat.{_+_, _*_, _<_, _≤_};
+ghost use lib.ListN.{length, take};
+ghost use Rattle.tables.specs.Lists.{placed};
+ghost use Rattle.tables.specs.Bytes.{bytes16};
+ghost use Rattle.tables.specs.Tables.{tableCount, columnsOf};
+ghost use Rattle.cells.specs.Code.{Sized};
+ghost use Rattle.translation.specs.Calls.{cardCall};
+ghost use Rattle.translator.specs.Answers.{madeAnswer};
+ghost use Rattle.translator.specs.Code.{entriesOfKind, entriesIn, passedUp, CardReady, CardWritten};
+use card::MOST_ENTRIES;
+use card::RECORD_SIZE;
+use cells::Reason;
+use names::PART_FIELDS;
+use names::PART_NUMBERS;
+use reader::Parsed;
+
+// How many entries a part makes up by itself: NOT none, and a list its test of rows, its AND or OR, and its comparison.
+fn entries_of(kind: usize) -> usize
+    ensures is { λ r. ⌜ r ≡ entriesOfKind kind ⌝ }
+    ensures small { λ r. ⌜ r ≤ 3 ⌝ }
+{
+    match kind {
+        3 => 0,
+        8 | 9 => 3,
+        _ => 1,
+    }
+}
+
+// How many entries n parts make up.
+fn count_entries(p: &[usize; PART_NUMBERS], n: usize) -> usize
+    requires { ⌜ length (now p) ≡ 512 ⌝ ∗ ⌜ n ≤ 64 ⌝ }
+    ensures is { λ r. ⌜ r ≡ entriesIn (now (p .entry)) n ⌝ }
+    ensures small { λ r. ⌜ r ≤ 192 ⌝ }
+{
+    let mut entries: usize = 0;
+    let mut i: usize = 0;
+    while i < n {
+        entries += entries_of(p[PART_FIELDS * i]);
+        i += 1;
+    }
+    entries
+}
+
+// The sizes of a card: its entries, its tables, and the columns of each.
+fn write_sizes(file: &[u8], entries: usize, out: &mut [u8])
+    requires { ⌜ Sized (now file) ⌝ ∗ ⌜ entries < 65536 ⌝ ∗ ⌜ 3 + tableCount (now file) ≤ length (now out) ⌝ }
+    ensures { λ _. ⌜ now (out .exit) ≡ placed (now (out .entry)) 0 (bytes16 entries ++ (length (columnsOf (now (file .entry))) ∷ columnsOf (now (file .entry)))) ⌝ }
+{
+    let tables = cells::byte(file, 0);
+    records::put16(out, 0, entries);
+    out[2] = tables as u8;
+    let mut j: usize = 0;
+    while j < tables {
+        out[3 + j] = cells::table_columns(file, j) as u8;
+        j += 1;
+    }
+}
+
+// The first n kinds, from place i of out on.
+fn copy_kinds(kinds: &[u8; MOST_ENTRIES], n: usize, out: &mut [u8], i: usize)
+    requires { ⌜ length (now kinds) ≡ 192 ⌝ ∗ ⌜ n ≤ 192 ⌝ ∗ ⌜ i + n ≤ length (now out) ⌝ }
+    ensures { λ _. ⌜ now (out .exit) ≡ placed (now (out .entry)) i (take n (now (kinds .entry))) ⌝ }
+{
+    let mut k: usize = 0;
+    while k < n {
+        out[i + k] = kinds[k];
+        k += 1;
+    }
+}
+
+// The card of the rule whose parts p has, of so many entries, at the start of out, which has room for it.
+fn write_card(p: &[usize; PART_NUMBERS], file: &[u8], entries: usize, out: &mut [u8])
+    requires { ⌜ CardReady (now p) (now file) entries (now out) ⌝ }
+    ensures { λ _. ⌜ CardWritten (now (p .entry)) (now (file .entry)) entries (now (out .entry)) (now (out .exit)) ⌝ }
+{
+    let kinds_at = 3 + cells::byte(file, 0);
+    let records_at = kinds_at + entries;
+    let end = records_at + RECORD_SIZE * entries;
+    write_sizes(file, entries, out);
+    let mut kinds = [0u8; MOST_ENTRIES];
+    entries::write_part(p, 0, false, false, &mut kinds, &mut out[records_at..end], 0);
+    copy_kinds(&kinds, entries, out, kinds_at);
+}
+
+pub enum Made {
+    Bytes(usize),
+    NotMade(Reason),
+}
+
+// A refusal of reading, as CARD answers it; it is asked of refusals alone, so what a rule gives here does not matter.
+fn passed_up(parsed: Parsed) -> Made
+    ensures { λ r. ⌜ r ≡ passedUp parsed ⌝ }
+{
+    match parsed {
+        Parsed::Rule(n) => Made::Bytes(n),
+        Parsed::Refused(x) => Made::NotMade(x),
+    }
+}
+
+// CARD: the card of the rule, at the start of out.
+pub fn make_card(text: &[u8], file: &[u8], out: &mut [u8]) -> Made
+    ensures answer { λ r. ⌜ madeAnswer r ≡ cardCall (now (text .entry)) (now (file .entry)) (now (out .entry)) .result ⌝ }
+    ensures written { λ r. ⌜ now (out .exit) ≡ cardCall (now (text .entry)) (now (file .entry)) (now (out .entry)) .buffer ⌝ }
+{
+    let mut p = [0usize; PART_NUMBERS];
+    let parsed = reader::parse(text, file, &mut p);
+    let Parsed::Rule(n) = parsed else {
+        return passed_up(parsed);
+    };
+    let entries = count_entries(&p, n);
+    let length = 3 + cells::byte(file, 0) + (1 + RECORD_SIZE) * entries;
+    if out.len() < length {
+        return Made::NotMade(Reason::Short);
+    }
+    write_card(&p, file, entries, out);
+    Made::Bytes(length)
+}

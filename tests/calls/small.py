@@ -1,0 +1,63 @@
+"""Every kind of test in every kind of place, over tables in which each cell is blank, 0 or 1: small rules, and every small file for them."""
+import itertools
+
+import library  # noqa: F401  (it adds the model's folder to the path)
+
+import generate
+
+CELLS = (None, 0, 1)
+SIGNS = generate.SIGNS
+NOTS = ("", "NOT ", "NOT NOT ")
+
+
+def rows_of(columns, count):
+    """Every content of so many rows."""
+    for cells in itertools.product(CELLS, repeat=columns * count):
+        yield [list(cells[place:place + columns]) for place in range(0, len(cells), columns)]
+
+
+def files(columns):
+    """Files with every row that there is in table 1, and every table 2 of at most two rows of so many columns."""
+    judged = [list(pair) for pair in itertools.product(CELLS, repeat=2)]
+    for count in range(3):
+        for rows in rows_of(columns, count):
+            yield generate.tables_file([(2, judged), (columns, rows)])
+
+
+# ---- rules for a table 2 of one column
+
+def tests():
+    """Each kind of test, each with each sign where it has one."""
+    yield from ("0<1", "1=0", "m.1 IS NULL", "m.1 IS NOT NULL", "1 IS NULL", "1 IS NOT NULL")
+    for sign in SIGNS:
+        yield from (f"m.1{sign}m.2", f"m.1{sign}0", f"1{sign}m.1", f"EXISTS(FROM 2 v WHERE v.1{sign}m.1)")
+    for sign, word in itertools.product(SIGNS, ("SOME", "ALL")):
+        yield f"m.1{sign}{word}(SELECT v.1 FROM 2 v WHERE v.1>=m.2)"
+    for form in ("IN", "NOT IN"):
+        yield f"m.1 {form}(SELECT v.1 FROM 2 v WHERE 1=1)"
+    yield "EXISTS(FROM 2 v WHERE v.1 IS NULL)"
+
+
+JOINS = ("{} AND m.2=1", "m.2=1 AND {}", "{} OR m.2=1", "m.2=1 OR {}", "NOT({} AND m.2=1)", "NOT(m.2=1 OR {})", "NOT(NOT m.2=1 OR NOT {})")
+SOURCES = ("EXISTS(FROM 2 w WHERE {})", "m.2>=SOME(SELECT w.1 FROM 2 w WHERE {})", "m.2<>ALL(SELECT w.1 FROM 2 w WHERE {})")
+
+
+def rules():
+    """Each test under NOTs, beside another test, and as a WHERE, where it is about the row of the FROM."""
+    for test in tests():
+        yield from (nots + test for nots in NOTS)
+        yield from (join.format(test) for join in JOINS)
+        within = test.replace("m.1", "w.1")
+        for outer, source, inner in itertools.product(NOTS[:2], SOURCES, NOTS):
+            yield outer + source.format(inner + within)
+
+
+# ---- rules for a table 2 of two columns
+
+WHERES = ("v.2=m.2", "NOT v.2=m.2", "v.2 IS NULL OR v.2<m.2")
+
+
+def list_rules():
+    """Lists whose WHERE is about another column than the one that they select."""
+    for nots, sign, word, where in itertools.product(NOTS[:2], SIGNS, ("SOME", "ALL"), WHERES):
+        yield f"{nots}m.1{sign}{word}(SELECT v.1 FROM 2 v WHERE {where})"

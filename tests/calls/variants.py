@@ -1,0 +1,72 @@
+"""Texts, numbers and row numbers at the limits of document 01, and bytes that are changed in every place."""
+import itertools
+
+
+# ---- texts, from both sides of the limits
+
+def nested(count, text, letter="v"):
+    """Text under so many FROMs."""
+    for _ in range(count):
+        text = f"EXISTS(FROM 1 {letter} WHERE {text})"
+    return text
+
+
+def limit_texts():
+    """Texts on both sides of the limits of digits, numbers, columns, tables, FROMs and parts."""
+    for digits in (1, 9, 10, 11, 12):
+        yield from ("1=" + "0" * (digits - 1) + "7", "1=-" + "0" * (digits - 1) + "7", "7" * digits + "=1")
+    for number in (-2**31 - 1, -2**31, -2**31 + 1, -1, 0, 1, 2**31 - 1, 2**31, 9999999999):
+        yield from (f"1={number}", f"m.{number}=1", f"EXISTS(FROM {number} v WHERE 1=1)", f"{number} IS NULL")
+    for number in range(-1, 18):
+        yield from (f"m.{number}=1", f"EXISTS(FROM {number} v WHERE v.1=1)", f"EXISTS(FROM 3 v WHERE v.{number}=1)")
+    for froms, core in itertools.product(range(6), ("1=1", "v.1=1", "w.1=1", "1=", "m.1=@")):
+        yield nested(froms, core)
+        yield f"1=1 OR {nested(froms, core)} AND {nested(3, '1=1')}"
+        yield nested(froms, "m.1 NOT IN(SELECT v.1 FROM 2 v WHERE " + core + ")")
+    for froms, core in itertools.product((31, 32, 33), ("1=1", "w.1=1", "1=")):
+        yield nested(froms, core)
+    for parts in (61, 62, 63, 64, 65, 66, 200, 1000):
+        yield from ("NOT " * (parts - 1) + "1=1", "NOT " * (parts - 1) + "k.1=1", "NOT " * (parts - 1) + "1=")
+    for tests in (31, 32, 33, 34, 500):
+        for word in ("AND", "OR"):
+            yield f" {word} ".join(["1=1"] * tests)
+            yield f" {word} ".join(["(1=1)"] * tests)
+        yield "1=1" + " AND 2=2 OR 3=3" * (tests // 2)
+
+
+# ---- columns, numbers, and row numbers
+
+COLUMNS = (5, 2, 16, 7, 1, 9, 3, 12)  # of eight tables, no two of which have as many
+ENDS = (-2**31, -2**31 + 1, -1, 0, 1, 2**31 - 2, 2**31 - 1)
+LAST_ROW = 2**64 - 1
+
+
+def row_numbers(rows):
+    """Row numbers around both ends of a table with so many rows and in its middle, and far ones, of which some would be rows if their high bits were lost."""
+    near = (0, 1, rows // 2, rows - 2, rows - 1, rows, rows + 1)
+    far = (2**16, 2**16 + 1, 2**32, 2**32 + 1, 2**63, LAST_ROW)
+    return [row for row in near + far if row >= 0]
+
+
+# ---- bytes changed
+
+def each_byte(whole):
+    """Each byte changed to each value."""
+    for place, value in itertools.product(range(len(whole)), range(256)):
+        yield whole[:place] + bytes([value]) + whole[place + 1:]
+
+
+def each_length(whole):
+    """Every shorter one."""
+    return (whole[:length] for length in range(len(whole)))
+
+
+def each_left_out_or_doubled(whole):
+    """Each byte left out, and each one twice."""
+    for place in range(len(whole)):
+        yield from (whole[:place] + whole[place + 1:], whole[:place + 1] + whole[place:])
+
+
+def damaged_texts(text):
+    """A text with every byte at every value, cut at every length, and with every byte left out or doubled."""
+    return itertools.chain(each_byte(text), each_length(text), each_left_out_or_doubled(text))
