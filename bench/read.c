@@ -2,17 +2,19 @@
 #define _GNU_SOURCE
 #include "shared.h"
 
-uint32_t roskudla_read(const uint8_t *text, size_t text_len, const uint8_t *tables, size_t tables_len, int32_t *list, size_t list_len, size_t *count);
+struct tagged_value { uint8_t tag; int32_t number; };
+struct part { uint8_t kind, comparison, table, end; struct tagged_value left, right; };
+uint32_t roskudla_read(const uint8_t *text, size_t text_len, const uint8_t *tables, size_t tables_len, struct part *parts, size_t parts_len, size_t *count);
 
-enum { TURNS = 15, TIMES = 400, ROOM = 512 };
+enum { TURNS = 15, TIMES = 400, ROOM = 64 };
 static uint8_t text[1 << 16], tables[1 << 16];
 static size_t text_len, tables_len;
-static int32_t list[ROOM];
+static struct part parts[ROOM];
 static uint32_t status;
 
 static void *once(void *unused) {
     size_t count;
-    status = roskudla_read(text, text_len, tables, tables_len, list, ROOM, &count);
+    status = roskudla_read(text, text_len, tables, tables_len, parts, ROOM, &count);
     return unused;
 }
 

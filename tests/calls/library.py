@@ -73,11 +73,11 @@ MOST_SOURCE_BYTES = 1 << 13
 MOST_FILE_BYTES = 1 << 16
 MOST_LIST_BYTES = 1 << 13
 SLICE = [ctypes.c_void_p, ctypes.c_size_t]
-SIGNED, UNSIGNED, BYTE, SIZE = "i", "I", "B", "Q"
+UNSIGNED, BYTE, SIZE = "I", "B", "Q"
 
 
 class LentList:
-    """Room for a list of numbers at the end of a page: SIGNED and UNSIGNED ones of four bytes, bytes, or sizes."""
+    """Room for a list of numbers at the end of a page: UNSIGNED ones of four bytes, bytes, or sizes."""
 
     def __init__(self, sort, most=MOST_LIST_BYTES):
         self.sort = sort
@@ -91,6 +91,59 @@ class LentList:
     def after(self):
         """The elements as they are now; an error if anything before them was changed."""
         return tuple(array.array(self.sort, self.room.after()))
+
+
+class TaggedValue(ctypes.Structure):
+    """A value of a part as C lays it out."""
+    _fields_ = [("tag", ctypes.c_uint8), ("number", ctypes.c_int32)]
+
+
+class Part(ctypes.Structure):
+    """A part as C lays it out."""
+    _fields_ = [("kind", ctypes.c_uint8), ("comparison", ctypes.c_uint8), ("table", ctypes.c_uint8), ("end", ctypes.c_uint8),
+                ("left", TaggedValue), ("right", TaggedValue)]
+
+
+GAP = 0xA5
+
+
+def part_bytes(part):
+    """A part's bytes as C lays them out, with a pattern in the bytes that belong to no field."""
+    record = Part.from_buffer_copy(bytes([GAP]) * ctypes.sizeof(Part))
+    record.kind, record.comparison, record.table, record.end = part.kind, part.comparison, part.table, part.end
+    for value, wanted in ((record.left, part.left), (record.right, part.right)):
+        value.tag, value.number = wanted.tag, wanted.number
+    return bytes(record)
+
+
+def part_from(some):
+    """The part of some bytes."""
+    record = Part.from_buffer_copy(some)
+    left, right = (model.TaggedValue(value.tag, value.number) for value in (record.left, record.right))
+    return model.Part(record.kind, record.comparison, record.table, record.end, left, right)
+
+
+class LentParts:
+    """Room for a list of parts at the end of a page."""
+
+    def __init__(self):
+        self.room = EndOfPage(MOST_LIST_BYTES)
+
+    def put(self, parts):
+        """The list, as a pointer to its first part and a length in parts."""
+        start, _ = self.room.put(b"".join(part_bytes(part) for part in parts))
+        return start, len(parts)
+
+    def after(self):
+        """The parts as they are now; an error if anything before them was changed."""
+        some, size = self.room.after(), ctypes.sizeof(Part)
+        return tuple(part_from(some[place:place + size]) for place in range(0, len(some), size))
+
+    def untouched_from(self, count):
+        """An error if any byte past so many parts was changed, those that belong to no field too."""
+        place = count * ctypes.sizeof(Part)
+        if self.room.after()[place:] != self.room.some[place:]:
+            raise OutsideWritten("a call changed the list past its answer")
 
 
 class Answer:
@@ -162,17 +215,19 @@ class Calls:
 
 
 class Rules(Calls):
-    """READ, JUDGE and CARD of the library, answering as the model does, but that READ's list holds numbers, eight for each part."""
+    """READ, JUDGE and CARD of the library, answering as the model does."""
 
     def __init__(self, library):
         super().__init__(library)
-        self.numbers, self.cards = LentList(SIGNED), LentList(BYTE)
+        self.parts, self.cards = LentParts(), LentList(BYTE)
         self.read_call, self.card_call = self.lending_call("roskudla_read"), self.lending_call("roskudla_card")
         self.judge_call = self.answering_call("roskudla_judge")
 
-    def read(self, text, file, numbers):
+    def read(self, text, file, parts):
         """READ's answer, a count of parts or a refusal, and the lent list afterwards."""
-        return self.lend(self.read_call, text, file, self.numbers, numbers)
+        result, after = self.lend(self.read_call, text, file, self.parts, parts)
+        self.parts.untouched_from(0 if isinstance(result, model.Refused) else result)
+        return result, after
 
     def judge(self, text, file, row):
         return self.ask(self.judge_call, text, file, row, {0: model.FALSE, 1: model.UNKNOWN, 2: model.TRUE})

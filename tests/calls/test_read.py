@@ -22,8 +22,7 @@ SEED = 20261115
 DRAWS = 12000
 SPACED_RULES = 150
 LONG_TEXTS = 150
-AMPLE_NUMBERS = 600
-UNTOUCHED = -77
+ROOM = 70
 TABLES = cases.SOME_TABLES
 
 
@@ -36,9 +35,7 @@ WANTED = read_sorts(*cases.REFUSALS_OF["READ"])
 
 
 def answer_of(reader, case):
-    """The library's answer to a case, with its list taken as parts again; the list of a case holds whole parts."""
-    result, after = reader.read(case.source, case.file, cases.numbers_of(case.buffer))
-    return cases.Expected(result, cases.parts_from(after))
+    return cases.Expected(*reader.read(case.source, case.file, case.buffer))
 
 
 def read_case(text, more=1):
@@ -47,11 +44,17 @@ def read_case(text, more=1):
 
 # ---- answers that are written down
 
+def different_parts(room):
+    """So many parts, no two of them alike, and none that a rule has."""
+    return tuple(model.Part(200, place, 255 - place, 99, model.TaggedValue(place, -1 - place), model.TaggedValue(7, place)) for place in range(room))
+
+
 def check_written(reader, text, file, wanted):
     """The sort of an answer that is written down: a refusal, or the numbers of the parts. The library has to give it, and the model too."""
-    lent = (UNTOUCHED,) * AMPLE_NUMBERS
+    lent = different_parts(ROOM)
     refused = isinstance(wanted, model.Refused)
-    stated = (wanted, lent) if refused else (len(wanted) // cases.PART_NUMBERS, wanted + lent[len(wanted):])
+    written = () if refused else cases.parts_from(wanted)
+    stated = (wanted, lent) if refused else (len(written), written + lent[len(written):])
     compare.same(text, reader.read(text, file, lent), stated)
     parts = model.read(text, file, cases.AMPLE_ROOM)
     compare.same(f"{text} by the model", parts if isinstance(parts, model.Refused) else cases.numbers_of(parts), wanted)
@@ -206,22 +209,22 @@ GROUPS = (
 # ---- lists of every length
 
 def check_rooms(reader):
-    """Lists with every number of elements around what the parts need, also where the last part would have room in part."""
+    """Lists with room for every number of parts around what is needed."""
     texts = (b"1=1", b"NOT m.1=m.2", b" OR ".join([b"m.1<>-1"] * 32), b"m.1 = SOME (SELECT m.1 FROM 2 m WHERE m.1 = 1)", b"k.1=1", b"1=")
     seen = collections.Counter()
     for text in texts:
         parts = model.read(text, TABLES, cases.AMPLE_ROOM)
-        wanted = () if isinstance(parts, model.Refused) else cases.numbers_of(parts)
-        for room in range(len(wanted) + 2 * cases.PART_NUMBERS + 1):
-            lent = tuple(range(-room, 0))
+        wanted = () if isinstance(parts, model.Refused) else tuple(parts)
+        for room in range(len(wanted) + 3):
+            lent = different_parts(room)
             if isinstance(parts, model.Refused):
                 sort, stated = f"refused {parts.number}", (parts, lent)
             elif room < len(wanted):
                 sort, stated = "refused 12", (model.Refused(12), lent)
             else:
-                sort, stated = "given", (len(parts), wanted + lent[len(wanted):])
+                sort, stated = "given", (len(wanted), wanted + lent[len(wanted):])
             if reader.read(text, TABLES, lent) != stated:
-                raise compare.Disagreement(f"{text} into {room} elements")
+                raise compare.Disagreement(f"{text} into a list of {room}")
             seen["READ", sort] += 1
     compare.agreed("lists of every length", seen, read_sorts(6, 8, 12))
 

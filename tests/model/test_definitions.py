@@ -50,7 +50,8 @@ use lib.ListN.{replicate}
 use Rattle.tables.specs.Refusals.{Answer, Refused, Given, Lent}
 use Rattle.card.specs.Calls.{checkCall, runCall, listCall}
 use Rattle.card.proofs.Opened.{opened as card-opened}
-use Rattle.rule.specs.Parts.{TaggedValue, Part}
+use Rattle.rule.specs.declared.TaggedValue.{TaggedValue}
+use Rattle.rule.specs.declared.Part.{Part}
 use Rattle.rule.specs.Meaning.{Truth, True, False, Unknown}
 use Rattle.rule.specs.Calls.{readCall, judgeCall}
 use Rattle.rule.proofs.Opened.{opened as rule-opened}

@@ -18,7 +18,7 @@ use Rattle.card.specs.Calls.{listCall}
 use Rattle.rule.specs.Condition.{Rule}
 use Rattle.rule.specs.Calls.{ruleOf, readingRefusals, Accepted, withRule, trueRows, admitCall}
 use Rattle.rule.proofs.Accepted.{accepted-allowed}
-use Rattle.reader.proofs.Known.{known}
+use Rattle.parser.proofs.Known.{known}
 use Rattle.translation.specs.Calls.{ruleBytes, cardCall}
 use Rattle.translation.specs.Demand3.{Later, publishedLength, Demand3For}
 use Rattle.translation.proofs.Demand3.{few-lists, demand-3-claim}

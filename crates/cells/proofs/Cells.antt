@@ -1,22 +1,21 @@
 -- The sizes of a tables file, table by table: where a table's cells start, and what is known of a file that is not refused with 1.
 use mathlib.Core.Path.{_≡_, refl, sym, ap, ap₂, subst, _∙_}
-use mathlib.Core.Bool.{Bool, true, false, not, cond, _&&_, and-true, and-false}
+use mathlib.Core.Bool.{Bool, true, false, _&&_, and-true, and-false}
 use mathlib.Core.List.{List, map}
 use Prim.Native.Nat.{ℕ, zero, suc, _+_, _-_, _*_, _/_, _%_, _≤_, _<_}
 use native.Mathlib.Nat.{le-of-suc-le-suc, not-suc-le-zero}
 use native.Mathlib.Numerals.{add-one}
 use native.Mathlib.Omega.{arith}
-use borrow.Author.Tests.{le-leb, lt-leb, ne-eqb}
+use borrow.Author.Tests.{le-leb, lt-leb}
 use lib.Dec.{T, leb, eqb, leb→le, eqb→eq}
 use lib.Ieee.Fits.{and-l, and-r}
 use lib.ListN.{length, getD, take, set, length-set}
 use Rattle.tables.specs.Lists.{tabulate, all, total}
-use Rattle.tables.specs.Bytes.{between, byteAt, word32}
-use Rattle.tables.specs.Tables.{mostTables, mostColumns, mostRows, mostCells, highestMark, Size, tableCount, sizeAt, sizes, cellsIn, cellsBefore, cellCount, valuesAt, marksAt, markOf, sizeFits, sizesFit, marksFit, Blank, Present, cellFrom, cellAt}
-use Rattle.cells.specs.Code.{excess, fromExcess, Holds, SizeIn, Sized, placesOf, placeOf, Places, CellIn}
+use Rattle.tables.specs.Bytes.{between, byteAt}
+use Rattle.tables.specs.Tables.{mostTables, mostColumns, mostRows, mostCells, highestMark, Size, tableCount, sizeAt, sizes, cellsIn, cellsBefore, cellCount, valuesAt, marksAt, markOf, sizeFits, sizesFit, marksFit}
+use Rattle.cells.specs.Code.{Holds, SizeIn, Sized, placesOf, placeOf, Places}
 use Rattle.tables.proofs.Tests.{is-so, refuted}
 use Rattle.tables.proofs.Tabulated.{all-each, all-of, all-more}
-use Rattle.cells.proofs.Signed.{signed-excess}
 use Rattle.cells.proofs.Holding.{holds-more, holds-none}
 
 -- ---- sums
@@ -128,20 +127,6 @@ size-no file j f = sym (refuted (sizeFits (sizeAt file j)) (λ t. f (size-in fil
 pub size-last : (file : List ℕ) (j columns rows : ℕ) → columns ≡ sizeAt file j .columns → rows ≡ sizeAt file j .rows → 1 ≤ columns → columns ≤ mostColumns
     → leb rows mostRows ≡ sizeFits (sizeAt file j)
 size-last file j columns rows p q low high = rw (← p, ← q, le-leb 1 columns low, le-leb columns mostColumns high)
-
--- ---- a cell
-
-pub cell-seen : (file : List ℕ) (values marks k mark number : ℕ) → CellIn file values marks k → mark ≡ byteAt file (marks + k)
-    → number ≡ excess (word32 file (values + 4 * k)) → word32 file (values + 4 * k) < 4294967296
-    → cond (not (eqb mark 0)) Blank (Present (fromExcess number)) ≡ cellAt file k
-unfolding cellAt
-cell-seen file values marks k mark number h p q small =
-    go mark
-    ∙ ap₂ cellFrom (p ∙ ap (λ (x : ℕ). byteAt file (x + k)) (h .marks-at)) (ap (λ (x : ℕ). word32 file (x + 4 * k)) (h .values-at))
-  where
-    go : (m : ℕ) → cond (not (eqb m 0)) Blank (Present (fromExcess number)) ≡ cellFrom m (word32 file (values + 4 * k))
-    go zero = ap Present (ap fromExcess q ∙ sym (signed-excess _ small))
-    go (suc m) = rw (ne-eqb (suc m) 0 (λ e. omega arith))
 
 -- ---- what the code adds up
 

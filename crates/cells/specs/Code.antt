@@ -8,6 +8,7 @@ use lib.IntN.{ℤ, pos, negsuc, subℕ}
 use lib.ListN.{length, getD}
 use Rattle.tables.specs.Tables.{mostTables, mostColumns, mostRows, mostCells, Cell, Blank, Present, tableCount, sizeAt, cellsBefore, cellCount, valuesAt, marksAt}
 use Rattle.cells.specs.declared.Seen.{Seen}
+use Rattle.cells.specs.declared.Place.{Place}
 
 -- ---- numbers with a sign
 
@@ -58,13 +59,10 @@ placeOf file q = getD (placesOf file (q / 3)) (q % 3) 0
 abbrev pub Places : List ℕ → List ℕ → Type 0
 Places file g = Holds g (3 * tableCount file + 3) (placeOf file)
 
+-- where table t stands, by such an array
+abbrev pub placeIn : List ℕ → ℕ → Place
+placeIn g t = record { values = getD g 0 0; marks = getD g 1 0; first = getD g (3 * t) 0; columns = getD g (3 * t + 1) 0; rows = getD g (3 * t + 2) 0 }
+
 -- the cell that was seen
 abbrev pub seenCell : Seen → Cell
 seenCell s = cond (s .blank) Blank (Present (fromExcess (s .number)))
-
--- what looking at cell k asks
-pub record CellIn (file : List ℕ) (values marks k : ℕ) : Type 0 where
-  pub sized : Sized file
-  pub values-at : values ≡ valuesAt file
-  pub marks-at : marks ≡ marksAt file
-  pub within : k < cellCount file

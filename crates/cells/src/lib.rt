@@ -1,12 +1,12 @@
-// The bytes of a tables file: which files are refused, their sizes, and the mark and the value of a cell.
+// The bytes of a tables file: which files are refused, their sizes, where their tables stand, and what is seen of a cell.
 ghost use mathlib.Core.Path.{_≡_};
-ghost use Prim.Native.Nat.{_+_, _*_, _<_};
+ghost use Prim.Native.Nat.{_+_, _*_, _<_, _≤_};
 ghost use lib.ListN.{length};
 ghost use Rattle.tables.specs.Bytes.{byteAt, word16, word32};
-ghost use Rattle.tables.specs.Tables.{sizeAt, cellCount, sizesFit, sizeFits, marksFit, cellAt};
+ghost use Rattle.tables.specs.Tables.{sizeAt, cellCount, sizesFit, sizeFits, marksFit};
 ghost use Rattle.tables.specs.Refusals.{tablesCall};
 ghost use Rattle.cells.specs.Reasons.{reasonNumber, validityAnswer};
-ghost use Rattle.cells.specs.Code.{excess, Sized, Places, seenCell, CellIn};
+ghost use Rattle.cells.specs.Code.{excess, Sized, Places, placeIn};
 
 // Limits on a tables file.
 pub const MOST_TABLES: usize = 8;
@@ -237,21 +237,32 @@ pub fn places(file: &[u8], g: &mut [usize; PLACES])
     }
 }
 
+// Where the cells of a table, or of a part of it, stand: where the file's values and marks start, the number of the first cell, and how many columns and
+// rows there are.
+pub struct Place {
+    pub values: usize,
+    pub marks: usize,
+    pub first: usize,
+    pub columns: usize,
+    pub rows: usize,
+}
+
+// Where table t stands, from the numbers that `places` left; tables are numbered from 1.
+pub fn table_place(g: &[usize; PLACES], t: usize) -> Place
+    requires { ⌜ t ≤ 8 ⌝ }
+    ensures { λ r. ⌜ r ≡ placeIn (now (g .entry)) t ⌝ }
+{
+    Place {
+        values: g[0],
+        marks: g[1],
+        first: g[3 * t],
+        columns: g[3 * t + 1],
+        rows: g[3 * t + 2],
+    }
+}
+
 // What is seen of a cell: whether it is blank, and its number plus 2 ^ 31.
 pub struct Seen {
     pub blank: bool,
     pub number: usize,
-}
-
-// Cell k of all. Both are read whatever the mark says: a branch on the mark would cost more than the read.
-pub fn cell(file: &[u8], values: usize, marks: usize, k: usize) -> Seen
-    requires { ⌜ CellIn (now file) values marks k ⌝ }
-    ensures { λ r. ⌜ seenCell r ≡ cellAt (now (file .entry)) k ⌝ }
-{
-    let mark = byte(file, marks + k);
-    let number = read_excess(file, values + 4 * k);
-    Seen {
-        blank: mark != 0,
-        number,
-    }
 }

@@ -21,13 +21,14 @@ use Rattle.cells.specs.Code.{fromExcess}
 use Rattle.card.specs.Card.{mostRowEntries, Leaf, Card, LeafEntry, PairEntry, RowEntry, leafFits, rowEntryFits, cardFits}
 use Rattle.card.specs.Layout.{LeafHead, PairHead, RowHead, entryCount, tablesIn, columnsIn, kindAt, recordAt, endAt, headFrom, cardFrom}
 use Rattle.card.specs.Sound.{laid, holdsFitting, sound}
-use Rattle.checker.specs.Code.{Laid, Decoded, kindIn, endIn, tableIn, leftIn, rightIn, headIn, Coded, coded-leaf, coded-pair, coded-row, Fitting, Checks, LevelsIn, Checkable}
+use Rattle.decoder.specs.Code.{Laid, Decoded, kindIn, endIn, tableIn, leftIn, rightIn, headIn, Coded, coded-leaf, coded-pair, coded-row}
+use Rattle.checker.specs.Code.{Fitting, Checks, LevelsIn, Checkable}
 use Rattle.values.specs.Code.{valueIn}
 use Rattle.tables.proofs.Tests.{is-true, both, bounds}
 use Rattle.tables.proofs.Tabulated.{tabulate-at}
-use Rattle.checker.proofs.Coded.{head-1, head-2, head-3, head-4, head-5, head-6, head-7, head-8, kind-pair, kind-row, kind-leaf, coded-less, coded-end, pair-of, row-of, leaf-of, card-coded, coded-card}
+use Rattle.decoder.proofs.Coded.{head-1, head-2, head-3, head-4, head-5, head-6, head-7, head-8, kind-pair, kind-row, kind-leaf, coded-less, coded-end, pair-of, row-of, leaf-of, card-coded, coded-card}
 use Rattle.card.proofs.Exact.{sound-passed}
-use Rattle.checker.proofs.Decoding.{columns-length, head-decoded, end-decoded}
+use Rattle.decoder.proofs.Decoding.{columns-length, head-decoded, end-decoded}
 
 -- ---- the columns of a table
 

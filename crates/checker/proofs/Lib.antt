@@ -1,4 +1,2 @@
-pub mod Decoding
-pub mod Coded
 pub mod Checking
 pub mod Told

@@ -1,14 +1,13 @@
 -- The card of a rule, negated or not, by what the rule is.
 use mathlib.Core.Path.{_≡_, refl, ap, ap₂}
 use mathlib.Core.Bool.{Bool, true, false, not, cond}
-use Prim.Native.Nat.{ℕ, _≤_}
-use native.Mathlib.Omega.{arith}
+use Prim.Native.Nat.{ℕ}
 use Rattle.tables.specs.Values.{Value, Comparison, Eq, Ne, Lt, Le, Gt, Ge, Connective, And, Or, Quantifier, Some, All}
-use Rattle.card.specs.Card.{Interpretation, AsNo, AsYes, Leaf, CompareLeaf, BlankLeaf, NotBlankLeaf, Card, LeafEntry, PairEntry, RowEntry, entries}
+use Rattle.card.specs.Card.{Interpretation, AsNo, AsYes, Leaf, CompareLeaf, BlankLeaf, NotBlankLeaf, Card, LeafEntry, PairEntry, RowEntry}
 use Rattle.card.specs.Layout.{PairHead, RowHead, kindOf}
 use Rattle.rule.specs.Condition.{Test, Atom, Join, Not, Exists, Listed, Rule}
 use Rattle.translation.specs.Translation.{other, otherConnective, otherQuantifier, otherComparison, otherLeaf, negated, leafOf, cardOf}
-use Rattle.reader.proofs.Parts.{joinKind}
+use Rattle.parser.proofs.Parts.{joinKind}
 use Rattle.records.specs.Code.{pairKindAs, rowKindAs}
 use Rattle.entries.specs.Code.{interpretationOf, leafAs, cardAs}
 

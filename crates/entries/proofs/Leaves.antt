@@ -11,7 +11,7 @@ use Rattle.tables.specs.Values.{Value, Comparison, Eq, Ne, Lt, Le, Gt, Ge, comp
 use Rattle.card.specs.Card.{Interpretation, Leaf, CompareLeaf, LeafEntry, entries}
 use Rattle.card.specs.Layout.{LeafHead, kindOf, valueBytes, noValue, fieldBytes, kindBytes, recordsFrom}
 use Rattle.translation.specs.Translation.{otherComparison}
-use Rattle.reader.proofs.Small.{comparison-small}
+use Rattle.parser.proofs.Small.{comparison-small}
 use Rattle.records.specs.declared.LeafNumbers.{LeafNumbers}
 use Rattle.records.specs.Code.{byteNumber, LeafAt, LeafWritten, comparisonAs, compareKindAs, nullKindAs}
 use Rattle.records.proofs.Flags.{compare-kind-small, null-kind-small}
@@ -100,9 +100,9 @@ module _ {p : List ℕ} {s : ℕ} {kinds records : List ℕ} {k : ℕ} where
           kind-small = omega (arith, is-kind, compare-kind-small negate unknown);
           comparison-small = omega (arith, op-is, comparison-small (cond negate (otherComparison (h .comparison)) (h .comparison)));
           left-tag-small = s .left-tag;
-          left-small = s .left-number .constant;
+          left-small = s .left-number .whole;
           right-tag-small = s .right-tag;
-          right-small = s .right-number .constant;
+          right-small = s .right-number .whole;
         }
 
     pub compare-written : {kinds′ records′ : List ℕ} → LeafWritten kinds records kinds′ records′ k compareNumbers
@@ -141,7 +141,7 @@ module _ {p : List ℕ} {s : ℕ} {kinds records : List ℕ} {k : ℕ} where
           kind-small = omega (arith, kind-told, null-kind-small negate (h .blank));
           comparison-small = omega arith;
           left-tag-small = s .left-tag;
-          left-small = s .left-number .constant;
+          left-small = s .left-number .whole;
           right-tag-small = omega arith;
           right-small = omega arith;
         }

@@ -17,9 +17,9 @@ use Rattle.card.specs.Layout.{PairHead, kindOf as cardKind, valueBytes}
 use Rattle.rule.specs.Condition.{Compare, IsNull, IsNotNull, parts, fromsDeep}
 use Rattle.rule.specs.Names.{ValueFits, Fits}
 use Rattle.rule.specs.Parts.{taggedOf}
-use Rattle.reader.specs.Code.{SmallPart}
-use Rattle.reader.proofs.Small.{heldNumber}
-use Rattle.reader.proofs.Parts.{parts-low, listedKind, part-comparison, part-table, part-left-tag, part-left-number, part-right-tag, part-right-number, IsJoin, IsNot, IsCompare, IsExists, IsListed, is-join, is-not, is-compare, is-blank, is-present, is-exists, is-listed}
+use Rattle.parser.specs.Parts.{SmallPart}
+use Rattle.parser.proofs.Small.{heldNumber}
+use Rattle.parser.proofs.Parts.{parts-low, listedKind, part-comparison, part-table, part-left-tag, part-left-number, part-right-tag, part-right-number, IsJoin, IsNot, IsCompare, IsExists, IsListed, is-join, is-not, is-compare, is-blank, is-present, is-exists, is-listed}
 use Rattle.records.specs.Code.{byteNumber, plainRecord, pairKindAs, rowKindAs}
 use Rattle.records.proofs.Flags.{row-small}
 use Rattle.entries.specs.Code.{interpretationOf, leafAs, nullLeaf, cardAs, Room, Wrote, valueBytesIn, CompareReady, ComparedTo, NullReady, NulledTo, Writable, WroteTo}

@@ -13,8 +13,7 @@ use Rattle.card.specs.Layout.{valueBytes, kindBytes, recordsFrom}
 use Rattle.rule.specs.Condition.{Rule, parts, fromsDeep}
 use Rattle.rule.specs.Names.{Fits}
 use Rattle.translation.specs.Translation.{otherLeaf, negated, cardOf}
-use Rattle.reader.specs.Code.{SmallPart, SmallParts}
-use Rattle.reader.specs.Parts.{Stands}
+use Rattle.parser.specs.Parts.{Stands, SmallPart, SmallParts}
 use Rattle.records.specs.Code.{byteNumber}
 
 -- ---- the card of a rule: false- or true-interpreted, and negated or not

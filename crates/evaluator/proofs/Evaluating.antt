@@ -7,20 +7,21 @@ use native.Mathlib.Numerals.{add-one}
 use native.Mathlib.Omega.{arith}
 use lib.ListN.{length, getD, set}
 use Rattle.tables.specs.Lists.{tabulate, any, keep}
-use Rattle.tables.specs.Tables.{mostTables, mostRows, mostCells, Row, columnsOf, tablesOf, rowsOf}
+use Rattle.tables.specs.Tables.{mostTables, mostCells, Row, columnsOf, tablesOf, rowsOf}
 use Rattle.tables.specs.Values.{comparisonOf, Connective, And, Or, Quantifier, Some, All, Env, _▸_, cellOf}
 use Rattle.tables.proofs.Values.{comparison-back}
 use Rattle.tables.proofs.Tabulated.{tabulate-map}
-use Rattle.cells.specs.Code.{seenCell}
+use Rattle.cells.specs.Code.{seenCell, placeIn}
 use Rattle.cells.specs.declared.Seen.{Seen}
-use Rattle.values.specs.Code.{rowFrom, ValueReady, Sees}
+use Rattle.cells.specs.declared.Place.{Place}
+use Rattle.values.specs.Code.{rowFrom, Readable, ValueReady, Sees}
 use Rattle.values.proofs.Rows.{TableAt}
-use Rattle.values.proofs.Ranging.{firstAt, columnsAt, rowsAt, NextRow, next-none, next-more, table-bounds, table-here, row-deep, row-room as room-at, row-readable}
+use Rattle.values.proofs.Ranging.{NextRow, next-none, next-more, table-bounds, table-here, row-deep, row-room as room-at, row-readable}
 use Rattle.rule.specs.Condition.{Atom, Join, Not, Exists, Listed, Rule, parts, fromsDeep}
 use Rattle.rule.specs.Names.{ValueFits, TestFits, TableFits, Fits}
 use Rattle.rule.specs.Meaning.{Truth, False, truth, isTrue, compare3, join3, over3, meaning, truthNumber}
-use Rattle.reader.specs.Parts.{Stands}
-use Rattle.reader.proofs.Parts.{parts-low, kind-low, kind-high, part-comparison, part-table, part-left-tag, part-left-number, part-right-tag, part-right-number, joinKind, listedKind, IsTest, IsJoin, IsNot, IsExists, IsListed, is-test, is-join, is-not, is-exists, is-listed}
+use Rattle.parser.specs.Parts.{Stands}
+use Rattle.parser.proofs.Parts.{parts-low, kind-low, kind-high, part-comparison, part-table, part-left-tag, part-left-number, part-right-tag, part-right-number, joinKind, listedKind, IsTest, IsJoin, IsNot, IsExists, IsListed, is-test, is-join, is-not, is-exists, is-listed}
 use Rattle.evaluator.specs.Code.{unlessUnknown, emptyOver, listKind, OverNone, TestReady, TestEvaluated, Evaluable, Evaluates, RowReady, RowEvaluated}
 use Rattle.evaluator.proofs.Truths.{rank-high, and-rank, or-rank, not-rank, and-stop, or-stop, is-kept, not-kept, emptyTruth, empty-rank, over-kept, exists-some, over-more, over-stop, over-on, quantifierBy, none-rank, none-open, more-open, none-of, none-is}
 use Rattle.evaluator.proofs.Testing.{value-ready, value-seen}
@@ -76,39 +77,39 @@ rowValue file env (Listed q op l s t w) k columns =
     (compare3 op (cellOf env l) (cellOf (env ▸ rowFrom file k columns) s))
     (emptyTruth q)
 
--- the first r rows of a table have passed and none decided; value is what they come to
-pub record RowsPassed (p g file w : List ℕ) (s depth empty start columns rows r first value : ℕ) (v : List ℕ) : Type 0 where
-  pub within : r ≤ rows
-  pub next : NextRow w depth start columns r first v
+-- the first r rows of the table at a place have passed and none decided; value is what they come to
+pub record RowsPassed (p g file w : List ℕ) (s depth empty : ℕ) (at : Place) (r first value : ℕ) (v : List ℕ) : Type 0 where
+  pub within : r ≤ at .rows
+  pub next : NextRow w depth (at .first) (at .columns) r first v
   pub undecided : value ≡ 2 - empty → ⊥
   pub value-is : (h : Evaluable p g file w s depth)
-      → value ≡ truthNumber (over3 (quantifierBy empty) (tabulate r (λ k. rowValue file (h .env) (h .rule) (start + k * columns) columns)))
+      → value ≡ truthNumber (over3 (quantifierBy empty) (tabulate r (λ k. rowValue file (h .env) (h .rule) (at .first + k * at .columns) (at .columns))))
 
-module _ (p g file w : List ℕ) (s depth empty start columns rows : ℕ) (is : empty ≡ emptyOver (quantifierBy empty)) where
-  pub passed-none : length w ≡ 4 → RowsPassed p g file w s depth empty start columns rows 0 start empty w
+module _ (p g file w : List ℕ) (s depth empty : ℕ) (at : Place) (is : empty ≡ emptyOver (quantifierBy empty)) where
+  pub passed-none : length w ≡ 4 → RowsPassed p g file w s depth empty at 0 (at .first) empty w
   passed-none long =
       record {
         within = omega arith;
-        next = next-none w depth start columns long;
+        next = next-none w depth (at .first) (at .columns) long;
         undecided = none-open (quantifierBy empty) empty is;
         value-is = λ h. is ∙ none-rank (quantifierBy empty);
       }
 
-  module _ {r first value : ℕ} {v : List ℕ} (passed : RowsPassed p g file w s depth empty start columns rows r first value v) (below : r < rows)
-      (row : ℕ) (undecides : row ≡ 2 - empty → ⊥) (row-is : (h : Evaluable p g file w s depth) → row ≡ truthNumber (rowValue file (h .env) (h .rule) first columns)) where
+  module _ {r first value : ℕ} {v : List ℕ} (passed : RowsPassed p g file w s depth empty at r first value v) (below : r < at .rows)
+      (row : ℕ) (undecides : row ≡ 2 - empty → ⊥) (row-is : (h : Evaluable p g file w s depth) → row ≡ truthNumber (rowValue file (h .env) (h .rule) first (at .columns))) where
     more-value : (h : Evaluable p g file w s depth)
-        → unlessUnknown row value ≡ truthNumber (over3 (quantifierBy empty) (tabulate (suc r) (λ k. rowValue file (h .env) (h .rule) (start + k * columns) columns)))
+        → unlessUnknown row value ≡ truthNumber (over3 (quantifierBy empty) (tabulate (suc r) (λ k. rowValue file (h .env) (h .rule) (at .first + k * at .columns) (at .columns))))
     more-value h =
         let q = quantifierBy empty in
-        let f : ℕ → Truth = λ k. rowValue file (h .env) (h .rule) (start + k * columns) columns in
-        let next : row ≡ truthNumber (f r) = row-is h ∙ ap (λ (k : ℕ). truthNumber (rowValue file (h .env) (h .rule) k columns)) (passed .next .first-is) in
+        let f : ℕ → Truth = λ k. rowValue file (h .env) (h .rule) (at .first + k * at .columns) (at .columns) in
+        let next : row ≡ truthNumber (f r) = row-is h ∙ ap (λ (k : ℕ). truthNumber (rowValue file (h .env) (h .rule) k (at .columns))) (passed .next .first-is) in
         let so-far = passed .value-is h in
         let end : 2 - emptyOver q ≡ 2 - empty = ap (2 -_) (sym is) in
         ap₂ unlessUnknown next so-far
         ∙ over-on q (over3 q (tabulate r f)) (f r) (λ e. passed .undecided (so-far ∙ e ∙ end)) (λ e. undecides (next ∙ e ∙ end))
         ∙ ap truthNumber (sym (over-more q r f))
 
-    pub passed-more : (now : ℕ) → now ≡ unlessUnknown row value → RowsPassed p g file w s depth empty start columns rows (r + 1) (first + columns) now (set v depth first)
+    pub passed-more : (now : ℕ) → now ≡ unlessUnknown row value → RowsPassed p g file w s depth empty at (r + 1) (first + at .columns) now (set v depth first)
     passed-more now e =
         record {
           within = omega arith;
@@ -289,27 +290,36 @@ module _ {p g file w : List ℕ} {s depth : ℕ} (h : Evaluable p g file w s dep
     pub high : tableHere ≤ mostTables
     pub shallow : depth < 4
     pub next : s + 1 < 64
-    pub few : rowsAt g tableHere ≤ mostRows
 
   module _ (a : Ranging) where
-    table : TableAt file tableHere (firstAt g tableHere) (columnsAt g tableHere) (rowsAt g tableHere)
-    table = table-here (h .readable) tableHere (a .table-fits)
-
     pub range-bounds : RangeBounds
     range-bounds =
         let t = table-bounds (h .readable) tableHere (a .table-fits) in
         let r = a .inner-room in
         let f = a .inner-few in
         let l = parts-low (a .inner) in
-        record { low = t .0; high = t .1; shallow = omega arith; next = omega arith; few = table .few }
+        record { low = t .0; high = t .1; shallow = omega arith; next = omega arith }
+
+  -- at is where that table stands
+  module _ (a : Ranging) {at : Place} (there : at ≡ placeIn g tableHere) where
+    table : TableAt file tableHere (at .first) (at .columns) (at .rows)
+    table = subst (λ o. TableAt file tableHere (o .first) (o .columns) (o .rows)) (sym there) (table-here (h .readable) tableHere (a .table-fits))
 
     abbrev rowHere : ℕ → Row
-    rowHere first = rowFrom file first (columnsAt g tableHere)
+    rowHere first = rowFrom file first (at .columns)
 
-    module _ {empty r first value : ℕ} {v : List ℕ} (below : r < rowsAt g tableHere)
-        (passed : RowsPassed p g file w s depth empty (firstAt g tableHere) (columnsAt g tableHere) (rowsAt g tableHere) r first value v) where
-      pub row-room : first + columnsAt g tableHere ≤ mostCells
-      row-room = room-at (h .readable) tableHere (a .table-fits) (h .deep) below (passed .next)
+    module _ {empty r first value : ℕ} {v : List ℕ} (below : r < at .rows) (passed : RowsPassed p g file w s depth empty at r first value v) where
+      abbrev NextAt : Place → Type 0
+      NextAt o = (r < o .rows) × NextRow w depth (o .first) (o .columns) r first v
+
+      next-at : NextAt (placeIn g tableHere)
+      next-at = subst NextAt there (below, passed .next)
+
+      pub row-room : first + at .columns ≤ mostCells
+      row-room = rw there (room-at (h .readable) tableHere (a .table-fits) (h .deep) (next-at .0) (next-at .1))
+
+      row-seen : Readable g file (set v depth first) (h .levels ++ (tableHere ∷ [])) (h .env ▸ rowHere first)
+      row-seen = rw there (row-readable (h .readable) tableHere (a .table-fits) (h .deep) (next-at .0) (next-at .1) (range-bounds a .shallow))
 
       pub row-inner : Evaluable p g file (set v depth first) (s + 1) (depth + 1)
       row-inner =
@@ -317,7 +327,7 @@ module _ {p g file w : List ℕ} {s depth : ℕ} (h : Evaluable p g file w s dep
             levels = h .levels ++ (tableHere ∷ []);
             env = h .env ▸ rowHere first;
             rule = a .inner;
-            readable = row-readable (h .readable) tableHere (a .table-fits) (h .deep) below (passed .next) (range-bounds .shallow);
+            readable = row-seen;
             size = h .size;
             few = a .inner-few;
             stands = a .inner-stands;
@@ -328,23 +338,23 @@ module _ {p g file w : List ℕ} {s depth : ℕ} (h : Evaluable p g file w s dep
 
     -- its rows as a whole, and one after the other
     abbrev rowsHere : ℕ → List Truth
-    rowsHere n = tabulate n (λ k. rowValue file (h .env) (h .rule) (firstAt g tableHere + k * columnsAt g tableHere) (columnsAt g tableHere))
+    rowsHere n = tabulate n (λ k. rowValue file (h .env) (h .rule) (at .first + k * at .columns) (at .columns))
 
     module _ {empty r first value : ℕ} {v : List ℕ} (is : empty ≡ emptyOver (quantifierBy empty))
-        (whole : over3 (quantifierBy empty) (rowsHere (rowsAt g tableHere)) ≡ meaning (tablesOf file) (h .env) (h .rule))
-        (passed : RowsPassed p g file w s depth empty (firstAt g tableHere) (columnsAt g tableHere) (rowsAt g tableHere) r first value v) where
-      row-decides : r < rowsAt g tableHere → (row : ℕ) → row ≡ truthNumber (rowValue file (h .env) (h .rule) first (columnsAt g tableHere)) → row ≡ 2 - empty
+        (whole : over3 (quantifierBy empty) (rowsHere (at .rows)) ≡ meaning (tablesOf file) (h .env) (h .rule))
+        (passed : RowsPassed p g file w s depth empty at r first value v) where
+      row-decides : r < at .rows → (row : ℕ) → row ≡ truthNumber (rowValue file (h .env) (h .rule) first (at .columns)) → row ≡ 2 - empty
           → row ≡ truthNumber (meaning (tablesOf file) (h .env) (h .rule))
       row-decides below row row-is e =
           let q = quantifierBy empty in
-          let f : ℕ → Truth = λ k. rowValue file (h .env) (h .rule) (firstAt g tableHere + k * columnsAt g tableHere) (columnsAt g tableHere) in
+          let f : ℕ → Truth = λ k. rowValue file (h .env) (h .rule) (at .first + k * at .columns) (at .columns) in
           let z : row ≡ 2 - emptyOver q = e ∙ ap (2 -_) is in
-          let next : row ≡ truthNumber (f r) = row-is ∙ ap (λ (k : ℕ). truthNumber (rowValue file (h .env) (h .rule) k (columnsAt g tableHere))) (passed .next .first-is) in
-          z ∙ over-stop q (rowsAt g tableHere) f r below (sym next ∙ z) ∙ ap truthNumber whole
+          let next : row ≡ truthNumber (f r) = row-is ∙ ap (λ (k : ℕ). truthNumber (rowValue file (h .env) (h .rule) k (at .columns))) (passed .next .first-is) in
+          z ∙ over-stop q (at .rows) f r below (sym next ∙ z) ∙ ap truthNumber whole
 
-      none-decides : rowsAt g tableHere ≤ r → value ≡ truthNumber (meaning (tablesOf file) (h .env) (h .rule))
+      none-decides : at .rows ≤ r → value ≡ truthNumber (meaning (tablesOf file) (h .env) (h .rule))
       none-decides end =
-          let z : r ≡ rowsAt g tableHere = omega (arith, passed .within) in
+          let z : r ≡ at .rows = omega (arith, passed .within) in
           passed .value-is h ∙ ap (λ (n : ℕ). truthNumber (over3 (quantifierBy empty) (rowsHere n))) z ∙ ap truthNumber whole
 
   -- ---- EXISTS
@@ -372,50 +382,49 @@ module _ {p g file w : List ℕ} {s depth : ℕ} (h : Evaluable p g file w s dep
     abbrev retained : Row → Bool
     retained row = isTrue (meaning (tablesOf file) (h .env ▸ row) (exists-here .inner))
 
-    exists-rows : over3 Some (rowsHere exists-ranging (rowsAt g tableHere)) ≡ meaning (tablesOf file) (h .env) (h .rule)
-    unfolding rowValue meaning
-    exists-rows =
-        let n = rowsAt g tableHere in
-        let at : ℕ → ℕ = λ k. firstAt g tableHere + k * columnsAt g tableHere in
-        let f : ℕ → Row = λ k. rowFrom file (at k) (columnsAt g tableHere) in
-        ap (λ r. over3 Some (tabulate n (λ k. rowValue file (h .env) r (at k) (columnsAt g tableHere)))) (exists-here .is)
-        ∙ ap (over3 Some) (sym (tabulate-map (λ row. truth (retained row)) n f))
-        ∙ sym (exists-some retained (tabulate n f))
-        ∙ ap (λ rows. truth (any retained rows)) (sym (table exists-ranging .rows-are))
-        ∙ ap (λ (t : ℕ). truth (any retained (rowsOf (tablesOf file) t))) exists-table
-        ∙ means-as (exists-here .is)
+    module _ {at : Place} (there : at ≡ placeIn g tableHere) where
+      exists-rows : over3 Some (rowsHere exists-ranging there (at .rows)) ≡ meaning (tablesOf file) (h .env) (h .rule)
+      unfolding rowValue meaning
+      exists-rows =
+          let n = at .rows in
+          let cell : ℕ → ℕ = λ k. at .first + k * at .columns in
+          let f : ℕ → Row = λ k. rowFrom file (cell k) (at .columns) in
+          ap (λ r. over3 Some (tabulate n (λ k. rowValue file (h .env) r (cell k) (at .columns)))) (exists-here .is)
+          ∙ ap (over3 Some) (sym (tabulate-map (λ row. truth (retained row)) n f))
+          ∙ sym (exists-some retained (tabulate n f))
+          ∙ ap (λ rows. truth (any retained rows)) (sym (table exists-ranging there .rows-are))
+          ∙ ap (λ (t : ℕ). truth (any retained (rowsOf (tablesOf file) t))) exists-table
+          ∙ means-as (exists-here .is)
 
-    module _ {r first : ℕ} {v : List ℕ} (below : r < rowsAt g tableHere)
-        (passed : RowsPassed p g file w s depth 0 (firstAt g tableHere) (columnsAt g tableHere) (rowsAt g tableHere) r first 0 v) where
-      pub exists-inner : Evaluable p g file (set v depth first) (s + 1) (depth + 1)
-      exists-inner = row-inner exists-ranging below passed
+      module _ {r first : ℕ} {v : List ℕ} (below : r < at .rows) (passed : RowsPassed p g file w s depth 0 at r first 0 v) where
+        pub exists-inner : Evaluable p g file (set v depth first) (s + 1) (depth + 1)
+        exists-inner = row-inner exists-ranging there below passed
 
-      module _ (kept : ℕ) (evaluated : Evaluates p g file (set v depth first) (s + 1) (depth + 1) kept) where
-        abbrev exists-at : Truth
-        exists-at = meaning (tablesOf file) (h .env ▸ rowHere exists-ranging first) (exists-here .inner)
+        module _ (kept : ℕ) (evaluated : Evaluates p g file (set v depth first) (s + 1) (depth + 1) kept) where
+          abbrev exists-at : Truth
+          exists-at = meaning (tablesOf file) (h .env ▸ rowHere exists-ranging there first) (exists-here .inner)
 
-        exists-value : kept ≡ truthNumber exists-at
-        unfolding exists-inner row-inner exists-ranging
-        exists-value = evaluated exists-inner
+          exists-value : kept ≡ truthNumber exists-at
+          unfolding exists-inner row-inner exists-ranging
+          exists-value = evaluated exists-inner
 
-        row-as : truth (isTrue exists-at) ≡ rowValue file (h .env) (h .rule) first (columnsAt g tableHere)
-        unfolding rowValue
-        row-as = sym (ap (λ r. rowValue file (h .env) r first (columnsAt g tableHere)) (exists-here .is))
+          row-as : truth (isTrue exists-at) ≡ rowValue file (h .env) (h .rule) first (at .columns)
+          unfolding rowValue
+          row-as = sym (ap (λ r. rowValue file (h .env) r first (at .columns)) (exists-here .is))
 
-        pub exists-true : kept ≡ 2 → 2 ≡ truthNumber (meaning (tablesOf file) (h .env) (h .rule))
-        exists-true e =
-            let kept-is = is-kept exists-at (sym exists-value ∙ e) in
-            row-decides exists-ranging refl exists-rows passed below 2 (ap (λ b. truthNumber (truth b)) (sym kept-is) ∙ ap truthNumber row-as) refl
+          pub exists-true : kept ≡ 2 → 2 ≡ truthNumber (meaning (tablesOf file) (h .env) (h .rule))
+          exists-true e =
+              let kept-is = is-kept exists-at (sym exists-value ∙ e) in
+              row-decides exists-ranging there refl exists-rows passed below 2 (ap (λ b. truthNumber (truth b)) (sym kept-is) ∙ ap truthNumber row-as) refl
 
-        pub exists-lost : (kept ≡ 2 → ⊥) → 0 ≡ truthNumber (rowValue file (h .env) (h .rule) first (columnsAt g tableHere))
-        exists-lost f =
-            let lost = not-kept exists-at (λ e. f (exists-value ∙ e)) in
-            ap (λ b. truthNumber (truth b)) (sym lost) ∙ ap truthNumber row-as
+          pub exists-lost : (kept ≡ 2 → ⊥) → 0 ≡ truthNumber (rowValue file (h .env) (h .rule) first (at .columns))
+          exists-lost f =
+              let lost = not-kept exists-at (λ e. f (exists-value ∙ e)) in
+              ap (λ b. truthNumber (truth b)) (sym lost) ∙ ap truthNumber row-as
 
-    pub exists-false : {r first : ℕ} {v : List ℕ}
-        → RowsPassed p g file w s depth 0 (firstAt g tableHere) (columnsAt g tableHere) (rowsAt g tableHere) r first 0 v
-        → rowsAt g tableHere ≤ r → 0 ≡ truthNumber (meaning (tablesOf file) (h .env) (h .rule))
-    exists-false passed end = none-decides exists-ranging refl exists-rows passed end
+      pub exists-false : {r first : ℕ} {v : List ℕ} → RowsPassed p g file w s depth 0 at r first 0 v → at .rows ≤ r
+          → 0 ≡ truthNumber (meaning (tablesOf file) (h .env) (h .rule))
+      exists-false passed end = none-decides exists-ranging there refl exists-rows passed end
 
   -- ---- SOME and ALL
 
@@ -464,58 +473,57 @@ module _ {p g file w : List ℕ} {s depth : ℕ} (h : Evaluable p g file w s dep
     abbrev compared : Row → Truth
     compared row = compare3 (listed-here .op) (cellOf (h .env) (listed-here .left)) (cellOf (h .env ▸ row) (listed-here .selected))
 
-    listed-rows : over3 (quantifierBy empty) (rowsHere listed-ranging (rowsAt g tableHere)) ≡ meaning (tablesOf file) (h .env) (h .rule)
-    unfolding rowValue meaning
-    listed-rows =
-        let q = quantifierBy empty in
-        let n = rowsAt g tableHere in
-        let at : ℕ → ℕ = λ k. firstAt g tableHere + k * columnsAt g tableHere in
-        let f : ℕ → Row = λ k. rowFrom file (at k) (columnsAt g tableHere) in
-        ap (λ r. over3 q (tabulate n (λ k. rowValue file (h .env) r (at k) (columnsAt g tableHere)))) listed-is
-        ∙ ap (over3 q) (sym (tabulate-map (λ row. cond (kept row) (compared row) (emptyTruth q)) n f))
-        ∙ sym (over-kept q kept compared (tabulate n f))
-        ∙ ap (λ rows. over3 q (map compared (keep kept rows))) (sym (table listed-ranging .rows-are))
-        ∙ ap (λ (t : ℕ). over3 q (map compared (keep kept (rowsOf (tablesOf file) t)))) listed-table
-        ∙ means-as listed-is
+    module _ {at : Place} (there : at ≡ placeIn g tableHere) where
+      listed-rows : over3 (quantifierBy empty) (rowsHere listed-ranging there (at .rows)) ≡ meaning (tablesOf file) (h .env) (h .rule)
+      unfolding rowValue meaning
+      listed-rows =
+          let q = quantifierBy empty in
+          let n = at .rows in
+          let cell : ℕ → ℕ = λ k. at .first + k * at .columns in
+          let f : ℕ → Row = λ k. rowFrom file (cell k) (at .columns) in
+          ap (λ r. over3 q (tabulate n (λ k. rowValue file (h .env) r (cell k) (at .columns)))) listed-is
+          ∙ ap (over3 q) (sym (tabulate-map (λ row. cond (kept row) (compared row) (emptyTruth q)) n f))
+          ∙ sym (over-kept q kept compared (tabulate n f))
+          ∙ ap (λ rows. over3 q (map compared (keep kept rows))) (sym (table listed-ranging there .rows-are))
+          ∙ ap (λ (t : ℕ). over3 q (map compared (keep kept (rowsOf (tablesOf file) t)))) listed-table
+          ∙ means-as listed-is
 
-    module _ {r first value : ℕ} {v : List ℕ} (below : r < rowsAt g tableHere)
-        (passed : RowsPassed p g file w s depth empty (firstAt g tableHere) (columnsAt g tableHere) (rowsAt g tableHere) r first value v) (x : Seen) where
-      pub row-ready : RowReady p g file (set v depth first) s (depth + 1) empty x
-      unfolding row-inner listed-ranging
-      row-ready =
-          record {
-            quantifier = listed-here .quantifier;
-            comparison = listed-here .op;
-            left = listed-here .left;
-            selected = listed-here .selected;
-            table = listed-here .table;
-            end = s + (1 + parts (listed-here .inner));
-            here = listed-here .here;
-            inner = row-inner listed-ranging below passed;
-            selected-fits = selected-fits;
-          }
+      module _ {r first value : ℕ} {v : List ℕ} (below : r < at .rows) (passed : RowsPassed p g file w s depth empty at r first value v) (x : Seen) where
+        pub row-ready : RowReady p g file (set v depth first) s (depth + 1) empty x
+        unfolding row-inner listed-ranging
+        row-ready =
+            record {
+              quantifier = listed-here .quantifier;
+              comparison = listed-here .op;
+              left = listed-here .left;
+              selected = listed-here .selected;
+              table = listed-here .table;
+              end = s + (1 + parts (listed-here .inner));
+              here = listed-here .here;
+              inner = row-inner listed-ranging there below passed;
+              selected-fits = selected-fits;
+            }
 
-      module _ (sees : Sees g file w (getD p (8 * s + 4) 0) (getD p (8 * s + 5) 0) x) (row : ℕ)
-          (evaluated : RowEvaluated p g file (set v depth first) s (depth + 1) empty x row) where
-        outer-seen : seenCell x ≡ cellOf (h .env) (listed-here .left)
-        outer-seen = value-seen (h .readable) (listed-here .left) outer-fits (part-left-tag (listed-here .here)) (part-left-number (listed-here .here)) x sees
+        module _ (sees : Sees g file w (getD p (8 * s + 4) 0) (getD p (8 * s + 5) 0) x) (row : ℕ)
+            (evaluated : RowEvaluated p g file (set v depth first) s (depth + 1) empty x row) where
+          outer-seen : seenCell x ≡ cellOf (h .env) (listed-here .left)
+          outer-seen = value-seen (h .readable) (listed-here .left) outer-fits (part-left-tag (listed-here .here)) (part-left-number (listed-here .here)) x sees
 
-        pub row-valued : row ≡ truthNumber (rowValue file (h .env) (h .rule) first (columnsAt g tableHere))
-        unfolding row-ready row-inner listed-ranging rowValue
-        row-valued =
-            let here = rowHere listed-ranging first in
-            evaluated row-ready
-            ∙ ap (λ c. cond (kept here) (truthNumber (compare3 (listed-here .op) c (cellOf (h .env ▸ here) (listed-here .selected)))) empty) outer-seen
-            ∙ cond-rank (kept here) (compared here) (emptyTruth (quantifierBy empty)) empty (none-is o ∙ sym (empty-rank (quantifierBy empty)))
-            ∙ ap truthNumber (sym (ap (λ r. rowValue file (h .env) r first (columnsAt g tableHere)) listed-is))
+          pub row-valued : row ≡ truthNumber (rowValue file (h .env) (h .rule) first (at .columns))
+          unfolding row-ready row-inner listed-ranging rowValue
+          row-valued =
+              let here = rowHere listed-ranging there first in
+              evaluated row-ready
+              ∙ ap (λ c. cond (kept here) (truthNumber (compare3 (listed-here .op) c (cellOf (h .env ▸ here) (listed-here .selected)))) empty) outer-seen
+              ∙ cond-rank (kept here) (compared here) (emptyTruth (quantifierBy empty)) empty (none-is o ∙ sym (empty-rank (quantifierBy empty)))
+              ∙ ap truthNumber (sym (ap (λ r. rowValue file (h .env) r first (at .columns)) listed-is))
 
-        pub listed-decides : row ≡ 2 - empty → row ≡ truthNumber (meaning (tablesOf file) (h .env) (h .rule))
-        listed-decides e = row-decides listed-ranging (none-is o) listed-rows passed below row row-valued e
+          pub listed-decides : row ≡ 2 - empty → row ≡ truthNumber (meaning (tablesOf file) (h .env) (h .rule))
+          listed-decides e = row-decides listed-ranging there (none-is o) listed-rows passed below row row-valued e
 
-    pub listed-ends : {r first value : ℕ} {v : List ℕ}
-        → RowsPassed p g file w s depth empty (firstAt g tableHere) (columnsAt g tableHere) (rowsAt g tableHere) r first value v
-        → rowsAt g tableHere ≤ r → value ≡ truthNumber (meaning (tablesOf file) (h .env) (h .rule))
-    listed-ends passed end = none-decides listed-ranging (none-is o) listed-rows passed end
+      pub listed-ends : {r first value : ℕ} {v : List ℕ} → RowsPassed p g file w s depth empty at r first value v → at .rows ≤ r
+          → value ≡ truthNumber (meaning (tablesOf file) (h .env) (h .rule))
+      listed-ends passed end = none-decides listed-ranging there (none-is o) listed-rows passed end
 
 -- ---- a list at one row
 

@@ -21,10 +21,10 @@ use Rattle.rule.specs.Condition.{Test, Compare, IsNull, IsNotNull}
 use Rattle.rule.specs.Names.{ValueFits, TestFits}
 use Rattle.rule.specs.Parts.{taggedOf, AtomHead, partOf}
 use Rattle.rule.specs.Meaning.{truth, compare3, test3, truthNumber}
-use Rattle.reader.specs.Parts.{PartAt}
-use Rattle.reader.proofs.Signs.{from-to}
-use Rattle.reader.proofs.Small.{heldNumber}
-use Rattle.reader.proofs.Parts.{part-kind, part-comparison, part-left-tag, part-left-number, part-right-tag, part-right-number}
+use Rattle.parser.specs.Parts.{PartAt}
+use Rattle.cells.proofs.Signed.{from-to}
+use Rattle.parser.proofs.Small.{heldNumber}
+use Rattle.parser.proofs.Parts.{part-kind, part-comparison, part-left-tag, part-left-number, part-right-tag, part-right-number}
 use Rattle.evaluator.specs.Code.{TestReady}
 
 -- ---- a value

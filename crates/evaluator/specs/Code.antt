@@ -15,7 +15,7 @@ use Rattle.rule.specs.Condition.{Test, Rule, parts, fromsDeep}
 use Rattle.rule.specs.Names.{ValueFits, TestFits, Fits}
 use Rattle.rule.specs.Parts.{AtomHead, ListedHead, partOf}
 use Rattle.rule.specs.Meaning.{test3, compare3, isTrue, meaning, truthNumber}
-use Rattle.reader.specs.Parts.{PartAt, Stands}
+use Rattle.parser.specs.Parts.{PartAt, Stands}
 
 -- ---- truth values as numbers
 

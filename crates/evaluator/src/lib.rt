@@ -180,19 +180,17 @@ fn evaluate_exists(
     requires { ⌜ Evaluable (now p) (now g) (now file) (now w) s depth ⌝ ∗ ⌜ getD (now p) (8 * s) 0 ≡ 7 ⌝ }
     ensures { λ r. ⌜ Evaluates (now (p .entry)) (now (g .entry)) (now (file .entry)) (now (w .entry)) s depth r ⌝ }
 {
-    let t = p[PART_FIELDS * s + PART_TABLE];
-    let mut first = g[3 * t];
-    let columns = g[3 * t + 1];
-    let rows = g[3 * t + 2];
+    let table = cells::table_place(g, p[PART_FIELDS * s + PART_TABLE]);
+    let mut first = table.first;
     let mut v = *w;
     let mut r: usize = 0;
-    while r < rows {
+    while r < table.rows {
         v[depth] = first;
         let kept = evaluate_part(p, g, file, s + 1, &v, depth + 1);
         if kept == TRUE {
             return TRUE;
         }
-        first += columns;
+        first += table.columns;
         r += 1;
     }
     FALSE
@@ -250,10 +248,8 @@ fn evaluate_list(
     requires { ⌜ Evaluable (now p) (now g) (now file) (now w) s depth ⌝ ∗ ⌜ OverNone (getD (now p) (8 * s) 0) empty ⌝ }
     ensures { λ r. ⌜ Evaluates (now (p .entry)) (now (g .entry)) (now (file .entry)) (now (w .entry)) s depth r ⌝ }
 {
-    let t = p[PART_FIELDS * s + PART_TABLE];
-    let mut first = g[3 * t];
-    let columns = g[3 * t + 1];
-    let rows = g[3 * t + 2];
+    let table = cells::table_place(g, p[PART_FIELDS * s + PART_TABLE]);
+    let mut first = table.first;
     // The value left of a list is read outside it.
     let x = values::look(
         g,
@@ -265,14 +261,14 @@ fn evaluate_list(
     let mut v = *w;
     let mut value = empty;
     let mut r: usize = 0;
-    while r < rows {
+    while r < table.rows {
         v[depth] = first;
         let row = evaluate_row(p, g, file, s, &v, depth + 1, empty, x);
         if row == TRUE - empty {
             return row;
         }
         value = after(value, row);
-        first += columns;
+        first += table.columns;
         r += 1;
     }
     value

@@ -9,14 +9,16 @@ use lib.ListN.{length, getD}
 use Rattle.tables.specs.Tables.{mostRows, mostCells, columnsOf, rowCount, tablesOf}
 use Rattle.tables.specs.Values.{judgedLevels, judgedRow}
 use Rattle.tables.proofs.Sizes.{same-is}
+use Rattle.cells.specs.Code.{placeIn}
+use Rattle.cells.specs.declared.Place.{Place}
 use Rattle.card.specs.Card.{cardFits}
 use Rattle.card.specs.Layout.{entryCount, columnsIn}
 use Rattle.card.specs.Sound.{sound}
 use Rattle.card.specs.Calls.{cardSays, saysYes, fitsTables}
-use Rattle.checker.specs.Code.{Laid, Coded}
+use Rattle.decoder.specs.Code.{Laid, Coded}
 use Rattle.card.proofs.Exact.{Passed, sound-passed}
-use Rattle.checker.proofs.Decoding.{laid-is, sound-laid, head-decoded, end-decoded}
-use Rattle.checker.proofs.Coded.{card-coded}
+use Rattle.decoder.proofs.Decoding.{laid-is, sound-laid, head-decoded, end-decoded}
+use Rattle.decoder.proofs.Coded.{card-coded}
 use Rattle.runner.specs.Code.{Runnable, Answers}
 use Rattle.gate.specs.Code.{Opened}
 use Rattle.values.proofs.Judged.{one-rows as rows-of-one, few-rows as few-of-one, row-room as room-of-one, row-readable}
@@ -24,13 +26,13 @@ use Rattle.values.proofs.Judged.{one-rows as rows-of-one, few-rows as few-of-on
 pub laid-out : (card : List ℕ) → sound card ≡ true → Laid card
 laid-out card e = laid-is card (sound-laid card e)
 
-module _ (card file d g : List ℕ) (o : Opened card file d g) where
-  -- table 1
-  pub one-rows : getD g 5 0 ≡ rowCount file 1
-  one-rows = rows-of-one file g (o .sized) (o .places)
+-- the place is that of table 1
+module _ (card file d g : List ℕ) (o : Opened card file d g) (place : Place) (is : place ≡ placeIn g 1) where
+  pub one-rows : place .rows ≡ rowCount file 1
+  one-rows = rw is (rows-of-one file g (o .sized) (o .places))
 
-  pub few-rows : getD g 5 0 ≤ mostRows
-  few-rows = few-of-one file g (o .sized) (o .places)
+  pub few-rows : place .rows ≤ mostRows
+  few-rows = rw is (few-of-one file g (o .sized) (o .places))
 
   -- the card
   passed : Passed card
@@ -45,9 +47,9 @@ module _ (card file d g : List ℕ) (o : Opened card file d g) where
       let f = o .fits in
       subst (λ (c : List ℕ). T (cardFits c judgedLevels (passed .card))) (same-is (columnsIn card) (columnsOf file) (rw f tt)) (passed .fits)
 
-  module _ (row first : ℕ) (below : row < getD g 5 0) (starts : first ≡ row * getD g 4 0) where
-    pub row-room : first + getD g 4 0 ≤ mostCells
-    row-room = room-of-one file g (o .sized) (o .places) row first below starts
+  module _ (row first : ℕ) (below : row < place .rows) (starts : first ≡ row * place .columns) where
+    pub row-room : first + place .columns ≤ mostCells
+    row-room = rw is (room-of-one file g (o .sized) (o .places) row first (rw is at below) (rw is at starts))
 
     module _ (n : ℕ) (w : List ℕ) (whole : n ≡ entryCount card) (size : length w ≡ 4) (stands : getD w 0 0 ≡ first) where
       pub judged : Runnable d g file w 0 n 1
@@ -55,7 +57,7 @@ module _ (card file d g : List ℕ) (o : Opened card file d g) where
         levels = judgedLevels;
         env = judgedRow (tablesOf file) row;
         card = passed .card;
-        readable = row-readable file g (o .sized) (o .places) row first below starts w size stands;
+        readable = row-readable file g (o .sized) (o .places) row first (rw is at below) (rw is at starts) w size stands;
         coded = rw whole whole-card;
         deep = refl;
         few = omega (arith, laid-out card (o .sound-is) .entries-high);

@@ -8,7 +8,7 @@ use Rattle.cells.specs.Reasons.{reasonNumber}
 use Rattle.cells.specs.Code.{Sized, Places}
 use Rattle.card.specs.Sound.{sound}
 use Rattle.card.specs.Calls.{fitsTables, gateRefusals}
-use Rattle.checker.specs.Code.{Decoded}
+use Rattle.decoder.specs.Code.{Decoded}
 use Rattle.gate.specs.declared.Prepared.{Prepared}
 use Rattle.gate.specs.declared.Prepared.the-variants.{Ready, NotReady}
 

@@ -6,7 +6,7 @@ ghost use Prim.Native.Nat.{_+_, _*_, _<_, _≤_};
 ghost use lib.ListN.{length, take, drop};
 ghost use Rattle.cells.specs.Code.{Sized};
 ghost use Rattle.card.specs.Calls.{fitsTables, yesRows, runCall, listCall};
-ghost use Rattle.checker.specs.Code.{Laid};
+ghost use Rattle.decoder.specs.Code.{Laid};
 ghost use Rattle.gate.specs.Answers.{ranAnswer, listedAnswer};
 ghost use Rattle.gate.specs.Code.{Opened, preparedAnswer, prepareCall};
 ghost use Rattle.gate.specs.declared.Prepared.{Prepared};
@@ -14,7 +14,7 @@ use cells::MOST_ROWS;
 use cells::PLACES;
 use cells::Reason;
 use cells::Validity;
-use checker::DECODED;
+use decoder::DECODED;
 use values::LEVELS;
 
 // Whether the card was made for this number of tables and these columns.
@@ -79,11 +79,12 @@ pub fn run(card: &[u8], file: &[u8], row: usize) -> Ran
     if let Prepared::NotReady(x) = prepared {
         return Ran::NotRun(x);
     }
-    if g[5] <= row {
+    let table = cells::table_place(&g, 1);
+    if table.rows <= row {
         return Ran::NotRun(Reason::Row);
     }
     let n = cells::read16(card, 0);
-    let w = [row * g[4], 0, 0, 0];
+    let w = [row * table.columns, 0, 0, 0];
     let yes = runner::run_entry(&d, &g, file, 0, n, &w, 1);
     if yes {
         return Ran::Yes;
@@ -105,20 +106,19 @@ fn keep_rows(
     ensures size { λ k. ⌜ (k ≤ 1000) × (length (now (kept .exit)) ≡ 1000) ⌝ }
 {
     let n = cells::read16(card, 0);
-    let columns = g[4];
-    let rows = g[5];
+    let table = cells::table_place(g, 1);
     let mut w = [0usize; LEVELS];
     let mut first: usize = 0;
     let mut k: usize = 0;
     let mut row: usize = 0;
-    while row < rows {
+    while row < table.rows {
         w[0] = first;
         let yes = runner::run_entry(d, g, file, 0, n, &w, 1);
         kept[k] = row as u32;
         if yes {
             k += 1;
         }
-        first += columns;
+        first += table.columns;
         row += 1;
     }
     k

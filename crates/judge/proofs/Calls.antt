@@ -1,22 +1,23 @@
 -- JUDGE by cases: a refusal of reading, a row that is missing, and the rule's value on the row.
-use mathlib.Core.Path.{_≡_, refl, sym, ap, _∙_}
+use mathlib.Core.Path.{_≡_, refl, sym, ap, subst, _∙_}
 use mathlib.Core.List.{List, _∷_, []}
-use Prim.Native.Nat.{ℕ, zero, suc, _+_, _*_, _≤_, _<_}
+use Prim.Native.Nat.{ℕ, zero, suc, _*_, _≤_, _<_}
 use native.Mathlib.Omega.{arith}
 use lib.ListN.{length, getD, take}
 use Rattle.tables.specs.Tables.{mostCells, tablesOf}
 use Rattle.tables.specs.Values.{judgedLevels, judgedRow}
 use Rattle.tables.specs.Refusals.{Refused, Given}
-use Rattle.cells.specs.Code.{Sized, Places}
+use Rattle.cells.specs.Code.{Sized, Places, placeIn}
+use Rattle.cells.specs.declared.Place.{Place}
 use Rattle.cells.specs.declared.Reason.{Reason}
 use Rattle.values.proofs.Judged.{one-rows, row-room, row-readable}
 use Rattle.rule.specs.Meaning.{Truth, False, Unknown, True, judged, truthNumber}
 use Rattle.rule.specs.Calls.{judgeCall}
 use Rattle.rule.proofs.Calls.{calls-claim}
-use Rattle.reader.specs.Code.{parsedAnswer, parseCall, Parsing, ParsedTo}
-use Rattle.reader.specs.declared.Parsed.{Parsed}
-use Rattle.reader.proofs.Known.{Known, known, parse-refused, parse-given}
-use Rattle.reader.proofs.Parts.{rule-stands}
+use Rattle.parser.specs.Code.{parsedAnswer, parseCall, Parsing, ParsedTo}
+use Rattle.parser.specs.declared.Parsed.{Parsed}
+use Rattle.parser.proofs.Known.{Known, known, parse-refused, parse-given}
+use Rattle.parser.proofs.Parts.{rule-stands}
 use Rattle.evaluator.specs.Code.{Evaluable, Evaluates}
 use Rattle.judge.specs.Answers.{judgedAnswer}
 use Rattle.judge.specs.Code.{judgedBy, passedUp}
@@ -52,17 +53,26 @@ module _ (text file : List ℕ) (row : ℕ) (r : Parsed) where
     pub file-sized : Sized file
     file-sized = rule-known .sized
 
-    module _ (g : List ℕ) (places : Places file g) where
-      pub judge-no-row : getD g 5 0 ≤ row → Refused 11 ≡ judgeCall text file row
-      judge-no-row h = sym (calls-claim .judge-no-row text file row (parsing .accepted) (omega (arith, one-rows file g file-sized places)))
+    -- at is where table 1 stands
+    module _ (g : List ℕ) (places : Places file g) {at : Place} (there : at ≡ placeIn g 1) where
+      pub judge-no-row : at .rows ≤ row → Refused 11 ≡ judgeCall text file row
+      judge-no-row h =
+          let z : at .rows ≡ getD g 5 0 = ap (λ o. o .rows) there in
+          sym (calls-claim .judge-no-row text file row (parsing .accepted) (omega (arith, one-rows file g file-sized places)))
 
-      module _ (below : row < getD g 5 0) where
-        pub judge-room : row * getD g 4 0 + getD g 4 0 ≤ mostCells
-        judge-room = row-room file g file-sized places row (row * getD g 4 0) below refl
+      module _ (below : row < at .rows) where
+        below-here : row < getD g 5 0
+        below-here = subst (λ o. row < o .rows) there below
+
+        starts : row * at .columns ≡ row * getD g 4 0
+        starts = ap (λ o. row * o .columns) there
+
+        pub judge-room : row * at .columns ≤ mostCells
+        judge-room = omega (arith, row-room file g file-sized places row (row * at .columns) below-here starts)
 
         module _ (size : length new ≡ 512) where
           abbrev firsts : List ℕ
-          firsts = row * getD g 4 0 ∷ 0 ∷ 0 ∷ 0 ∷ []
+          firsts = row * at .columns ∷ 0 ∷ 0 ∷ 0 ∷ []
 
           pub whole-rule : Evaluable new g file firsts 0 1
           whole-rule =
@@ -72,7 +82,7 @@ module _ (text file : List ℕ) (row : ℕ) (r : Parsed) where
                 levels = judgedLevels;
                 env = judgedRow (tablesOf file) row;
                 rule = q .rule;
-                readable = row-readable file g file-sized places row (row * getD g 4 0) below refl firsts refl refl;
+                readable = row-readable file g file-sized places row (row * at .columns) below-here starts firsts refl refl;
                 size = size;
                 few = omega (arith, k .few-parts);
                 stands = rule-stands new (q .rule) (sym (ap (λ (m : ℕ). take (8 * m) new) (q .count)) ∙ q .written);
@@ -87,4 +97,4 @@ module _ (text file : List ℕ) (row : ℕ) (r : Parsed) where
               let q = parsing in
               ap judgedAnswer (is ∙ ap judgedBy (evaluates whole-rule))
               ∙ judged-rank (judged (tablesOf file) row (q .rule))
-              ∙ sym (calls-claim .judge-given text file row (q .accepted) (q .rule) (q .is-rule) (omega (arith, one-rows file g file-sized places)))
+              ∙ sym (calls-claim .judge-given text file row (q .accepted) (q .rule) (q .is-rule) (omega (arith, below-here, one-rows file g file-sized places)))

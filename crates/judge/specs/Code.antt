@@ -1,7 +1,7 @@
 -- What the functions of src/ promise one another. The contract of a public call cites nothing of this file.
 use Prim.Native.Nat.{ℕ, zero, suc}
-use Rattle.reader.specs.declared.Parsed.{Parsed}
-use Rattle.reader.specs.declared.Parsed.the-variants.{Rule as ParsedRule, Refused as ParsedRefused}
+use Rattle.parser.specs.declared.Parsed.{Parsed}
+use Rattle.parser.specs.declared.Parsed.the-variants.{Rule as ParsedRule, Refused as ParsedRefused}
 use Rattle.judge.specs.declared.Judged.{Judged}
 use Rattle.judge.specs.declared.Judged.the-variants.{True as JudgedTrue, False as JudgedFalse, Unknown as JudgedUnknown, NotJudged}
 

@@ -7,7 +7,7 @@ ghost use Rattle.judge.specs.Code.{passedUp, judgedBy};
 use cells::PLACES;
 use cells::Reason;
 use names::PART_NUMBERS;
-use reader::Parsed;
+use parser::Parsed;
 
 pub enum Judged {
     True,
@@ -42,16 +42,17 @@ pub fn judge(text: &[u8], file: &[u8], row: usize) -> Judged
     ensures { λ r. ⌜ judgedAnswer r ≡ judgeCall (now (text .entry)) (now (file .entry)) row ⌝ }
 {
     let mut p = [0usize; PART_NUMBERS];
-    let parsed = reader::parse(text, file, &mut p);
+    let parsed = parser::parse(text, file, &mut p);
     let Parsed::Rule(_) = parsed else {
         return passed_up(parsed);
     };
     let mut g = [0usize; PLACES];
     cells::places(file, &mut g);
-    if g[5] <= row {
+    let table = cells::table_place(&g, 1);
+    if table.rows <= row {
         return Judged::NotJudged(Reason::Row);
     }
-    let w = [row * g[4], 0, 0, 0];
+    let w = [row * table.columns, 0, 0, 0];
     let value = evaluator::evaluate_part(&p, &g, file, 0, &w, 1);
     judged_by(value)
 }

@@ -13,9 +13,11 @@ use Rattle.tables.specs.Values.{constantTag, Value}
 use Rattle.cells.specs.Code.{fromExcess, toExcess, Sized}
 use Rattle.rule.specs.Condition.{Compare, IsNull, IsNotNull, Atom, Join, Not, Exists, Listed, WrittenValue, Plain, Named, From, Over, WrittenCondition, Rule, parts, fromsDeep}
 use Rattle.rule.specs.Names.{Binding, Scope, outermost, nearest, ruleIn}
-use Rattle.rule.specs.Parts.{TaggedValue, taggedOf, Part, naturalOf, partsFrom, partsOf}
+use Rattle.rule.specs.Parts.{taggedOf, naturalOf, partsFrom, partsOf}
+use Rattle.rule.specs.declared.TaggedValue.{TaggedValue}
+use Rattle.rule.specs.declared.Part.{Part}
 use Rattle.grammar.specs.Code.{writtenOf, noted}
-use Rattle.names.specs.declared.Part.{Part as CodePart}
+use Rattle.names.specs.declared.Fields.{Fields}
 use Rattle.names.specs.declared.Resolved.{Resolved}
 use Rattle.names.specs.declared.Resolved.the-variants.{Value as ResolvedValue, Unresolved}
 use Rattle.names.specs.declared.ResolvedBoth.{ResolvedBoth}
@@ -26,7 +28,7 @@ use Rattle.names.specs.declared.Placed.the-variants.{At, Unplaced}
 -- ---- parts as numbers
 
 -- kind, comparison, table, end, and two values of a tag and a number each
-abbrev pub partFields : CodePart → List ℕ
+abbrev pub partFields : Fields → List ℕ
 partFields p = p .kind ∷ p .comparison ∷ p .table ∷ p .end ∷ p .«left_tag» ∷ p .«left_number» ∷ p .«right_tag» ∷ p .«right_number» ∷ []
 
 -- a part that says no more than its kind

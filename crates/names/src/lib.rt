@@ -50,8 +50,8 @@ pub const PART_RIGHT_TAG: usize = 6;
 
 pub const PART_RIGHT_NUMBER: usize = 7;
 
-// A part as published; a constant is the number plus 2 ^ 31.
-pub struct Part {
+// The fields of a part as numbers; a constant is the number plus 2 ^ 31.
+pub struct Fields {
     pub kind: usize,
     pub comparison: usize,
     pub table: usize,
@@ -210,7 +210,7 @@ fn bind(
 }
 
 // Part number p.
-fn put_part(parts: &mut [usize; PART_NUMBERS], p: usize, part: Part)
+fn put_part(parts: &mut [usize; PART_NUMBERS], p: usize, part: Fields)
     requires { ⌜ length (now parts) ≡ 512 ⌝ ∗ ⌜ p < 64 ⌝ }
     ensures written { λ _. ⌜ drop (8 * p) (now (parts .exit)) ≡ partFields part ++ drop (8 * (p + 1)) (now (parts .entry)) ⌝ }
     ensures size { λ _. ⌜ length (now (parts .exit)) ≡ 512 ⌝ }
@@ -227,10 +227,10 @@ fn put_part(parts: &mut [usize; PART_NUMBERS], p: usize, part: Part)
 }
 
 // A part that says no more than its kind.
-fn plain_part(kind: usize, end: usize) -> Part
+fn plain_part(kind: usize, end: usize) -> Fields
     ensures { λ r. ⌜ partFields r ≡ plainPartNumbers kind end ⌝ }
 {
-    Part {
+    Fields {
         kind,
         comparison: 0,
         table: 0,
@@ -339,7 +339,7 @@ fn place_comparison(
     else {
         return Placed::Unplaced;
     };
-    let part = Part {
+    let part = Fields {
         kind: 4,
         comparison: notes[b + NOTE_COMPARISON],
         table: 0,
@@ -381,7 +381,7 @@ fn place_null(
     else {
         return Placed::Unplaced;
     };
-    let part = Part {
+    let part = Fields {
         kind: notes[b],
         comparison: 0,
         table: 0,
@@ -419,7 +419,7 @@ fn place_exists(
     let Placed::At(inner) = place(file, notes, h - 1, parts, e, &inside, deeper) else {
         return Placed::Unplaced;
     };
-    let part = Part {
+    let part = Fields {
         kind: 7,
         comparison: 0,
         table,
@@ -467,7 +467,7 @@ fn place_list(
     let Placed::At(inner) = place(file, notes, h - 1, parts, e, &inside, deeper) else {
         return Placed::Unplaced;
     };
-    let part = Part {
+    let part = Fields {
         kind: notes[b],
         comparison: notes[b + NOTE_COMPARISON],
         table,

@@ -4,11 +4,10 @@ use mathlib.Core.Bool.{Bool, true, false}
 use mathlib.Core.List.{List, [], _∷_}
 use mathlib.Core.Logic.{_↔_}
 use mathlib.Core.Option.{Option, none, some}
-use Prim.Native.Nat.{ℕ, _*_, _≤_, _<_}
+use Prim.Native.Nat.{ℕ, _≤_, _<_}
 use native.Mathlib.Omega.{arith}
 use borrow.Author.Tests.{eq-eqb, eqb-true, ltb-true, ltb-false}
 use lib.Dec.{T, ltb}
-use lib.IntN.{ℤ}
 use lib.ListN.{length}
 use Rattle.tables.specs.Lists.{all, _>>=_}
 use Rattle.tables.specs.Tables.{columnsOf}
@@ -18,17 +17,17 @@ use Rattle.cells.specs.Reasons.{reasonNumber}
 use Rattle.rule.specs.Condition.{parts}
 use Rattle.rule.specs.Reader.{readAll}
 use Rattle.rule.specs.Names.{outermost, ruleIn}
-use Rattle.rule.specs.Calls.{conditionOf, ruleOf, readingRefusals, Accepted}
+use Rattle.rule.specs.Calls.{conditionOf, ruleOf, readingRefusals, Accepted, readCall}
 use Rattle.rule.specs.Claims.{Allowed, AcceptedAs}
+use Rattle.rule.specs.declared.Part.{Part}
 use Rattle.rule.proofs.Accepted.{accepted-claim, parts-claim}
+use Rattle.rule.proofs.Calls.{calls-claim}
 use Rattle.rule.proofs.Reading.{read-complete}
-use Rattle.reader.specs.Calls.{numbersPerPart, readNumbers}
 use Rattle.reader.specs.Answers.{readAnswer}
 use Rattle.reader.specs.Claims.{accepts, AcceptanceClaim}
 use Rattle.reader.specs.declared.Reading.{Reading}
 use Rattle.reader.specs.declared.Reading.the-variants.{Parts, NotRead}
 use Rattle.reader.proofs.Told.{read-claim}
-use Rattle.reader.proofs.Lending.{numbers-refused, numbers-short, numbers-given}
 
 -- the first refusal of a list has a number of the list
 first-below : (rs : List Refusal) {n : ℕ} → T (all (λ r. ltb (r .number) 12) rs) → firstApplying rs ≡ some n → n < 12
@@ -64,14 +63,14 @@ unfolding ruleOf conditionOf
 allowed-rule text file w =
     ap (_>>= ruleIn (columnsOf file) outermost) (ap (_>>= readAll) (w .are-tokens) ∙ read-complete (w .tokens) (w .condition) (w .reads)) ∙ w .names
 
-module _ (text file : List ℕ) (buffer : List ℤ) (r : Reading) (e : readAnswer r ≡ readNumbers text file buffer .result) where
-  answers : (l : Lent ℤ) → readNumbers text file buffer ≡ l → readAnswer r ≡ l .result
-  answers l p = e ∙ ap (λ (a : Lent ℤ). a .result) p
+module _ (text file : List ℕ) (list : List Part) (r : Reading) (e : readAnswer r ≡ readCall text file list .result) where
+  answers : (l : Lent Part) → readCall text file list ≡ l → readAnswer r ≡ l .result
+  answers l p = e ∙ ap (λ (a : Lent Part). a .result) p
 
   -- where a refusal of reading applies
   module _ (n : ℕ) (f : firstApplying (readingRefusals text file) ≡ some n) where
     refused : readAnswer r ≡ Refused n
-    refused = answers _ (numbers-refused text file buffer f)
+    refused = answers _ (calls-claim .read-refused text file list n f)
 
     forbidden : Allowed text file → ⊥
     forbidden w = let g = accepted-claim text file .1 w in let z : _≡_ {A = ℕ} 0 1 = cc in omega arith
@@ -82,11 +81,11 @@ module _ (text file : List ℕ) (buffer : List ℤ) (r : Reading) (e : readAnswe
     allowed = accepted-claim text file .0 a
 
     accepts-with : AcceptedAs text file → accepts r ≡ true
-    accepts-with w = go (ltb (length buffer) (8 * parts (w .rule))) refl
+    accepts-with w = go (ltb (length list) (parts (w .rule))) refl
       where
-        go : (b : Bool) → ltb (length buffer) (8 * parts (w .rule)) ≡ b → accepts r ≡ true
-        go true f = short-accepts r (answers _ (numbers-short text file buffer (w .rule) a (w .is-rule) (ltb-true _ _ f)))
-        go false f = given-accepts r _ (answers _ (numbers-given text file buffer (w .rule) a (w .is-rule) (ltb-false _ _ f)))
+        go : (b : Bool) → ltb (length list) (parts (w .rule)) ≡ b → accepts r ≡ true
+        go true f = short-accepts r (answers _ (calls-claim .read-short text file list a (w .rule) (w .is-rule) (ltb-true _ _ f)))
+        go false f = given-accepts r _ (answers _ (calls-claim .read-given text file list a (w .rule) (w .is-rule) (ltb-false _ _ f)))
 
     accepts-always : accepts r ≡ true
     accepts-always = accepts-with (parts-claim text file a)
@@ -98,11 +97,13 @@ module _ (text file : List ℕ) (buffer : List ℤ) (r : Reading) (e : readAnswe
   )
   accepted none f = (λ a. allowed f, λ w. accepts-always f)
 
-  given : (w : Allowed text file) → numbersPerPart * parts (w .rule) ≤ length buffer → r ≡ Parts (parts (w .rule))
-  given w h = read-claim r (Parts (parts (w .rule))) (answers _ (numbers-given text file buffer (w .rule) (accepted-claim text file .1 w) (allowed-rule text file w) h))
+  given : (w : Allowed text file) → parts (w .rule) ≤ length list → r ≡ Parts (parts (w .rule))
+  given w h =
+      let a = accepted-claim text file .1 w in
+      read-claim r (Parts (parts (w .rule))) (answers _ (calls-claim .read-given text file list a (w .rule) (allowed-rule text file w) h))
 
 pub acceptance-claim : AcceptanceClaim
 acceptance-claim = record {
-  accepted = λ text file buffer r e. accepted text file buffer r e (firstApplying (readingRefusals text file)) refl;
-  given = λ text file buffer r e w h. given text file buffer r e w h;
+  accepted = λ text file list r e. accepted text file list r e (firstApplying (readingRefusals text file)) refl;
+  given = λ text file list r e w h. given text file list r e w h;
 }

@@ -1,11 +1,6 @@
-pub mod Sizes
-pub mod Groups
 pub mod Told
 pub mod Signs
-pub mod Copying
-pub mod Small
-pub mod Known
 pub mod Lending
 pub mod Acceptance
-pub mod Records
-pub mod Parts
+pub mod Storing
+pub mod Local

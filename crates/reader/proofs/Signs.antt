@@ -1,19 +1,20 @@
--- The number of a value as a signed number of 32 bits.
-use mathlib.Core.Path.{_≡_, refl, ap, _∙_}
+-- The number of a value as a signed number of 32 bits, and the record that the eight numbers of a part make.
+use mathlib.Core.Path.{_≡_, refl, ap, ap₂, _∙_}
 use mathlib.Core.Bool.{Bool, true, false}
-use Prim.Native.Nat.{ℕ, zero, suc, _+_, _-_, _<_, _≤_}
+use mathlib.Core.List.{List}
+use Prim.Native.Nat.{ℕ, zero, suc, _+_, _-_, _*_, _<_, _≤_}
 use native.Mathlib.Omega.{arith}
 use borrow.Author.Needs.{sfits-of}
 use borrow.Author.Tests.{lt-ltb, le-ltb, ne-eqb, eq-eqb, ltb-true, ltb-false, eqb-false}
-use lib.Dec.{T, eqb, ltb}
+use lib.Dec.{eqb, ltb}
 use lib.IntN.{ℤ, pos, negsuc, _-ℤ_}
+use lib.ListN.{getD}
 use mir.Syntax.{w32}
 use mir.Val.{SFits, toZ, ofZ}
 use mir.Facts.{toZ-ofZ}
-use Rattle.tables.specs.Bytes.{inRange}
-use Rattle.tables.proofs.Tests.{is-true}
-use Rattle.cells.specs.Code.{fromExcess, toExcess}
-use Rattle.reader.specs.Code.{signedOf, Signable}
+use Rattle.rule.specs.Parts.{partWith}
+use Rattle.rule.specs.declared.TaggedValue.{TaggedValue}
+use Rattle.parser.specs.Parts.{signedOf, taggedFrom, partIn, Signable}
 
 -- ---- by its tag, in the code
 
@@ -29,7 +30,7 @@ module _ (tag n : ℕ) (h : Signable tag n) where
 
   pub high-signed : tag ≡ 255 → 2147483648 ≤ n → toZ w32 (n - 2147483648) ≡ signedOf tag n
   high-signed e l =
-      small-signed (n - 2147483648) (omega (arith, h .constant)) ∙ rw (eq-eqb tag 255 e, le-ltb n 2147483648 l)
+      small-signed (n - 2147483648) (omega (arith, h .whole)) ∙ rw (eq-eqb tag 255 e, le-ltb n 2147483648 l)
 
 minus-one : (m : ℕ) → negsuc 0 -ℤ pos m ≡ negsuc m
 minus-one zero = refl
@@ -49,17 +50,16 @@ signed-fits tag n h = go (eqb tag 255) (ltb n 2147483648) refl refl
   where
     go : (b d : Bool) → eqb tag 255 ≡ b → ltb n 2147483648 ≡ d → SFits w32 (signedOf tag n)
     go true true e f = let l = ltb-true n 2147483648 f in rw (e, f) (sfits-of (omega arith))
-    go true false e f = let l = ltb-false n 2147483648 f in rw (e, f) (sfits-of (omega (arith, h .constant)))
+    go true false e f = let l = ltb-false n 2147483648 f in rw (e, f) (sfits-of (omega (arith, h .whole)))
     go false d e f = rw e (sfits-of (omega (arith, h .column (eqb-false tag 255 e))))
 
--- ---- there and back
+-- a value with the number that `signed_number` gave
+pub tagged-is : (tag n : ℕ) (z : ℤ) → Signable tag n → z ≡ signedOf tag n → record { tag = tag; number = toZ w32 (ofZ w32 z) } ≡ taggedFrom tag n
+tagged-is tag n z h e =
+    ap (λ (y : ℤ). record { tag = tag; number = y }) (ap (λ (y : ℤ). toZ w32 (ofZ w32 y)) e ∙ toZ-ofZ (signed-fits tag n h))
 
-pub from-to : (z : ℤ) → T (inRange z) → fromExcess (toExcess z) ≡ z
-from-to (pos n) h = rw (le-ltb (n + 2147483648) 2147483648 (omega arith)) (ap pos (omega arith))
-from-to (negsuc n) h =
-    let l = ltb-true n 2147483648 (is-true _ h) in
-    rw (lt-ltb (2147483647 - n) 2147483648 (omega arith)) (ap negsuc (omega arith))
-
-pub excess-small : (z : ℤ) → T (inRange z) → toExcess z < 4294967296
-excess-small (pos n) h = let l = ltb-true n 2147483648 (is-true _ h) in omega arith
-excess-small (negsuc n) h = omega arith
+-- a part from its first four numbers and its two values
+pub part-is : (l : List ℕ) (i : ℕ) {left right : TaggedValue} → left ≡ taggedFrom (getD l (8 * i + 4) 0) (getD l (8 * i + 5) 0)
+    → right ≡ taggedFrom (getD l (8 * i + 6) 0) (getD l (8 * i + 7) 0)
+    → partWith (getD l (8 * i) 0) (getD l (8 * i + 1) 0) (getD l (8 * i + 2) 0) (getD l (8 * i + 3) 0) left right ≡ partIn l i
+part-is l i e f = ap₂ (partWith _ _ _ _) e f

@@ -1,135 +1,31 @@
--- What the functions of src/ promise one another and their callers. The contract of a public call cites nothing of this file.
+-- What the functions of src/ promise one another. The contract of READ cites nothing of this file.
 use mathlib.Core.Path.{_≡_}
-use mathlib.Core.Bool.{true, cond, not}
-use mathlib.Core.List.{List, [], _∷_, _++_}
-use mathlib.Core.Option.{some}
-use Prim.Native.Nat.{ℕ, zero, suc, _+_, _*_, _<_, _≤_}
-use lib.Dec.{eqb, ltb}
-use lib.IntN.{ℤ, pos}
-use lib.ListN.{length, take, getD}
-use Rattle.tables.specs.Lists.{isMissing}
-use Rattle.tables.specs.Tables.{columnsOf}
-use Rattle.tables.specs.Refusals.{Refusal, _if_, firstApplying, Answer, Refused, Given, unless}
-use Rattle.tables.specs.Values.{constantTag}
-use Rattle.cells.specs.Code.{fromExcess}
-use Rattle.cells.specs.Reasons.{reasonNumber}
-use Rattle.rule.specs.Tokens.{tokensOf, opensFit}
-use Rattle.rule.specs.Condition.{WrittenCondition, Rule, parts}
-use Rattle.rule.specs.Grammar.{Tokens}
-use Rattle.rule.specs.Reader.{readAll}
-use Rattle.rule.specs.Names.{limitsFit, outermost, ruleIn}
-use Rattle.rule.specs.Parts.{partsOf}
-use Rattle.rule.specs.Calls.{mostBytes, fails, isThere, ruleOf, readingRefusals, Accepted, withRule}
-use Rattle.lexer.specs.Code.{tokensIn}
-use Rattle.names.specs.Code.{partsNumbers}
-use Rattle.reader.specs.declared.Scanned.{Scanned}
-use Rattle.reader.specs.declared.Scanned.the-variants.{Tokens as ScannedTokens, NotScanned}
-use Rattle.reader.specs.declared.Parsed.{Parsed}
-use Rattle.reader.specs.declared.Parsed.the-variants.{Rule as ParsedRule, Refused as ParsedRefused}
+use mathlib.Core.List.{List, _++_}
+use Prim.Native.Nat.{ℕ, _≤_}
+use lib.ListN.{length, drop}
+use Rattle.rule.specs.declared.Part.{Part}
+use Rattle.rule.specs.Calls.{readCall}
+use Rattle.parser.specs.Parts.{partsIn, SmallParts}
+use Rattle.parser.specs.declared.Parsed.{Parsed}
+use Rattle.parser.specs.declared.Parsed.the-variants.{Rule as ParsedRule, Refused as ParsedRefused}
+use Rattle.reader.specs.Answers.{readAnswer}
 use Rattle.reader.specs.declared.Reading.{Reading}
-use Rattle.reader.specs.declared.Reading.the-variants.{Parts as ReadParts, NotRead}
+use Rattle.reader.specs.declared.Reading.the-variants.{Parts, NotRead}
 
--- ---- numbers of parts as they are published
-
--- a value's number by its tag: a constant less 2 ^ 31, or a column
-abbrev pub signedOf : ℕ → ℕ → ℤ
-signedOf tag n = cond (eqb tag constantTag) (fromExcess n) (pos n)
-
-pub record Signable (tag n : ℕ) : Type 0 where
-  pub constant : n < 4294967296
-  pub column : (tag ≡ 255 → ⊥) → n < 256
-
--- part i of an array of parts, and the first n
-abbrev pub signedPart : List ℕ → ℕ → List ℤ
-signedPart l i =
-    pos (getD l (8 * i) 0)
-    ∷ pos (getD l (8 * i + 1) 0)
-    ∷ pos (getD l (8 * i + 2) 0)
-    ∷ pos (getD l (8 * i + 3) 0)
-    ∷ pos (getD l (8 * i + 4) 0)
-    ∷ signedOf (getD l (8 * i + 4) 0) (getD l (8 * i + 5) 0)
-    ∷ pos (getD l (8 * i + 6) 0)
-    ∷ signedOf (getD l (8 * i + 6) 0) (getD l (8 * i + 7) 0)
-    ∷ []
-
-unfoldable pub signedParts : List ℕ → ℕ → List ℤ
-signedParts l zero = []
-signedParts l (suc n) = signedParts l n ++ signedPart l n
-
--- its fields have a byte each, but for the numbers of its values
-pub record SmallPart (l : List ℕ) (i : ℕ) : Type 0 where
-  pub kind : getD l (8 * i) 0 < 256
-  pub comparison : getD l (8 * i + 1) 0 < 256
-  pub table : getD l (8 * i + 2) 0 < 256
-  pub end : getD l (8 * i + 3) 0 < 256
-  pub left-tag : getD l (8 * i + 4) 0 < 256
-  pub left-number : Signable (getD l (8 * i + 4) 0) (getD l (8 * i + 5) 0)
-  pub right-tag : getD l (8 * i + 6) 0 < 256
-  pub right-number : Signable (getD l (8 * i + 6) 0) (getD l (8 * i + 7) 0)
-
-abbrev pub SmallParts : List ℕ → ℕ → Type 0
-SmallParts l n = (i : ℕ) → i < n → SmallPart l i
-
--- ---- reading in three steps: the refusals of tables are tried first, then these two groups
-
-abbrev pub scanRefusals : List ℕ → List Refusal
-scanRefusals text = (3 if ltb mostBytes (length text)) ∷ (4 if isMissing (tokensOf text)) ∷ []
-
--- so many tokens, at the front of an array
-pub record Scanning (text new : List ℕ) (n : ℕ) : Type 0 where
-  pub short : length text ≤ mostBytes
-  pub few : n ≤ 4096
-  pub are-tokens : tokensOf text ≡ some (tokensIn (take n new))
-
-abbrev pub ScannedTo : List ℕ → List ℕ → Scanned → Type 0
-ScannedTo text new (ScannedTokens n) = Scanning text new n
-ScannedTo text new (NotScanned x) = firstApplying (scanRefusals text) ≡ some (reasonNumber x)
-
-abbrev pub tokensRefusals : Tokens → List ℕ → List Refusal
-tokensRefusals ts columns =
-    (5 if not (opensFit (pos 0) ts))
-    ∷ (6 if not (isThere (readAll ts)))
-    ∷ (7 if fails limitsFit (readAll ts))
-    ∷ (8 if fails (λ a. isThere (ruleIn columns outermost a)) (readAll ts))
-    ∷ []
-
--- the rule of some tokens, and its parts at the front of an array
-pub record TokensParsing (s file new : List ℕ) (n : ℕ) : Type 0 where
-  pub brackets : opensFit (pos 0) (tokensIn s) ≡ true
-  pub tree : WrittenCondition
-  pub reads : readAll (tokensIn s) ≡ some tree
-  pub limits : limitsFit tree ≡ true
-  pub rule : Rule
-  pub named : ruleIn (columnsOf file) outermost tree ≡ some rule
-  pub count : n ≡ parts rule
-  pub written : take (8 * n) new ≡ partsNumbers (partsOf rule)
-
-abbrev pub TokensParsedTo : (s file new : List ℕ) → Parsed → Type 0
-TokensParsedTo s file new (ParsedRule n) = TokensParsing s file new n
-TokensParsedTo s file new (ParsedRefused x) = firstApplying (tokensRefusals (tokensIn s) (columnsOf file)) ≡ some (reasonNumber x)
-
--- ---- reading as a whole
-
--- how many parts a rule has, or a refusal of reading
-abbrev pub parsedAnswer : Parsed → Answer ℕ
-parsedAnswer (ParsedRule n) = Given n
-parsedAnswer (ParsedRefused x) = Refused (reasonNumber x)
-
-unfoldable pub parseCall : List ℕ → List ℕ → Answer ℕ
-parseCall text file = unless (firstApplying (readingRefusals text file)) (λ _. withRule (ruleOf text (columnsOf file)) 0 parts)
-
--- the rule of a text, and its parts at the front of an array
-pub record Parsing (text file new : List ℕ) (n : ℕ) : Type 0 where
-  pub accepted : Accepted text file
-  pub rule : Rule
-  pub is-rule : ruleOf text (columnsOf file) ≡ some rule
-  pub count : n ≡ parts rule
-  pub written : take (8 * n) new ≡ partsNumbers (partsOf rule)
-
-abbrev pub ParsedTo : (text file new : List ℕ) → Parsed → Type 0
-ParsedTo text file new (ParsedRule n) = Parsing text file new n
-ParsedTo text file new (ParsedRefused x) = Unit {0}
-
+-- what reading gave, as READ answers it
 abbrev pub passedUp : Parsed → Reading
-passedUp (ParsedRule n) = ReadParts n
+passedUp (ParsedRule n) = Parts n
 passedUp (ParsedRefused x) = NotRead x
+
+-- how many parts an answer says stand in the list
+abbrev pub storedBy : Reading → ℕ
+storedBy (Parts n) = n
+storedBy (NotRead x) = 0
+
+-- the answer for every list with room for so many parts, and what such a list is to hold then: the parts in new, and past them what it held
+pub record ReadTo (text file : List ℕ) (room : ℕ) (new : List ℕ) (r : Reading) : Type 0 where
+  pub few : storedBy r ≤ 64
+  pub fits : storedBy r ≤ room
+  pub small : SmallParts new (storedBy r)
+  pub answered : (old : List Part) → length old ≡ room → readAnswer r ≡ readCall text file old .result
+  pub written : (old : List Part) → length old ≡ room → partsIn new (storedBy r) ++ drop (storedBy r) old ≡ readCall text file old .buffer

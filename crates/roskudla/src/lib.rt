@@ -1,29 +1,21 @@
 // The calls on rules for C: READ, JUDGE and CARD. Each returns 0, or the number of the refusal; a refusal leaves what the pointers point to.
 // A slice is a pointer and then a length, in elements; what is written through one argument must not be reachable through another.
 ghost use mathlib.Core.Path.{_≡_};
-ghost use Prim.Native.Nat.{_/_};
-ghost use Rattle.rule.specs.Calls.{judgeCall};
+ghost use Rattle.rule.specs.Calls.{readCall, judgeCall};
 ghost use Rattle.translation.specs.Calls.{cardCall};
-ghost use Rattle.reader.specs.Calls.{numbersPerPart, readNumbers};
+ghost use Rattle.reader.specs.Answers.{readAnswer};
 ghost use Rattle.rule.specs.Meaning.{truthNumber};
 ghost use Rattle.roskudla_gate.specs.Exports.{statusOf, numberAfter};
 use judge::Judged;
 use reader::Reading;
+use rule::Part;
 use translator::Made;
 
-// READ: the parts of the rule, eight numbers for each, from the start of list on; count becomes how many parts they are.
-#[no_mangle]
-pub extern "C" fn roskudla_read(
-    text: &[u8],
-    tables: &[u8],
-    list: &mut [i32],
-    count: &mut usize,
-) -> u32
-    ensures status { λ r. ⌜ r ≡ statusOf (readNumbers (now (text .entry)) (now (tables .entry)) (now (list .entry)) .result) ⌝ }
-    ensures written { λ r. ⌜ now (list .exit) ≡ readNumbers (now (text .entry)) (now (tables .entry)) (now (list .entry)) .buffer ⌝ }
-    ensures counted { λ r. ⌜ now (count .exit) ≡ numberAfter (λ n. n / numbersPerPart) (readNumbers (now (text .entry)) (now (tables .entry)) (now (list .entry)) .result) (now (count .entry)) ⌝ }
+// READ's answer for C: the number of parts behind a pointer, and the status.
+fn give_count(reading: Reading, count: &mut usize) -> u32
+    ensures status { λ r. ⌜ r ≡ statusOf (readAnswer reading) ⌝ }
+    ensures counted { λ _. ⌜ now (count .exit) ≡ numberAfter (λ n. n) (readAnswer reading) (now (count .entry)) ⌝ }
 {
-    let reading = reader::read(text, tables, list);
     match reading {
         Reading::Parts(n) => {
             *count = n;
@@ -31,6 +23,22 @@ pub extern "C" fn roskudla_read(
         }
         Reading::NotRead(x) => cells::refusal_number(x),
     }
+}
+
+// READ: the parts of the rule from the start of parts on; count becomes how many they are.
+#[no_mangle]
+pub extern "C" fn roskudla_read(
+    text: &[u8],
+    tables: &[u8],
+    parts: &mut [Part],
+    count: &mut usize,
+) -> u32
+    ensures status { λ r. ⌜ r ≡ statusOf (readCall (now (text .entry)) (now (tables .entry)) (now (parts .entry)) .result) ⌝ }
+    ensures written { λ r. ⌜ now (parts .exit) ≡ readCall (now (text .entry)) (now (tables .entry)) (now (parts .entry)) .buffer ⌝ }
+    ensures counted { λ r. ⌜ now (count .exit) ≡ numberAfter (λ n. n) (readCall (now (text .entry)) (now (tables .entry)) (now (parts .entry)) .result) (now (count .entry)) ⌝ }
+{
+    let reading = reader::read(text, tables, parts);
+    give_count(reading, count)
 }
 
 // JUDGE: answer becomes 0 for false, 1 for unknown, 2 for true.

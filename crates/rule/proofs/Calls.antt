@@ -10,7 +10,8 @@ use Rattle.tables.specs.Tables.{columnsOf, rowCount, tablesOf}
 use Rattle.tables.specs.Refusals.{Given, lend, rowRefusal}
 use Rattle.tables.proofs.Refusals.{first-nil, first-one, first-none, first-append, first-found, lend-short, lend-long, lend-refused, unless-none, unless-some}
 use Rattle.rule.specs.Condition.{Rule}
-use Rattle.rule.specs.Parts.{Part, partsOf}
+use Rattle.rule.specs.Parts.{partsOf}
+use Rattle.rule.specs.declared.Part.{Part}
 use Rattle.rule.specs.Meaning.{Unknown, judged}
 use Rattle.rule.specs.Calls.{ruleOf, readingRefusals, withRule, readCall, judgeRefusals, judgeCall}
 use Rattle.rule.specs.Claims.{CallsClaim}

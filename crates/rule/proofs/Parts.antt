@@ -11,7 +11,8 @@ use Rattle.tables.proofs.Values.{comparison-back}
 use Rattle.rule.specs.Condition.{Compare, IsNull, IsNotNull, Atom, Join, Not, Exists, Listed, Rule, parts, fromsDeep}
 use Rattle.rule.specs.Names.{ValueScoped, Scoped}
 use Rattle.rule.specs.Claims.{EndsClaim}
-use Rattle.rule.specs.Parts.{taggedOf, Part, partsFrom, partsOf, valueOf, rulesOf, ruleOfParts}
+use Rattle.rule.specs.Parts.{taggedOf, partsFrom, partsOf, valueOf, rulesOf, ruleOfParts}
+use Rattle.rule.specs.declared.Part.{Part}
 
 -- a level below 255 is not taken for a constant's tag
 value-back : (n : ℕ) (v : Value) → n ≤ 255 → ValueScoped n v → valueOf (taggedOf v) ≡ v

@@ -14,7 +14,8 @@ use Rattle.rule.specs.Tokens.{tokensOf, opensFit}
 use Rattle.rule.specs.Condition.{WrittenCondition, Rule}
 use Rattle.rule.specs.Reader.{readAll}
 use Rattle.rule.specs.Names.{limitsFit, outermost, ruleIn}
-use Rattle.rule.specs.Parts.{Part, partsOf}
+use Rattle.rule.specs.Parts.{partsOf}
+use Rattle.rule.specs.declared.Part.{Part}
 use Rattle.rule.specs.Meaning.{Truth, Unknown, isTrue, judged}
 
 -- how long a text may be; refusal 3

@@ -10,7 +10,9 @@ use Rattle.tables.specs.Cases.{Edge, _refused_, accepted}
 use Rattle.tables.specs.Refusals.{Answer, Given, firstApplying, Lent}
 use Rattle.tables.specs.Values.{Eq, Ne, Lt, Le, Gt, Ge}
 use Rattle.rule.specs.Tokens.{bytes, Token, Fixed, Compares, Letter, Number}
-use Rattle.rule.specs.Parts.{TaggedValue, unused, Part, partWith}
+use Rattle.rule.specs.Parts.{unused, partWith}
+use Rattle.rule.specs.declared.TaggedValue.{TaggedValue}
+use Rattle.rule.specs.declared.Part.{Part}
 use Rattle.rule.specs.Meaning.{Truth, False, Unknown, True}
 use Rattle.rule.specs.Calls.{readingRefusals, readCall, judgeCall}
 
@@ -82,7 +84,7 @@ testCases =
     ∷ ("0 = 0 OR 0 = 1 AND 0 = 2" gives (T ∷ T ∷ T ∷ []))
     ∷ []
 
--- ---- the parts of two rules, in full: kind, end, comparison, table, left and right value
+-- ---- the parts of two rules, in full: kind, comparison, table, end, left and right value
 
 abbrev field : ℕ → ℤ → TaggedValue
 field t n = record { tag = t; number = n }
@@ -96,19 +98,19 @@ abbrev chainCase : PartsCase
 chainCase = record {
   text = "1 = 1 OR 1 = 2 OR 1 = 3 AND 1 = 4 AND NOT m.1 <= 2 OR EXISTS (FROM 2 v WHERE v.1 IS NULL)";
   parts =
-      partWith 2 13 0 0 unused unused
-      ∷ partWith 2 11 0 0 unused unused
-      ∷ partWith 2 5 0 0 unused unused
-      ∷ partWith 4 4 1 0 (field 255 (pos 1)) (field 255 (pos 1))
-      ∷ partWith 4 5 1 0 (field 255 (pos 1)) (field 255 (pos 2))
-      ∷ partWith 1 11 0 0 unused unused
-      ∷ partWith 1 9 0 0 unused unused
-      ∷ partWith 4 8 1 0 (field 255 (pos 1)) (field 255 (pos 3))
-      ∷ partWith 4 9 1 0 (field 255 (pos 1)) (field 255 (pos 4))
-      ∷ partWith 3 11 0 0 unused unused
-      ∷ partWith 4 11 4 0 (field 0 (pos 1)) (field 255 (pos 2))
-      ∷ partWith 7 13 0 2 unused unused
-      ∷ partWith 5 13 0 0 (field 1 (pos 1)) unused
+      partWith 2 0 0 13 unused unused
+      ∷ partWith 2 0 0 11 unused unused
+      ∷ partWith 2 0 0 5 unused unused
+      ∷ partWith 4 1 0 4 (field 255 (pos 1)) (field 255 (pos 1))
+      ∷ partWith 4 1 0 5 (field 255 (pos 1)) (field 255 (pos 2))
+      ∷ partWith 1 0 0 11 unused unused
+      ∷ partWith 1 0 0 9 unused unused
+      ∷ partWith 4 1 0 8 (field 255 (pos 1)) (field 255 (pos 3))
+      ∷ partWith 4 1 0 9 (field 255 (pos 1)) (field 255 (pos 4))
+      ∷ partWith 3 0 0 11 unused unused
+      ∷ partWith 4 4 0 11 (field 0 (pos 1)) (field 255 (pos 2))
+      ∷ partWith 7 0 2 13 unused unused
+      ∷ partWith 5 0 0 13 (field 1 (pos 1)) unused
       ∷ [];
 }
 
@@ -116,14 +118,14 @@ abbrev nestedCase : PartsCase
 nestedCase = record {
   text = "NOT (m.1 = 1 OR m.2 IS NOT NULL) AND m.1 NOT IN (SELECT v.1 FROM 2 v WHERE v.1 IN (SELECT m.2 FROM 1 m WHERE m.1 > -5))";
   parts =
-      partWith 1 8 0 0 unused unused
-      ∷ partWith 3 5 0 0 unused unused
-      ∷ partWith 2 5 0 0 unused unused
-      ∷ partWith 4 4 1 0 (field 0 (pos 1)) (field 255 (pos 1))
-      ∷ partWith 6 5 0 0 (field 0 (pos 2)) unused
-      ∷ partWith 9 8 2 2 (field 0 (pos 1)) (field 1 (pos 1))
-      ∷ partWith 8 8 1 1 (field 1 (pos 1)) (field 2 (pos 2))
-      ∷ partWith 4 8 5 0 (field 2 (pos 1)) (field 255 (negsuc 4))
+      partWith 1 0 0 8 unused unused
+      ∷ partWith 3 0 0 5 unused unused
+      ∷ partWith 2 0 0 5 unused unused
+      ∷ partWith 4 1 0 4 (field 0 (pos 1)) (field 255 (pos 1))
+      ∷ partWith 6 0 0 5 (field 0 (pos 2)) unused
+      ∷ partWith 9 2 2 8 (field 0 (pos 1)) (field 1 (pos 1))
+      ∷ partWith 8 1 1 8 (field 1 (pos 1)) (field 2 (pos 2))
+      ∷ partWith 4 5 0 8 (field 2 (pos 1)) (field 255 (negsuc 4))
       ∷ [];
 }
 
@@ -131,7 +133,7 @@ abbrev pub partsCases : List PartsCase
 partsCases = chainCase ∷ nestedCase ∷ []
 
 abbrev filler : Part
-filler = partWith 99 99 99 99 unused unused
+filler = partWith 99 99 99 99 (field 99 (pos 99)) (field 99 (negsuc 99))
 
 -- READ with room for two parts more, and what it is to give
 unfoldable pub partsRead : PartsCase → Lent Part

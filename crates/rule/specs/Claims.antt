@@ -15,7 +15,8 @@ use Rattle.rule.specs.Condition.{WrittenCondition, Rule, parts, fromsDee
 use Rattle.rule.specs.Grammar.{Tokens, Reads}
 use Rattle.rule.specs.Reader.{readAll}
 use Rattle.rule.specs.Names.{mostParts, mostFroms, outermost, ruleIn, Fits, Scoped}
-use Rattle.rule.specs.Parts.{Part, partsFrom, partsOf, ruleOfParts}
+use Rattle.rule.specs.Parts.{partsFrom, partsOf, ruleOfParts}
+use Rattle.rule.specs.declared.Part.{Part}
 use Rattle.rule.specs.Meaning.{judged}
 use Rattle.rule.specs.Calls.{mostBytes, ruleOf, readingRefusals, Accepted, readCall, judgeRefusals, judgeCall}
 use Rattle.rule.specs.Cases.{cases, judgedAt, expectedAt, testCases, partsCases, partsRead, partsGiven, everyWord, everyToken, edges, refusalAt}

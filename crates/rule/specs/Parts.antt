@@ -1,4 +1,5 @@
--- Document 01, Rule text: the parts of a rule, one record each, and the rule that parts stand for.
+-- Document 01, Rule text: the parts of a rule, one record each, and the rule that parts stand for. The record of a part, with its fields, is the struct
+-- `Part` of src/lib.rt, and a value, a tag and a number, the struct `TaggedValue`.
 use mathlib.Core.Bool.{cond}
 use mathlib.Core.List.{List, [], _∷_, _++_}
 use mathlib.Core.Option.{Option, none, some}
@@ -7,12 +8,9 @@ use lib.Dec.{eqb}
 use lib.IntN.{ℤ, pos, negsuc}
 use Rattle.tables.specs.Lists.{numbered}
 use Rattle.tables.specs.Values.{constantTag, Value, Constant, Column, Comparison, comparisonNumber, comparisonOf, Connective, And, Or, Quantifier, Some, All}
+use Rattle.rule.specs.declared.TaggedValue.{TaggedValue}
+use Rattle.rule.specs.declared.Part.{Part}
 use Rattle.rule.specs.Condition.{Test, Compare, IsNull, IsNotNull, Atom, Join, Not, Exists, Listed, Rule, parts}
-
--- a value as a part has it: a tag, which tells a constant from a level, and a number
-pub record TaggedValue : Type 0 where
-  pub tag : ℕ
-  pub number : ℤ
 
 abbrev pub taggedOf : Value → TaggedValue
 taggedOf (Constant k) = record { tag = constantTag; number = k }
@@ -21,15 +19,6 @@ taggedOf (Column l c) = record { tag = l; number = pos c }
 -- a value that a kind does not use
 abbrev pub unused : TaggedValue
 unused = record { tag = 0; number = pos 0 }
-
--- a part's record
-pub record Part : Type 0 where
-  pub kind : ℕ
-  pub comparison : ℕ
-  pub table : ℕ
-  pub end : ℕ
-  pub left : TaggedValue
-  pub right : TaggedValue
 
 -- ---- what a part says by itself
 
@@ -52,19 +41,19 @@ kindOf (ExistsHead t) = 7
 kindOf (ListedHead Some op l s t) = 8
 kindOf (ListedHead All op l s t) = 9
 
--- kind, end, and the fields comparison, table, left, right
+-- a part by its fields: kind, comparison, table, end, left and right value
 abbrev pub partWith : ℕ → ℕ → ℕ → ℕ → TaggedValue → TaggedValue → Part
-partWith k e op t l r = record { kind = k; comparison = op; table = t; end = e; left = l; right = r }
+partWith k op t e l r = record { kind = k; comparison = op; table = t; end = e; left = l; right = r }
 
 -- the record of a part, by what it says: fields that it does not use are 0, and a list's right value is the selected one
 abbrev pub partOf : ℕ → Head → Part
-partOf e (JoinHead j) = partWith (kindOf (JoinHead j)) e 0 0 unused unused
-partOf e NotHead = partWith (kindOf NotHead) e 0 0 unused unused
-partOf e (AtomHead (Compare op l r)) = partWith (kindOf (AtomHead (Compare op l r))) e (comparisonNumber op) 0 (taggedOf l) (taggedOf r)
-partOf e (AtomHead (IsNull l)) = partWith (kindOf (AtomHead (IsNull l))) e 0 0 (taggedOf l) unused
-partOf e (AtomHead (IsNotNull l)) = partWith (kindOf (AtomHead (IsNotNull l))) e 0 0 (taggedOf l) unused
-partOf e (ExistsHead t) = partWith (kindOf (ExistsHead t)) e 0 t unused unused
-partOf e (ListedHead q op l s t) = partWith (kindOf (ListedHead q op l s t)) e (comparisonNumber op) t (taggedOf l) (taggedOf s)
+partOf e (JoinHead j) = partWith (kindOf (JoinHead j)) 0 0 e unused unused
+partOf e NotHead = partWith (kindOf NotHead) 0 0 e unused unused
+partOf e (AtomHead (Compare op l r)) = partWith (kindOf (AtomHead (Compare op l r))) (comparisonNumber op) 0 e (taggedOf l) (taggedOf r)
+partOf e (AtomHead (IsNull l)) = partWith (kindOf (AtomHead (IsNull l))) 0 0 e (taggedOf l) unused
+partOf e (AtomHead (IsNotNull l)) = partWith (kindOf (AtomHead (IsNotNull l))) 0 0 e (taggedOf l) unused
+partOf e (ExistsHead t) = partWith (kindOf (ExistsHead t)) 0 t e unused unused
+partOf e (ListedHead q op l s t) = partWith (kindOf (ListedHead q op l s t)) (comparisonNumber op) t e (taggedOf l) (taggedOf s)
 
 -- ---- the parts of a rule, the first of which has the number k
 -- a part stands before its inner parts, and the left ones before the right ones; its end is the number of the first part behind them
@@ -88,6 +77,7 @@ naturalOf (negsuc n) = 0
 abbrev pub valueOf : TaggedValue → Value
 valueOf f = cond (eqb (f .tag) constantTag) (Constant (f .number)) (Column (f .tag) (naturalOf (f .number)))
 
+-- what a part of this record says; a kind above 9, or 0, which no part has, is taken as NOT
 abbrev pub headOf : Part → Head
 headOf p =
     let op = comparisonOf (p .comparison) in

@@ -1,1 +1,21 @@
-// What a rule is, from its text to its value. The definitions are in specs/.
+// What a rule is, from its text to its value. The definitions are in specs/; this is the record of a part, as the definitions and the code have it.
+// Laid out as C lays out the same struct, for callers in C.
+
+// A value: a tag, 255 for a constant, else the level of a column; and the constant, or the column's number.
+#[repr(C)]
+pub struct TaggedValue {
+    pub tag: u8,
+    pub number: i32,
+}
+
+// A part of a rule: its kind, 1 to 9; its comparison, 1 to 6; the number of its table; the number of the first part after it and its inner parts; its
+// values. What the numbers mean is in specs/Parts.antt; fields that a kind does not use are 0.
+#[repr(C)]
+pub struct Part {
+    pub kind: u8,
+    pub comparison: u8,
+    pub table: u8,
+    pub end: u8,
+    pub left: TaggedValue,
+    pub right: TaggedValue,
+}

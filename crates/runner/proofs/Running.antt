@@ -14,14 +14,15 @@ use Rattle.tables.specs.Lists.{tabulate}
 use Rattle.tables.specs.Bytes.{between}
 use Rattle.tables.specs.Tables.{mostTables, mostRows, mostCells, Row, columnsOf, tablesOf}
 use Rattle.tables.specs.Values.{comparisonOf, holds, Connective, And, Or, Quantifier, Some, All, Env, _▸_, cellOf, byNumbers, isBlank, valueFits}
-use Rattle.cells.specs.Code.{seenCell}
+use Rattle.cells.specs.Code.{seenCell, placeIn}
+use Rattle.cells.specs.declared.Place.{Place}
 use Rattle.cells.specs.declared.Seen.{Seen}
 use Rattle.tables.proofs.Tests.{both}
 use Rattle.card.specs.Card.{AsNo, AsYes, Leaf, CompareLeaf, BlankLeaf, NotBlankLeaf, Card, LeafEntry, PairEntry, RowEntry, leafSays, joined, overRows, answer, leafFits, rowEntryFits, cardFits}
 use Rattle.card.specs.Layout.{LeafHead, PairHead, RowHead}
 use Rattle.card.specs.Sound.{mostEntries}
-use Rattle.checker.specs.Code.{kindIn, tableIn, comparisonIn, leftIn, rightIn, headIn, Coded, coded-leaf, coded-pair, coded-row}
-use Rattle.checker.proofs.Coded.{head-1, head-2, head-3, head-4, head-5, head-6, head-7, head-8, kind-is, kind-pair, kind-row, kind-leaf, coded-less, coded-end, PairParts, RowParts, pair-of, row-of}
+use Rattle.decoder.specs.Code.{kindIn, tableIn, comparisonIn, leftIn, rightIn, headIn, Coded, coded-leaf, coded-pair, coded-row}
+use Rattle.decoder.proofs.Coded.{head-1, head-2, head-3, head-4, head-5, head-6, head-7, head-8, kind-is, kind-pair, kind-row, kind-leaf, coded-less, coded-end, PairParts, RowParts, pair-of, row-of}
 use Rattle.values.specs.Code.{rowFrom, Readable, ValueReady}
 use Rattle.runner.specs.Code.{LeafReady, Runnable, rowKind}
 use Rattle.values.proofs.Numbers.{seen-blank}
@@ -196,18 +197,19 @@ rowSays file env (PairEntry j a b) k columns = false
 rowSays file env (RowEntry q t c) k columns = answer (tablesOf file) (env ▸ rowFrom file k columns) c
 
 -- the bounds of a row entry's numbers
-pub record RowBounds (s e depth t rows : ℕ) : Type 0 where
+pub record RowBounds (s e depth t : ℕ) : Type 0 where
   pub low : 1 ≤ t
   pub high : t ≤ mostTables
   pub deep : depth < 4
   pub next : s + 1 < e
   pub last : e ≤ mostEntries
-  pub few : rows ≤ mostRows
 
--- the first r rows of a table have passed, and each says q
-pub record RowsPassed (d g file w : List ℕ) (s e depth : ℕ) (q : Bool) (start columns r first : ℕ) (v : List ℕ) : Type 0 where
-  pub next : NextRow w depth start columns r first v
-  pub each : (h : Runnable d g file w s e depth) (k : ℕ) → k < r → rowSays file (h .env) (h .card) (start + k * columns) columns ≡ q
+-- the place is that of the entry's table, the first r rows of it have passed, and each says q
+pub record RowsPassed (d g file w : List ℕ) (s e depth : ℕ) (q : Bool) (place : Place) (r first : ℕ) (v : List ℕ) : Type 0 where
+  pub is : place ≡ placeIn g (tableIn d s)
+  pub next : NextRow w depth (firstAt g (tableIn d s)) (columnsAt g (tableIn d s)) r first v
+  pub each : (h : Runnable d g file w s e depth) (k : ℕ) → k < r
+      → rowSays file (h .env) (h .card) (firstAt g (tableIn d s) + k * columnsAt g (tableIn d s)) (columnsAt g (tableIn d s)) ≡ q
 
 module _ {d g file w : List ℕ} {s e depth : ℕ} (h : Runnable d g file w s e depth) where
   pub start : (s < e) × (e ≤ mostEntries)
@@ -321,21 +323,26 @@ module _ {d g file w : List ℕ} {s e depth : ℕ} (h : Runnable d g file w s e 
     table : TableAt file (tableIn d s) (firstAt g (tableIn d s)) (columnsAt g (tableIn d s)) (rowsAt g (tableIn d s))
     table = table-here (h .readable) (tableIn d s) (table-there .0)
 
-    pub row-bounds : RowBounds s e depth (tableIn d s) (rowsAt g (tableIn d s))
+    pub row-bounds : RowBounds s e depth (tableIn d s)
     row-bounds =
         let t = table-bounds (h .readable) (tableIn d s) (table-there .0) in
         let l = table-there .1 in
         let p = h .deep in
-        record { low = t .0; high = t .1; deep = omega arith; next = coded-less (row-here .inner-coded); last = h .few; few = table .few }
+        record { low = t .0; high = t .1; deep = omega arith; next = coded-less (row-here .inner-coded); last = h .few }
 
     -- a row of the table, after those that have passed
-    module _ {r first : ℕ} {v : List ℕ} (below : r < rowsAt g (tableIn d s))
-        (passed : RowsPassed d g file w s e depth q (firstAt g (tableIn d s)) (columnsAt g (tableIn d s)) r first v) where
-      pub row-room : first + columnsAt g (tableIn d s) ≤ mostCells
-      row-room = room-at (h .readable) (tableIn d s) (table-there .0) (h .deep) below (passed .next)
+    module _ {place : Place} {r first : ℕ} {v : List ℕ} (below : r < place .rows) (passed : RowsPassed d g file w s e depth q place r first v) where
+      row-below : r < rowsAt g (tableIn d s)
+      row-below = rw (passed .is) at below
+
+      pub row-room : first + place .columns ≤ mostCells
+      row-room = rw (passed .is) (room-at (h .readable) (tableIn d s) (table-there .0) (h .deep) row-below (passed .next))
+
+      pub row-few : r < mostRows
+      row-few = let f = table .few in let b = row-below in omega arith
 
       pub inner-readable : Readable g file (set v depth first) (h .levels ++ (tableIn d s ∷ [])) (h .env ▸ rowFrom file first (columnsAt g (tableIn d s)))
-      inner-readable = row-readable (h .readable) (tableIn d s) (table-there .0) (h .deep) below (passed .next) (row-bounds .deep)
+      inner-readable = row-readable (h .readable) (tableIn d s) (table-there .0) (h .deep) row-below (passed .next) (row-bounds .deep)
 
       pub inner-deep : depth + 1 ≡ length (h .levels ++ (tableIn d s ∷ []))
       inner-deep = row-deep (h .readable) (tableIn d s) (table-there .0) (h .deep)
@@ -371,29 +378,32 @@ module _ {d g file w : List ℕ} {s e depth : ℕ} (h : Runnable d g file w s e 
     unfolding answer
     rows-answer = sym (ap (answer (tablesOf file) (h .env)) (row-here .is) ∙ ap (overRows (quantifierBy q) saysBy) (table .rows-are))
 
-    module _ {r first : ℕ} {v : List ℕ} (passed : RowsPassed d g file w s e depth q (firstAt g (tableIn d s)) (columnsAt g (tableIn d s)) r first v) where
-      pub row-stops : r < rowsAt g (tableIn d s) → (a : Bool)
+    module _ {place : Place} {r first : ℕ} {v : List ℕ} (passed : RowsPassed d g file w s e depth q place r first v) where
+      pub row-stops : r < place .rows → (a : Bool)
           → a ≡ answer (tablesOf file) (h .env ▸ rowFrom file first (columnsAt g (tableIn d s))) (row-here .inner) → a ≡ not q
           → a ≡ answer (tablesOf file) (h .env) (h .card)
-      row-stops below a says z = z ∙ over-stop saysBy q _ rowBy r below (rw (← passed .next .first-is) (sym says ∙ z)) ∙ rows-answer
+      row-stops below a says z = z ∙ over-stop saysBy q _ rowBy r (row-below below passed) (rw (← passed .next .first-is) (sym says ∙ z)) ∙ rows-answer
 
-      pub rows-end : rowsAt g (tableIn d s) ≤ r → q ≡ answer (tablesOf file) (h .env) (h .card)
-      rows-end end = over-end saysBy q (rowsAt g (tableIn d s)) rowBy (λ r m. inner-says _ ∙ passed .each h r (omega arith)) ∙ rows-answer
+      pub rows-end : place .rows ≤ r → q ≡ answer (tablesOf file) (h .env) (h .card)
+      rows-end end =
+          let past = rw (passed .is) at end in
+          over-end saysBy q (rowsAt g (tableIn d s)) rowBy (λ r m. inner-says _ ∙ passed .each h r (omega arith)) ∙ rows-answer
 
 -- ---- the loop over a table's rows
 
-module _ (d g file w : List ℕ) (s e depth : ℕ) (q : Bool) (start columns : ℕ) where
-  pub passed-none : length w ≡ 4 → RowsPassed d g file w s e depth q start columns 0 start w
-  passed-none long = record { next = next-none w depth start columns long; each = λ h k m. absurd (not-suc-le-zero m) }
+module _ (d g file w : List ℕ) (s e depth : ℕ) (q : Bool) {place : Place} where
+  pub passed-none : length w ≡ 4 → place ≡ placeIn g (tableIn d s) → RowsPassed d g file w s e depth q place 0 (place .first) w
+  passed-none long is = record { is = is; next = rw is (next-none w depth _ _ long); each = λ h k m. absurd (not-suc-le-zero m) }
 
-  pub passed-more : {r first : ℕ} {v : List ℕ} → RowsPassed d g file w s e depth q start columns r first v
-      → ((h : Runnable d g file w s e depth) → rowSays file (h .env) (h .card) first columns ≡ q)
-      → RowsPassed d g file w s e depth q start columns (r + 1) (first + columns) (set v depth first)
+  pub passed-more : {r first : ℕ} {v : List ℕ} → RowsPassed d g file w s e depth q place r first v
+      → ((h : Runnable d g file w s e depth) → rowSays file (h .env) (h .card) first (columnsAt g (tableIn d s)) ≡ q)
+      → RowsPassed d g file w s e depth q place (r + 1) (first + place .columns) (set v depth first)
   passed-more {r} {first} {v} p new =
       record {
-        next = next-more (p .next);
+        is = p .is;
+        next = rw (p .is) (next-more (p .next));
         each = λ h k m. ⊎-elim
-            (λ z. let e : start + k * columns ≡ first = ap (λ (x : ℕ). start + x * columns) z ∙ sym (p .next .first-is) in rw e (new h))
+            (λ z. rw z (rw (← p .next .first-is) (new h)))
             (λ z. p .each h k z)
             (eq-or-lt-of-le {n = k} {m = r} (omega arith));
       }

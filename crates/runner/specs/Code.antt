@@ -13,7 +13,7 @@ use Rattle.values.specs.Code.{Readable}
 use Rattle.card.specs.Card.{Leaf, Card, leafFits, cardFits, leafSays, answer}
 use Rattle.card.specs.Layout.{LeafHead}
 use Rattle.card.specs.Sound.{mostEntries}
-use Rattle.checker.specs.Code.{headIn, Coded}
+use Rattle.decoder.specs.Code.{headIn, Coded}
 
 -- ---- what running asks, and answers: for whatever levels, rows and card the numbers stand for
 

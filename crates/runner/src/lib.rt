@@ -6,19 +6,19 @@ ghost use mathlib.Core.Bool.{true, false};
 ghost use Prim.Native.Nat.{_+_, _*_, _<_, _≤_};
 ghost use Rattle.tables.specs.Values.{comparisonOf, holds, byNumbers};
 ghost use Rattle.cells.specs.Code.{seenCell};
-ghost use Rattle.checker.specs.Code.{kindIn};
+ghost use Rattle.decoder.specs.Code.{kindIn};
 ghost use Rattle.runner.specs.Code.{LeafReady, LeafAnswers, Runnable, Answers, rowKind};
 use cells::PLACES;
 use cells::Seen;
-use checker::COMPARISON;
-use checker::DECODED;
-use checker::FIELDS;
-use checker::LEFT_NUMBER;
-use checker::LEFT_TAG;
-use checker::NEXT_END;
-use checker::RIGHT_NUMBER;
-use checker::RIGHT_TAG;
-use checker::TABLE;
+use decoder::COMPARISON;
+use decoder::DECODED;
+use decoder::FIELDS;
+use decoder::LEFT_NUMBER;
+use decoder::LEFT_TAG;
+use decoder::NEXT_END;
+use decoder::RIGHT_NUMBER;
+use decoder::RIGHT_TAG;
+use decoder::TABLE;
 use values::LEVELS;
 
 // Whether two cells compare so; unknown is the answer where one of them is blank. The numbers are compared first: one branch is left.
@@ -82,19 +82,17 @@ fn run_leaf_rows(
     requires { ⌜ Runnable (now d) (now g) (now file) (now w) s e depth ⌝ ∗ ⌜ kindIn (now d) s ≡ rowKind q ⌝ ∗ ⌜ 4 < kindIn (now d) (s + 1) ⌝ }
     ensures { λ r. ⌜ Answers (now (d .entry)) (now (g .entry)) (now (file .entry)) (now (w .entry)) s e depth r ⌝ }
 {
-    let t = d[FIELDS * s + TABLE];
-    let mut first = g[3 * t];
-    let columns = g[3 * t + 1];
-    let rows = g[3 * t + 2];
+    let table = cells::table_place(g, d[FIELDS * s + TABLE]);
+    let mut first = table.first;
     let mut v = *w;
     let mut r: usize = 0;
-    while r < rows {
+    while r < table.rows {
         v[depth] = first;
         let a = run_leaf(d, g, file, s + 1, &v);
         if a != q {
             return a;
         }
-        first += columns;
+        first += table.columns;
         r += 1;
     }
     q
@@ -172,19 +170,17 @@ fn run_rows(
     if 4 < d[FIELDS * (s + 1)] {
         return run_leaf_rows(d, g, file, s, e, w, depth, q);
     }
-    let t = d[FIELDS * s + TABLE];
-    let mut first = g[3 * t];
-    let columns = g[3 * t + 1];
-    let rows = g[3 * t + 2];
+    let table = cells::table_place(g, d[FIELDS * s + TABLE]);
+    let mut first = table.first;
     let mut v = *w;
     let mut r: usize = 0;
-    while r < rows {
+    while r < table.rows {
         v[depth] = first;
         let a = run_entry(d, g, file, s + 1, e, &v, depth + 1);
         if a != q {
             return a;
         }
-        first += columns;
+        first += table.columns;
         r += 1;
     }
     q

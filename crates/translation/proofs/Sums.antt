@@ -6,7 +6,8 @@ use native.Mathlib.Omega.{arith}
 use Rattle.tables.specs.Values.{And, Or, Some, All}
 use Rattle.card.specs.Card.{Interpretation, AsNo, Card, LeafEntry, PairEntry, RowEntry, entries}
 use Rattle.rule.specs.Condition.{Compare, IsNull, IsNotNull, Atom, Join, Not, Exists, Listed, Rule, parts, nots, lists}
-use Rattle.rule.specs.Parts.{Part, partsFrom}
+use Rattle.rule.specs.Parts.{partsFrom}
+use Rattle.rule.specs.declared.Part.{Part}
 use Rattle.rule.proofs.Parts.{parts-length}
 use Rattle.translation.specs.Translation.{other, negated, cardOf, ruleCard, entrySum, ofKind}
 use Rattle.translation.specs.Claims.{SumClaim}

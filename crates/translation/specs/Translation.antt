@@ -5,7 +5,7 @@ use Prim.Native.Nat.{ℕ, _+_, _-_, _*_}
 use lib.Dec.{eqb}
 use Rattle.tables.specs.Values.{Comparison, Eq, Ne, Lt, Le, Gt, Ge, Value, Connective, And, Or, Quantifier, Some, All}
 use Rattle.card.specs.Card.{Interpretation, AsNo, AsYes, Leaf, CompareLeaf, BlankLeaf, NotBlankLeaf, Card, LeafEntry, PairEntry, RowEntry}
-use Rattle.rule.specs.Parts.{Part}
+use Rattle.rule.specs.declared.Part.{Part}
 use Rattle.rule.specs.Condition.{Test, Compare, IsNull, IsNotNull, Atom, Join, Not, Exists, Listed, Rule, parts, nots, lists}
 
 -- ---- the two interpretations

@@ -12,8 +12,8 @@ use Rattle.card.specs.Card.{AsNo, entries}
 use Rattle.rule.specs.Condition.{Compare, IsNull, IsNotNull, Atom, Join, Not, Exists, Listed, Rule, parts, nots, lists}
 use Rattle.rule.specs.Parts.{partsOf}
 use Rattle.names.specs.Code.{partsNumbers}
-use Rattle.reader.specs.Parts.{Stands}
-use Rattle.reader.proofs.Parts.{kind-stands, rule-stands}
+use Rattle.parser.specs.Parts.{Stands}
+use Rattle.parser.proofs.Parts.{kind-stands, rule-stands}
 use Rattle.translation.specs.Translation.{ruleCard}
 use Rattle.translation.proofs.Sums.{card-sum}
 use Rattle.translator.specs.Code.{entriesOfKind, entriesIn}

@@ -16,9 +16,9 @@ use Rattle.rule.specs.Condition.{Rule, parts}
 use Rattle.rule.specs.Parts.{partsOf}
 use Rattle.rule.specs.Calls.{ruleOf}
 use Rattle.names.specs.Code.{partsNumbers}
-use Rattle.reader.specs.Code.{parsedAnswer, parseCall, Parsing, ParsedTo}
-use Rattle.reader.specs.declared.Parsed.{Parsed}
-use Rattle.reader.proofs.Known.{Known, known, parse-refused, parse-given}
+use Rattle.parser.specs.Code.{parsedAnswer, parseCall, Parsing, ParsedTo}
+use Rattle.parser.specs.declared.Parsed.{Parsed}
+use Rattle.parser.proofs.Known.{Known, known, parse-refused, parse-given}
 use Rattle.translation.specs.Translation.{ruleCard}
 use Rattle.translation.specs.Calls.{ruleBytes, cardCall}
 use Rattle.translation.specs.Demand3.{publishedLength, CardClaim}

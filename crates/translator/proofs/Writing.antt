@@ -17,12 +17,12 @@ use Rattle.card.proofs.Walk.{kinds-length, records-length}
 use Rattle.rule.specs.Condition.{parts}
 use Rattle.rule.specs.Parts.{partsOf}
 use Rattle.rule.proofs.Parts.{parts-length}
-use Rattle.reader.specs.Code.{SmallParts}
-use Rattle.reader.proofs.Small.{rule-small, few-tables, few-columns, written-parts}
+use Rattle.parser.specs.Parts.{SmallParts}
+use Rattle.parser.proofs.Small.{rule-small, few-tables, few-columns, written-parts}
 use Rattle.translation.specs.Translation.{ruleCard}
 use Rattle.entries.specs.Code.{cardAs, Writable, Wrote, WroteTo}
 use Rattle.translator.specs.Code.{CardReady}
-use Rattle.reader.proofs.Parts.{rule-stands}
+use Rattle.parser.proofs.Parts.{rule-stands}
 
 -- what stands before the kinds of a card of n entries
 abbrev pub sizesOf : List ℕ → ℕ → List ℕ

@@ -14,8 +14,8 @@ use Rattle.rule.specs.Names.{Fits}
 use Rattle.rule.specs.Parts.{partsOf}
 use Rattle.translation.specs.Translation.{ruleCard}
 use Rattle.names.specs.Code.{partsNumbers}
-use Rattle.reader.specs.declared.Parsed.{Parsed}
-use Rattle.reader.specs.declared.Parsed.the-variants.{Rule as ParsedRule, Refused as ParsedRefused}
+use Rattle.parser.specs.declared.Parsed.{Parsed}
+use Rattle.parser.specs.declared.Parsed.the-variants.{Rule as ParsedRule, Refused as ParsedRefused}
 use Rattle.translator.specs.declared.Made.{Made}
 use Rattle.translator.specs.declared.Made.the-variants.{Bytes, NotMade}
 

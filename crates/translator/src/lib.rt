@@ -16,7 +16,7 @@ use card::RECORD_SIZE;
 use cells::Reason;
 use names::PART_FIELDS;
 use names::PART_NUMBERS;
-use reader::Parsed;
+use parser::Parsed;
 
 // How many entries a part makes up by itself: NOT none, and a list its test of rows, its AND or OR, and its comparison.
 fn entries_of(kind: usize) -> usize
@@ -107,7 +107,7 @@ pub fn make_card(text: &[u8], file: &[u8], out: &mut [u8]) -> Made
     ensures written { λ r. ⌜ now (out .exit) ≡ cardCall (now (text .entry)) (now (file .entry)) (now (out .entry)) .buffer ⌝ }
 {
     let mut p = [0usize; PART_NUMBERS];
-    let parsed = reader::parse(text, file, &mut p);
+    let parsed = parser::parse(text, file, &mut p);
     let Parsed::Rule(n) = parsed else {
         return passed_up(parsed);
     };

@@ -1,5 +1,5 @@
 -- The rows of tables by the numbers of their first cells: where a table's rows stand, and what the levels see of them.
-use mathlib.Core.Path.{_≡_, sym, ap, subst, _∙_}
+use mathlib.Core.Path.{_≡_, sym, ap, ap₂, subst, _∙_}
 use mathlib.Core.List.{List, [], _∷_, _++_}
 use mathlib.Core.Logic.{_⊎_, inl, inr}
 use Prim.Native.Nat.{ℕ, zero, suc, _+_, _-_, _*_, _<_, _≤_}
@@ -11,13 +11,16 @@ use lib.ListN.{length, getD, set, length-set, length-append, List·getD-append}
 use lib.Seq.{getD-set-same, getD-set-other, getD-at}
 use Rattle.tables.specs.Lists.{tabulate, numbered}
 use Rattle.tables.specs.Bytes.{between}
-use Rattle.tables.specs.Tables.{mostRows, Blank, Present, Row, tableCount, sizeAt, columnsOf, cellsBefore, cellCount, cellAt, tableFrom, tablesOf, rowsOf, cellIn}
+use Rattle.tables.specs.Tables.{mostRows, Blank, Present, Row, tableCount, sizeAt, columnsOf, cellsBefore, cellCount, valuesAt, marksAt, cellAt, tableFrom, tablesOf, rowsOf, cellIn}
 use Rattle.tables.specs.Values.{constantTag, Column, Env, _▸_, cellOf, valueFits}
-use Rattle.cells.specs.Code.{fromExcess, Sized, Places, CellIn}
+use Rattle.cells.specs.Code.{fromExcess, Sized, Places, seenCell}
+use Rattle.cells.specs.declared.Place.{Place}
+use Rattle.window.specs.Window.{shown, seenAt}
 use Rattle.tables.proofs.Tests.{both, bounds}
 use Rattle.tables.proofs.Tabulated.{tabulate-at}
 use Rattle.tables.proofs.Sizes.{column-at}
 use Rattle.cells.proofs.Cells.{cells-within, place-of, values-of, marks-of}
+use Rattle.window.proofs.Shown.{seen-shown, shown-from}
 use Rattle.values.specs.Code.{valueIn, rowFrom, LevelAt, Levels, ValueReady}
 
 -- ---- where a table's rows stand
@@ -93,6 +96,13 @@ levels-more file w levels env v depth k t row h deep few long same new =
 
 -- ---- values
 
+-- where the cell stands that a column names: cell k of all
+pub record CellIn (file : List ℕ) (values marks k : ℕ) : Type 0 where
+  pub sized : Sized file
+  pub values-at : values ≡ valuesAt file
+  pub marks-at : marks ≡ marksAt file
+  pub within : k < cellCount file
+
 pub value-constant : (env : Env) (tag n : ℕ) → tag ≡ constantTag → Present (fromExcess n) ≡ cellOf env (valueIn tag n)
 unfolding valueIn
 value-constant env tag n e = rw (eq-eqb tag constantTag e)
@@ -109,6 +119,10 @@ row-cell file k t row zero h low high = absurd (omega arith)
 row-cell file k t row (suc c) h low high =
     let z : suc c - 1 ≡ c = omega arith in
     rw (h .row-is, z) (tabulate-at (numbered (columnsOf file) t 0) (λ c. cellAt file (k + c)) c Blank high)
+
+-- the place of column n in the row of a level, and no other cell
+abbrev cellPlace : (g w : List ℕ) (tag n : ℕ) → Place
+cellPlace g w tag n = record { values = getD g 0 0; marks = getD g 1 0; first = getD w tag 0 + (n - 1); columns = 1; rows = 1 }
 
 module _ {g file w : List ℕ} {tag n : ℕ} (h : ValueReady g file w tag n) (not-constant : tag ≡ constantTag → ⊥) where
   column-fits : T (valueFits (columnsOf file) (h .levels) (Column tag n))
@@ -134,8 +148,15 @@ module _ {g file w : List ℕ} {tag n : ℕ} (h : ValueReady g file w tag n) (no
         within = omega arith;
       }
 
-  pub cell-is : cellAt file (getD w tag 0 + (n - 1)) ≡ cellOf (h .env) (valueIn tag n)
-  cell-is =
+  -- the window on the cell alone shows it
+  pub window-shows : seenCell (seenAt file (cellPlace g w tag n) 0 0) ≡ cellOf (h .env) (valueIn tag n)
+  window-shows =
+      let k = getD w tag 0 in
       let c = column-there in
-      rw (value-column tag n not-constant)
-      (sym (row-cell file (getD w tag 0) (getD (h .levels) tag 0) (getD (h .env) tag []) n (h .readable .standing .at tag (c .0)) (c .1 .0) (c .1 .1)))
+      let z : k + (n - 1) + 0 * 1 + 0 ≡ k + (n - 1) = omega arith in
+      seen-shown file (cellPlace g w tag n) 0 0
+      ∙ ap₂ (λ (v m : ℕ). shown file (record { values = v; marks = m; first = k + (n - 1); columns = 1; rows = 1 }) 0 0) (cell-there .values-at) (cell-there .marks-at)
+      ∙ shown-from file (k + (n - 1)) 1 1 0 0
+      ∙ ap (cellAt file) z
+      ∙ sym (row-cell file k (getD (h .levels) tag 0) (getD (h .env) tag []) n (h .readable .standing .at tag (c .0)) (c .1 .0) (c .1 .1))
+      ∙ ap (cellOf (h .env)) (sym (value-column tag n not-constant))

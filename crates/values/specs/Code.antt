@@ -48,5 +48,6 @@ pub record ValueReady (g file w : List ℕ) (tag n : ℕ) : Type 0 where
   pub readable : Readable g file w levels env
   pub fits : T (valueFits (columnsOf file) levels (valueIn tag n))
 
+-- the cell of the value; which number is seen under a blank is open, and no comparison reads it
 abbrev pub Sees : (g file w : List ℕ) (tag n : ℕ) → Seen → Type 0
 Sees g file w tag n r = (h : ValueReady g file w tag n) → seenCell r ≡ cellOf (h .env) (valueIn tag n)

@@ -5,6 +5,7 @@ ghost use Rattle.tables.specs.Values.{comparisonOf, holds};
 ghost use Rattle.cells.specs.Code.{fromExcess};
 ghost use Rattle.values.specs.Code.{ValueReady, Sees};
 use cells::PLACES;
+use cells::Place;
 use cells::Seen;
 
 // How many levels a value can name: the judged row, and a row for each of at most three FROMs, or row entries, around it.
@@ -24,7 +25,16 @@ pub fn look(g: &[usize; PLACES], file: &[u8], w: &[usize; LEVELS], tag: usize, n
             number: n,
         };
     }
-    cells::cell(file, g[0], g[1], w[tag] + (n - 1))
+    // The number of the cell is known here, so the window is on this cell alone: no row has to be counted at each look.
+    let first = w[tag] + (n - 1);
+    let at = Place {
+        values: g[0],
+        marks: g[1],
+        first,
+        columns: 1,
+        rows: 1,
+    };
+    window::cell(file, at, 0, 0)
 }
 
 // Whether two numbers compare so.

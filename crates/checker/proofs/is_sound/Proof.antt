@@ -3,7 +3,7 @@ use mathlib.Core.Path.{sym, _∙_}
 use native.Mathlib.Omega.{arith}
 use borrow.Author.Needs.{needs}
 use borrow.Author.Tests.{not-true, not-false}
-use Rattle.checker.proofs.Decoding.{laid-is, sound-not-laid}
+use Rattle.decoder.proofs.Decoding.{laid-is, sound-not-laid}
 use Rattle.checker.proofs.Checking.{no-yes, first-level, sound-checks}
 use Rattle.checker.proofs.is_sound.Statement.{statement}
 use Rattle.checker.proofs.is_sound.Tie as tie

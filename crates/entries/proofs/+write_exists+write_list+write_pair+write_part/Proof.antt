@@ -2,7 +2,7 @@
 use borrow.Author.Needs.{needs}
 use mathlib.Core.Logic.{⊎-elim}
 use native.Mathlib.Omega.{arith}
-use Rattle.reader.proofs.Parts.{kind-low}
+use Rattle.parser.proofs.Parts.{kind-low}
 use Rattle.entries.proofs.Writing.{part-few, entry-few, compare-ready, compare-wrote, null-ready, null-wrote, not-ready, not-wrote, join-few, next-above, pair-plain-asked, left-ready, right-ready, pair-end-asked, pair-wrote, exists-plain-asked, exists-ready, exists-end-asked, exists-wrote, list-plain-asked, list-plain-asked-2, list-ready, list-compare-ready, list-end-asked, list-end-asked-2, list-wrote}
 use Prim.Native.Nat.{ℕ, _+_, _*_, _-_, _<_}
 use borrow.Fn.Kinds.{In}

@@ -26,10 +26,11 @@ use Rattle.evaluator.proofs.+evaluate_and+evaluate_exists+evaluate_list
 use Rattle.evaluator.proofs.evaluate_row.Reads as evaluate-row
 use Rattle.evaluator.proofs.evaluate_row.Kinds as evaluate-row-kinds
 use Rattle.evaluator.proofs.+evaluate_and+evaluate_exists+evaluate_list+evaluate_or+evaluate_part+evaluate_row.Lts-evaluate_row as evaluate-row-lts
+use Rattle.cells.proofs.table_place.Reads as table-place-reads
 use Rattle.evaluator.proofs.after.Reads as after-reads
 use Rattle.evaluator.proofs.compare.Reads as compare-reads
-use Rattle.evaluator.proofs.greater.Reads as greater-reads
 use Rattle.evaluator.proofs.evaluate_test.Reads as evaluate-test-reads
+use Rattle.evaluator.proofs.greater.Reads as greater-reads
 use Rattle.evaluator.proofs.lesser.Reads as lesser-reads
 use Rattle.values.proofs.look.Reads as look-reads
 use Rattle.evaluator.proofs.+evaluate_and+evaluate_exists+evaluate_list+evaluate_or+evaluate_part+evaluate_row.{
@@ -58,15 +59,24 @@ abbrev μ-evaluate-row : Measures 4 evaluate-row-kinds.ps ℕ
 μ-evaluate-row κs a = 3 * (64 - a .1 .1 .1 .0)
 
 abbrev evaluate-and-at : ℕ → In 4 evaluate-and-kinds.ps
-evaluate-and-at t = and 4 evaluate-and-kinds.ps (is 4 evaluate-and-kinds.ps μ-evaluate-and t) evaluate-and.Pre
+evaluate-and-at t =
+    and 4 evaluate-and-kinds.ps (is 4 evaluate-and-kinds.ps μ-evaluate-and t) evaluate-and.Pre
 
 abbrev evaluate-and-below : ℕ → In 4 evaluate-and-kinds.ps
 evaluate-and-below t =
-    and 4 evaluate-and-kinds.ps (falls 4 evaluate-and-kinds.ps _<_ μ-evaluate-and t) evaluate-and.Pre
+    and
+    4
+    evaluate-and-kinds.ps
+    (falls 4 evaluate-and-kinds.ps _<_ μ-evaluate-and t)
+    evaluate-and.Pre
 
 abbrev evaluate-exists-at : ℕ → In 4 evaluate-exists-kinds.ps
 evaluate-exists-at t =
-    and 4 evaluate-exists-kinds.ps (is 4 evaluate-exists-kinds.ps μ-evaluate-exists t) evaluate-exists.Pre
+    and
+    4
+    evaluate-exists-kinds.ps
+    (is 4 evaluate-exists-kinds.ps μ-evaluate-exists t)
+    evaluate-exists.Pre
 
 abbrev evaluate-exists-below : ℕ → In 4 evaluate-exists-kinds.ps
 evaluate-exists-below t =
@@ -82,10 +92,15 @@ evaluate-list-at t =
 
 abbrev evaluate-list-below : ℕ → In 4 evaluate-list-kinds.ps
 evaluate-list-below t =
-    and 4 evaluate-list-kinds.ps (falls 4 evaluate-list-kinds.ps _<_ μ-evaluate-list t) evaluate-list.Pre
+    and
+    4
+    evaluate-list-kinds.ps
+    (falls 4 evaluate-list-kinds.ps _<_ μ-evaluate-list t)
+    evaluate-list.Pre
 
 abbrev evaluate-or-at : ℕ → In 4 evaluate-or-kinds.ps
-evaluate-or-at t = and 4 evaluate-or-kinds.ps (is 4 evaluate-or-kinds.ps μ-evaluate-or t) evaluate-or.Pre
+evaluate-or-at t =
+    and 4 evaluate-or-kinds.ps (is 4 evaluate-or-kinds.ps μ-evaluate-or t) evaluate-or.Pre
 
 abbrev evaluate-or-below : ℕ → In 4 evaluate-or-kinds.ps
 evaluate-or-below t =
@@ -97,14 +112,23 @@ evaluate-part-at t =
 
 abbrev evaluate-part-below : ℕ → In 4 evaluate-part-kinds.ps
 evaluate-part-below t =
-    and 4 evaluate-part-kinds.ps (falls 4 evaluate-part-kinds.ps _<_ μ-evaluate-part t) evaluate-part.Pre
+    and
+    4
+    evaluate-part-kinds.ps
+    (falls 4 evaluate-part-kinds.ps _<_ μ-evaluate-part t)
+    evaluate-part.Pre
 
 abbrev evaluate-row-at : ℕ → In 4 evaluate-row-kinds.ps
-evaluate-row-at t = and 4 evaluate-row-kinds.ps (is 4 evaluate-row-kinds.ps μ-evaluate-row t) evaluate-row.Pre
+evaluate-row-at t =
+    and 4 evaluate-row-kinds.ps (is 4 evaluate-row-kinds.ps μ-evaluate-row t) evaluate-row.Pre
 
 abbrev evaluate-row-below : ℕ → In 4 evaluate-row-kinds.ps
 evaluate-row-below t =
-    and 4 evaluate-row-kinds.ps (falls 4 evaluate-row-kinds.ps _<_ μ-evaluate-row t) evaluate-row.Pre
+    and
+    4
+    evaluate-row-kinds.ps
+    (falls 4 evaluate-row-kinds.ps _<_ μ-evaluate-row t)
+    evaluate-row.Pre
 
 evaluate-and-add-evaluate-part : (t : ℕ) → evaluate-and-lts.Need-add-evaluate-part (
   evaluate-part-below t,
@@ -202,204 +226,167 @@ evaluate-and-returns-2 t c = λ h.
     join-evaluated h And (c .before .before .before .before .before .before .pre .1 .1) (c .before .before .before .before .evaluate-part .result) (c .before .before .before .before .evaluate-part .ensures) (c .before .evaluate-part2 .result) (c .before .evaluate-part2 .ensures) _ (c .lesser .ensures)
 
 abbrev evaluate-exists-Inv-loop : evaluate-exists-lts.InvT-loop
-evaluate-exists-Inv-loop p g file s w depth t first₀ columns rows v₀ r₀ first v r = RowsPassed p g file w s depth 0 first₀ columns rows r first 0 v
+evaluate-exists-Inv-loop p g file s w depth table first₀ v₀ r₀ first v r = RowsPassed p g file w s depth 0 table r first 0 v
 
 abbrev evaluate-exists-μ-loop : evaluate-exists-lts.MeasureT-loop
-evaluate-exists-μ-loop p g file s w depth t first₀ columns rows v₀ r₀ first v r = rows - r
+evaluate-exists-μ-loop p g file s w depth table first₀ v₀ r₀ first v r = table .rows - r
 
-evaluate-exists-mul-t :
-    (t : ℕ) →
-    evaluate-exists-lts.Need-mul-t
-    (evaluate-part-below t, evaluate-part.Post)
-    (evaluate-exists-at t)
-    evaluate-exists.Post
-    evaluate-exists-Inv-loop
-    evaluate-exists-μ-loop
-evaluate-exists-mul-t t c = let z = start (c .before .pre .1 .0) in omega arith
-
-evaluate-exists-add-t :
-    (t : ℕ) →
-    evaluate-exists-lts.Need-add-t
-    (evaluate-part-below t, evaluate-part.Post)
-    (evaluate-exists-at t)
-    evaluate-exists.Post
-    evaluate-exists-Inv-loop
-    evaluate-exists-μ-loop
-evaluate-exists-add-t t c = let z = start (c .before .pre .1 .0) in omega arith
-
-evaluate-exists-mul-t-2 : (t : ℕ) → evaluate-exists-lts.Need-mul-t-2 (
+evaluate-exists-mul-table-place : (t : ℕ) → evaluate-exists-lts.Need-mul-table-place (
+  table-place-reads.Asked,
+  table-place-reads.Learnt,
   evaluate-part-below t,
   evaluate-part.Post,
 ) (evaluate-exists-at t) evaluate-exists.Post evaluate-exists-Inv-loop evaluate-exists-μ-loop
-evaluate-exists-mul-t-2 t c = let z = start (c .before .pre .1 .0) in omega arith
+evaluate-exists-mul-table-place t c = let z = start (c .before .pre .1 .0) in omega arith
 
-evaluate-exists-element-copy-out-t : (t : ℕ) → evaluate-exists-lts.Need-element-copy-out-t (
+evaluate-exists-add-table-place : (t : ℕ) → evaluate-exists-lts.Need-add-table-place (
+  table-place-reads.Asked,
+  table-place-reads.Learnt,
   evaluate-part-below t,
   evaluate-part.Post,
 ) (evaluate-exists-at t) evaluate-exists.Post evaluate-exists-Inv-loop evaluate-exists-μ-loop
-evaluate-exists-element-copy-out-t t c = let z = start (c .before .pre .1 .0) in omega arith
+evaluate-exists-add-table-place t c = let z = start (c .before .pre .1 .0) in omega arith
 
-evaluate-exists-mul-first : (t : ℕ) → evaluate-exists-lts.Need-mul-first (
+evaluate-exists-mul-table-place-2 : (t : ℕ) → evaluate-exists-lts.Need-mul-table-place-2 (
+  table-place-reads.Asked,
+  table-place-reads.Learnt,
   evaluate-part-below t,
   evaluate-part.Post,
 ) (evaluate-exists-at t) evaluate-exists.Post evaluate-exists-Inv-loop evaluate-exists-μ-loop
-evaluate-exists-mul-first t c = let z = range-bounds (c .before .before .pre .1 .0) (exists-ranging (c .before .before .pre .1 .0) (c .before .before .pre .1 .1)) in omega arith
+evaluate-exists-mul-table-place-2 t c = let z = start (c .before .pre .1 .0) in omega arith
 
-evaluate-exists-mul-first-2 : (t : ℕ) → evaluate-exists-lts.Need-mul-first-2 (
+evaluate-exists-element-copy-out-table-place :
+    (t : ℕ) → evaluate-exists-lts.Need-element-copy-out-table-place (
+      table-place-reads.Asked,
+      table-place-reads.Learnt,
+      evaluate-part-below t,
+      evaluate-part.Post,
+    ) (evaluate-exists-at t) evaluate-exists.Post evaluate-exists-Inv-loop evaluate-exists-μ-loop
+evaluate-exists-element-copy-out-table-place t c = let z = start (c .before .pre .1 .0) in omega arith
+
+evaluate-exists-table-place-requires : (t : ℕ) → evaluate-exists-lts.Need-table-place-requires (
+  table-place-reads.Asked,
+  table-place-reads.Learnt,
   evaluate-part-below t,
   evaluate-part.Post,
 ) (evaluate-exists-at t) evaluate-exists.Post evaluate-exists-Inv-loop evaluate-exists-μ-loop
-evaluate-exists-mul-first-2 t c = let z = range-bounds (c .before .before .pre .1 .0) (exists-ranging (c .before .before .pre .1 .0) (c .before .before .pre .1 .1)) in omega arith
-
-evaluate-exists-element-copy-out-first : (t : ℕ) → evaluate-exists-lts.Need-element-copy-out-first (
-  evaluate-part-below t,
-  evaluate-part.Post,
-) (evaluate-exists-at t) evaluate-exists.Post evaluate-exists-Inv-loop evaluate-exists-μ-loop
-evaluate-exists-element-copy-out-first t c = let z = range-bounds (c .before .before .pre .1 .0) (exists-ranging (c .before .before .pre .1 .0) (c .before .before .pre .1 .1)) in omega arith
-
-evaluate-exists-mul-columns : (t : ℕ) → evaluate-exists-lts.Need-mul-columns (
-  evaluate-part-below t,
-  evaluate-part.Post,
-) (evaluate-exists-at t) evaluate-exists.Post evaluate-exists-Inv-loop evaluate-exists-μ-loop
-evaluate-exists-mul-columns t c = let z = range-bounds (c .before .before .before .pre .1 .0) (exists-ranging (c .before .before .before .pre .1 .0) (c .before .before .before .pre .1 .1)) in omega arith
-
-evaluate-exists-add-columns : (t : ℕ) → evaluate-exists-lts.Need-add-columns (
-  evaluate-part-below t,
-  evaluate-part.Post,
-) (evaluate-exists-at t) evaluate-exists.Post evaluate-exists-Inv-loop evaluate-exists-μ-loop
-evaluate-exists-add-columns t c = let z = range-bounds (c .before .before .before .pre .1 .0) (exists-ranging (c .before .before .before .pre .1 .0) (c .before .before .before .pre .1 .1)) in omega arith
-
-evaluate-exists-mul-columns-2 : (t : ℕ) → evaluate-exists-lts.Need-mul-columns-2 (
-  evaluate-part-below t,
-  evaluate-part.Post,
-) (evaluate-exists-at t) evaluate-exists.Post evaluate-exists-Inv-loop evaluate-exists-μ-loop
-evaluate-exists-mul-columns-2 t c = let z = range-bounds (c .before .before .before .pre .1 .0) (exists-ranging (c .before .before .before .pre .1 .0) (c .before .before .before .pre .1 .1)) in omega arith
-
-evaluate-exists-element-copy-out-columns : (t : ℕ) → evaluate-exists-lts.Need-element-copy-out-columns (
-  evaluate-part-below t,
-  evaluate-part.Post,
-) (evaluate-exists-at t) evaluate-exists.Post evaluate-exists-Inv-loop evaluate-exists-μ-loop
-evaluate-exists-element-copy-out-columns t c = let z = range-bounds (c .before .before .before .pre .1 .0) (exists-ranging (c .before .before .before .pre .1 .0) (c .before .before .before .pre .1 .1)) in omega arith
-
-evaluate-exists-mul-rows : (t : ℕ) → evaluate-exists-lts.Need-mul-rows (
-  evaluate-part-below t,
-  evaluate-part.Post,
-) (evaluate-exists-at t) evaluate-exists.Post evaluate-exists-Inv-loop evaluate-exists-μ-loop
-evaluate-exists-mul-rows t c = let z = range-bounds (c .before .before .before .before .pre .1 .0) (exists-ranging (c .before .before .before .before .pre .1 .0) (c .before .before .before .before .pre .1 .1)) in omega arith
-
-evaluate-exists-add-rows : (t : ℕ) → evaluate-exists-lts.Need-add-rows (
-  evaluate-part-below t,
-  evaluate-part.Post,
-) (evaluate-exists-at t) evaluate-exists.Post evaluate-exists-Inv-loop evaluate-exists-μ-loop
-evaluate-exists-add-rows t c = let z = range-bounds (c .before .before .before .before .pre .1 .0) (exists-ranging (c .before .before .before .before .pre .1 .0) (c .before .before .before .before .pre .1 .1)) in omega arith
-
-evaluate-exists-mul-rows-2 : (t : ℕ) → evaluate-exists-lts.Need-mul-rows-2 (
-  evaluate-part-below t,
-  evaluate-part.Post,
-) (evaluate-exists-at t) evaluate-exists.Post evaluate-exists-Inv-loop evaluate-exists-μ-loop
-evaluate-exists-mul-rows-2 t c = let z = range-bounds (c .before .before .before .before .pre .1 .0) (exists-ranging (c .before .before .before .before .pre .1 .0) (c .before .before .before .before .pre .1 .1)) in omega arith
-
-evaluate-exists-element-copy-out-rows : (t : ℕ) → evaluate-exists-lts.Need-element-copy-out-rows (
-  evaluate-part-below t,
-  evaluate-part.Post,
-) (evaluate-exists-at t) evaluate-exists.Post evaluate-exists-Inv-loop evaluate-exists-μ-loop
-evaluate-exists-element-copy-out-rows t c = let z = range-bounds (c .before .before .before .before .pre .1 .0) (exists-ranging (c .before .before .before .before .pre .1 .0) (c .before .before .before .before .pre .1 .1)) in omega arith
+evaluate-exists-table-place-requires t c κs = let k = c .before .before .pre .1 in range-bounds (k .0) (exists-ranging (k .0) (k .1)) .high
 
 evaluate-exists-loop-holds : (t : ℕ) → evaluate-exists-lts.Need-loop-holds (
+  table-place-reads.Asked,
+  table-place-reads.Learnt,
   evaluate-part-below t,
   evaluate-part.Post,
 ) (evaluate-exists-at t) evaluate-exists.Post evaluate-exists-Inv-loop evaluate-exists-μ-loop
-evaluate-exists-loop-holds t c = passed-none _ _ _ _ _ _ 0 _ _ _ refl (c .before .before .before .before .before .before .pre .1 .0 .readable .standing .size)
+evaluate-exists-loop-holds t c = passed-none _ _ _ _ _ _ 0 _ refl (c .before .before .before .before .pre .1 .0 .readable .standing .size)
 
-evaluate-exists-mul-v :
-    (t : ℕ) →
-    evaluate-exists-lts.Need-mul-v
-    (evaluate-part-below t, evaluate-part.Post)
-    (evaluate-exists-at t)
-    evaluate-exists.Post
-    evaluate-exists-Inv-loop
-    evaluate-exists-μ-loop
-evaluate-exists-mul-v t c = let z = range-bounds (c .before .before .before .before .before .before .before .before .pre .1 .0) (exists-ranging (c .before .before .before .before .before .before .before .before .pre .1 .0) (c .before .before .before .before .before .before .before .before .pre .1 .1)) in omega arith
+evaluate-exists-mul-v : (t : ℕ) → evaluate-exists-lts.Need-mul-v (
+  table-place-reads.Asked,
+  table-place-reads.Learnt,
+  evaluate-part-below t,
+  evaluate-part.Post,
+) (evaluate-exists-at t) evaluate-exists.Post evaluate-exists-Inv-loop evaluate-exists-μ-loop
+evaluate-exists-mul-v t c = let k = c .before .before .before .before .before .before .before .pre .1 in let z = range-bounds (k .0) (exists-ranging (k .0) (k .1)) in omega arith
 
 evaluate-exists-array-write-v : (t : ℕ) → evaluate-exists-lts.Need-array-write-v (
+  table-place-reads.Asked,
+  table-place-reads.Learnt,
   evaluate-part-below t,
   evaluate-part.Post,
 ) (evaluate-exists-at t) evaluate-exists.Post evaluate-exists-Inv-loop evaluate-exists-μ-loop
-evaluate-exists-array-write-v t c = let z = range-bounds (c .before .before .before .before .before .before .before .before .pre .1 .0) (exists-ranging (c .before .before .before .before .before .before .before .before .pre .1 .0) (c .before .before .before .before .before .before .before .before .pre .1 .1)) in omega arith
+evaluate-exists-array-write-v t c = let k = c .before .before .before .before .before .before .before .pre .1 in let z = range-bounds (k .0) (exists-ranging (k .0) (k .1)) in omega arith
 
 evaluate-exists-add-evaluate-part : (t : ℕ) → evaluate-exists-lts.Need-add-evaluate-part (
+  table-place-reads.Asked,
+  table-place-reads.Learnt,
   evaluate-part-below t,
   evaluate-part.Post,
 ) (evaluate-exists-at t) evaluate-exists.Post evaluate-exists-Inv-loop evaluate-exists-μ-loop
-evaluate-exists-add-evaluate-part t c = let z = range-bounds (c .before .before .before .before .before .before .before .before .pre .1 .0) (exists-ranging (c .before .before .before .before .before .before .before .before .pre .1 .0) (c .before .before .before .before .before .before .before .before .pre .1 .1)) in omega arith
+evaluate-exists-add-evaluate-part t c = let k = c .before .before .before .before .before .before .before .pre .1 in let z = range-bounds (k .0) (exists-ranging (k .0) (k .1)) in omega arith
 
 evaluate-exists-add-evaluate-part-2 : (t : ℕ) → evaluate-exists-lts.Need-add-evaluate-part-2 (
+  table-place-reads.Asked,
+  table-place-reads.Learnt,
   evaluate-part-below t,
   evaluate-part.Post,
 ) (evaluate-exists-at t) evaluate-exists.Post evaluate-exists-Inv-loop evaluate-exists-μ-loop
-evaluate-exists-add-evaluate-part-2 t c = let z = range-bounds (c .before .before .before .before .before .before .before .before .before .pre .1 .0) (exists-ranging (c .before .before .before .before .before .before .before .before .before .pre .1 .0) (c .before .before .before .before .before .before .before .before .before .pre .1 .1)) in omega arith
+evaluate-exists-add-evaluate-part-2 t c = let k = c .before .before .before .before .before .before .before .before .pre .1 in let z = range-bounds (k .0) (exists-ranging (k .0) (k .1)) in omega arith
 
 evaluate-exists-evaluate-part-requires : (t : ℕ) → evaluate-exists-lts.Need-evaluate-part-requires (
+  table-place-reads.Asked,
+  table-place-reads.Learnt,
   evaluate-part-below t,
   evaluate-part.Post,
 ) (evaluate-exists-at t) evaluate-exists.Post evaluate-exists-Inv-loop evaluate-exists-μ-loop
 evaluate-exists-evaluate-part-requires t c κs =
-    let m = c .before .before .before .before .before .before .before .before .before .pre .0 in
-    let z = start (c .before .before .before .before .before .before .before .before .before .pre .1 .0) in
-    (omega arith, exists-inner (c .before .before .before .before .before .before .before .before .before .pre .1 .0) (c .before .before .before .before .before .before .before .before .before .pre .1 .1) (c .before .loop-test .taken) (c .before .before .loop .inv))
+    let k = c .before .before .before .before .before .before .before .before .pre in
+    let m = k .0 in
+    let z = start (k .1 .0) in
+    (omega arith, exists-inner (k .1 .0) (k .1 .1) (c .before .before .before .before .before .table-place .ensures) (c .before .if1 .taken) (c .before .before .before .loop .inv))
 
 evaluate-exists-returns : (t : ℕ) → evaluate-exists-lts.Need-returns (
+  table-place-reads.Asked,
+  table-place-reads.Learnt,
   evaluate-part-below t,
   evaluate-part.Post,
 ) (evaluate-exists-at t) evaluate-exists.Post evaluate-exists-Inv-loop evaluate-exists-μ-loop
 evaluate-exists-returns t c = λ h.
-    exists-true h (c .before .before .before .before .before .before .before .before .before .before .before .pre .1 .1) (c .before .before .before .loop-test .taken) (c .before .before .before .before .loop .inv) (c .before .evaluate-part .result) (c .before .evaluate-part .ensures) (c .if1 .taken)
+    exists-true h (c .before .before .before .before .before .before .before .before .before .before .pre .1 .1) (c .before .before .before .before .before .before .before .table-place .ensures) (c .before .before .before .if1 .taken) (c .before .before .before .before .before .loop .inv) (c .before .evaluate-part .result) (c .before .evaluate-part .ensures) (c .if2 .taken)
 
 evaluate-exists-add-first : (t : ℕ) → evaluate-exists-lts.Need-add-first (
+  table-place-reads.Asked,
+  table-place-reads.Learnt,
   evaluate-part-below t,
   evaluate-part.Post,
 ) (evaluate-exists-at t) evaluate-exists.Post evaluate-exists-Inv-loop evaluate-exists-μ-loop
 evaluate-exists-add-first t c =
-    let z = row-room (c .before .before .before .before .before .before .before .before .before .before .before .pre .1 .0) (exists-ranging (c .before .before .before .before .before .before .before .before .before .before .before .pre .1 .0) (c .before .before .before .before .before .before .before .before .before .before .before .pre .1 .1)) (c .before .before .before .loop-test .taken) (c .before .before .before .before .loop .inv) in
+    let k = c .before .before .before .before .before .before .before .before .before .before .before .pre .1 in
+    let z = row-room (k .0) (exists-ranging (k .0) (k .1)) (c .before .before .before .before .before .before .before .before .table-place .ensures) (c .before .before .before .before .if1 .taken) (c .before .before .before .before .before .before .loop .inv) in
     omega arith
 
-evaluate-exists-add-r :
-    (t : ℕ) →
-    evaluate-exists-lts.Need-add-r
-    (evaluate-part-below t, evaluate-part.Post)
-    (evaluate-exists-at t)
-    evaluate-exists.Post
-    evaluate-exists-Inv-loop
-    evaluate-exists-μ-loop
-evaluate-exists-add-r t c = let z = range-bounds (c .before .before .before .before .before .before .before .before .before .before .before .pre .1 .0) (exists-ranging (c .before .before .before .before .before .before .before .before .before .before .before .pre .1 .0) (c .before .before .before .before .before .before .before .before .before .before .before .pre .1 .1)) in omega arith
+evaluate-exists-add-r : (t : ℕ) → evaluate-exists-lts.Need-add-r (
+  table-place-reads.Asked,
+  table-place-reads.Learnt,
+  evaluate-part-below t,
+  evaluate-part.Post,
+) (evaluate-exists-at t) evaluate-exists.Post evaluate-exists-Inv-loop evaluate-exists-μ-loop
+evaluate-exists-add-r t c = omega arith
 
 evaluate-exists-loop-less : (t : ℕ) → evaluate-exists-lts.Need-loop-less (
+  table-place-reads.Asked,
+  table-place-reads.Learnt,
   evaluate-part-below t,
   evaluate-part.Post,
 ) (evaluate-exists-at t) evaluate-exists.Post evaluate-exists-Inv-loop evaluate-exists-μ-loop
 evaluate-exists-loop-less t c = omega arith
 
 evaluate-exists-loop-again : (t : ℕ) → evaluate-exists-lts.Need-loop-again (
+  table-place-reads.Asked,
+  table-place-reads.Learnt,
   evaluate-part-below t,
   evaluate-part.Post,
 ) (evaluate-exists-at t) evaluate-exists.Post evaluate-exists-Inv-loop evaluate-exists-μ-loop
 evaluate-exists-loop-again t c =
-    passed-more _ _ _ _ _ _ 0 _ _ _ refl (c .before .before .before .before .loop .inv) (c .before .before .before .loop-test .taken) 0 (λ e. omega arith) (λ h.
-    exists-lost h (c .before .before .before .before .before .before .before .before .before .before .before .pre .1 .1) (c .before .before .before .loop-test .taken) (c .before .before .before .before .loop .inv) (c .before .evaluate-part .result) (c .before .evaluate-part .ensures) (c .if1 .left)) 0 refl
+    passed-more _ _ _ _ _ _ 0 _ refl (c .before .before .before .before .before .before .loop .inv) (c .before .before .before .before .if1 .taken) 0 (λ e. omega arith) (λ h.
+    exists-lost h (c .before .before .before .before .before .before .before .before .before .before .before .pre .1 .1) (c .before .before .before .before .before .before .before .before .table-place .ensures) (c .before .before .before .before .if1 .taken) (c .before .before .before .before .before .before .loop .inv) (c .before .before .evaluate-part .result) (c .before .before .evaluate-part .ensures) (c .before .if2 .left)) 0 refl
 
 evaluate-exists-returns-2 : (t : ℕ) → evaluate-exists-lts.Need-returns-2 (
+  table-place-reads.Asked,
+  table-place-reads.Learnt,
   evaluate-part-below t,
   evaluate-part.Post,
 ) (evaluate-exists-at t) evaluate-exists.Post evaluate-exists-Inv-loop evaluate-exists-μ-loop
-evaluate-exists-returns-2 t c = λ h. exists-false h (c .before .before .before .before .before .before .before .before .pre .1 .1) (c .before .loop .inv) (c .loop-test .left)
+evaluate-exists-returns-2 t c = λ h. exists-false h (c .before .before .before .before .before .before .before .pre .1 .1) (c .before .before .before .before .table-place .ensures) (c .before .before .loop .inv) (c .if1 .left)
 
 abbrev evaluate-list-Inv-loop : evaluate-list-lts.InvT-loop
-evaluate-list-Inv-loop p g file s w depth empty t first₀ columns rows x v₀ value₀ r₀ first v value r = RowsPassed p g file w s depth empty first₀ columns rows r first value v
+evaluate-list-Inv-loop p g file s w depth empty table first₀ x v₀ value₀ r₀ first v value r = RowsPassed p g file w s depth empty table r first value v
 
 abbrev evaluate-list-μ-loop : evaluate-list-lts.MeasureT-loop
-evaluate-list-μ-loop p g file s w depth empty t first₀ columns rows x v₀ value₀ r₀ first v value r = rows - r
+evaluate-list-μ-loop p g file s w depth empty table first₀ x v₀ value₀ r₀ first v value r = table .rows - r
 
-evaluate-list-mul-t : (t : ℕ) → evaluate-list-lts.Need-mul-t (
+evaluate-list-mul-table-place : (t : ℕ) → evaluate-list-lts.Need-mul-table-place (
+  table-place-reads.Asked,
+  table-place-reads.Learnt,
   look-reads.Asked,
   look-reads.Learnt,
   evaluate-row-below t,
@@ -407,9 +394,11 @@ evaluate-list-mul-t : (t : ℕ) → evaluate-list-lts.Need-mul-t (
   after-reads.Asked,
   after-reads.Learnt,
 ) (evaluate-list-at t) evaluate-list.Post evaluate-list-Inv-loop evaluate-list-μ-loop
-evaluate-list-mul-t t c = let z = start (c .before .pre .1 .0) in omega arith
+evaluate-list-mul-table-place t c = let z = start (c .before .pre .1 .0) in omega arith
 
-evaluate-list-add-t : (t : ℕ) → evaluate-list-lts.Need-add-t (
+evaluate-list-add-table-place : (t : ℕ) → evaluate-list-lts.Need-add-table-place (
+  table-place-reads.Asked,
+  table-place-reads.Learnt,
   look-reads.Asked,
   look-reads.Learnt,
   evaluate-row-below t,
@@ -417,9 +406,11 @@ evaluate-list-add-t : (t : ℕ) → evaluate-list-lts.Need-add-t (
   after-reads.Asked,
   after-reads.Learnt,
 ) (evaluate-list-at t) evaluate-list.Post evaluate-list-Inv-loop evaluate-list-μ-loop
-evaluate-list-add-t t c = let z = start (c .before .pre .1 .0) in omega arith
+evaluate-list-add-table-place t c = let z = start (c .before .pre .1 .0) in omega arith
 
-evaluate-list-mul-t-2 : (t : ℕ) → evaluate-list-lts.Need-mul-t-2 (
+evaluate-list-mul-table-place-2 : (t : ℕ) → evaluate-list-lts.Need-mul-table-place-2 (
+  table-place-reads.Asked,
+  table-place-reads.Learnt,
   look-reads.Asked,
   look-reads.Learnt,
   evaluate-row-below t,
@@ -427,9 +418,24 @@ evaluate-list-mul-t-2 : (t : ℕ) → evaluate-list-lts.Need-mul-t-2 (
   after-reads.Asked,
   after-reads.Learnt,
 ) (evaluate-list-at t) evaluate-list.Post evaluate-list-Inv-loop evaluate-list-μ-loop
-evaluate-list-mul-t-2 t c = let z = start (c .before .pre .1 .0) in omega arith
+evaluate-list-mul-table-place-2 t c = let z = start (c .before .pre .1 .0) in omega arith
 
-evaluate-list-element-copy-out-t : (t : ℕ) → evaluate-list-lts.Need-element-copy-out-t (
+evaluate-list-element-copy-out-table-place :
+    (t : ℕ) → evaluate-list-lts.Need-element-copy-out-table-place (
+      table-place-reads.Asked,
+      table-place-reads.Learnt,
+      look-reads.Asked,
+      look-reads.Learnt,
+      evaluate-row-below t,
+      evaluate-row.Post,
+      after-reads.Asked,
+      after-reads.Learnt,
+    ) (evaluate-list-at t) evaluate-list.Post evaluate-list-Inv-loop evaluate-list-μ-loop
+evaluate-list-element-copy-out-table-place t c = let z = start (c .before .pre .1 .0) in omega arith
+
+evaluate-list-table-place-requires : (t : ℕ) → evaluate-list-lts.Need-table-place-requires (
+  table-place-reads.Asked,
+  table-place-reads.Learnt,
   look-reads.Asked,
   look-reads.Learnt,
   evaluate-row-below t,
@@ -437,119 +443,11 @@ evaluate-list-element-copy-out-t : (t : ℕ) → evaluate-list-lts.Need-element-
   after-reads.Asked,
   after-reads.Learnt,
 ) (evaluate-list-at t) evaluate-list.Post evaluate-list-Inv-loop evaluate-list-μ-loop
-evaluate-list-element-copy-out-t t c = let z = start (c .before .pre .1 .0) in omega arith
-
-evaluate-list-mul-first : (t : ℕ) → evaluate-list-lts.Need-mul-first (
-  look-reads.Asked,
-  look-reads.Learnt,
-  evaluate-row-below t,
-  evaluate-row.Post,
-  after-reads.Asked,
-  after-reads.Learnt,
-) (evaluate-list-at t) evaluate-list.Post evaluate-list-Inv-loop evaluate-list-μ-loop
-evaluate-list-mul-first t c = let z = range-bounds (c .before .before .pre .1 .0) (listed-ranging (c .before .before .pre .1 .0) (c .before .before .pre .1 .1)) in omega arith
-
-evaluate-list-mul-first-2 : (t : ℕ) → evaluate-list-lts.Need-mul-first-2 (
-  look-reads.Asked,
-  look-reads.Learnt,
-  evaluate-row-below t,
-  evaluate-row.Post,
-  after-reads.Asked,
-  after-reads.Learnt,
-) (evaluate-list-at t) evaluate-list.Post evaluate-list-Inv-loop evaluate-list-μ-loop
-evaluate-list-mul-first-2 t c = let z = range-bounds (c .before .before .pre .1 .0) (listed-ranging (c .before .before .pre .1 .0) (c .before .before .pre .1 .1)) in omega arith
-
-evaluate-list-element-copy-out-first : (t : ℕ) → evaluate-list-lts.Need-element-copy-out-first (
-  look-reads.Asked,
-  look-reads.Learnt,
-  evaluate-row-below t,
-  evaluate-row.Post,
-  after-reads.Asked,
-  after-reads.Learnt,
-) (evaluate-list-at t) evaluate-list.Post evaluate-list-Inv-loop evaluate-list-μ-loop
-evaluate-list-element-copy-out-first t c = let z = range-bounds (c .before .before .pre .1 .0) (listed-ranging (c .before .before .pre .1 .0) (c .before .before .pre .1 .1)) in omega arith
-
-evaluate-list-mul-columns : (t : ℕ) → evaluate-list-lts.Need-mul-columns (
-  look-reads.Asked,
-  look-reads.Learnt,
-  evaluate-row-below t,
-  evaluate-row.Post,
-  after-reads.Asked,
-  after-reads.Learnt,
-) (evaluate-list-at t) evaluate-list.Post evaluate-list-Inv-loop evaluate-list-μ-loop
-evaluate-list-mul-columns t c = let z = range-bounds (c .before .before .before .pre .1 .0) (listed-ranging (c .before .before .before .pre .1 .0) (c .before .before .before .pre .1 .1)) in omega arith
-
-evaluate-list-add-columns : (t : ℕ) → evaluate-list-lts.Need-add-columns (
-  look-reads.Asked,
-  look-reads.Learnt,
-  evaluate-row-below t,
-  evaluate-row.Post,
-  after-reads.Asked,
-  after-reads.Learnt,
-) (evaluate-list-at t) evaluate-list.Post evaluate-list-Inv-loop evaluate-list-μ-loop
-evaluate-list-add-columns t c = let z = range-bounds (c .before .before .before .pre .1 .0) (listed-ranging (c .before .before .before .pre .1 .0) (c .before .before .before .pre .1 .1)) in omega arith
-
-evaluate-list-mul-columns-2 : (t : ℕ) → evaluate-list-lts.Need-mul-columns-2 (
-  look-reads.Asked,
-  look-reads.Learnt,
-  evaluate-row-below t,
-  evaluate-row.Post,
-  after-reads.Asked,
-  after-reads.Learnt,
-) (evaluate-list-at t) evaluate-list.Post evaluate-list-Inv-loop evaluate-list-μ-loop
-evaluate-list-mul-columns-2 t c = let z = range-bounds (c .before .before .before .pre .1 .0) (listed-ranging (c .before .before .before .pre .1 .0) (c .before .before .before .pre .1 .1)) in omega arith
-
-evaluate-list-element-copy-out-columns : (t : ℕ) → evaluate-list-lts.Need-element-copy-out-columns (
-  look-reads.Asked,
-  look-reads.Learnt,
-  evaluate-row-below t,
-  evaluate-row.Post,
-  after-reads.Asked,
-  after-reads.Learnt,
-) (evaluate-list-at t) evaluate-list.Post evaluate-list-Inv-loop evaluate-list-μ-loop
-evaluate-list-element-copy-out-columns t c = let z = range-bounds (c .before .before .before .pre .1 .0) (listed-ranging (c .before .before .before .pre .1 .0) (c .before .before .before .pre .1 .1)) in omega arith
-
-evaluate-list-mul-rows : (t : ℕ) → evaluate-list-lts.Need-mul-rows (
-  look-reads.Asked,
-  look-reads.Learnt,
-  evaluate-row-below t,
-  evaluate-row.Post,
-  after-reads.Asked,
-  after-reads.Learnt,
-) (evaluate-list-at t) evaluate-list.Post evaluate-list-Inv-loop evaluate-list-μ-loop
-evaluate-list-mul-rows t c = let z = range-bounds (c .before .before .before .before .pre .1 .0) (listed-ranging (c .before .before .before .before .pre .1 .0) (c .before .before .before .before .pre .1 .1)) in omega arith
-
-evaluate-list-add-rows : (t : ℕ) → evaluate-list-lts.Need-add-rows (
-  look-reads.Asked,
-  look-reads.Learnt,
-  evaluate-row-below t,
-  evaluate-row.Post,
-  after-reads.Asked,
-  after-reads.Learnt,
-) (evaluate-list-at t) evaluate-list.Post evaluate-list-Inv-loop evaluate-list-μ-loop
-evaluate-list-add-rows t c = let z = range-bounds (c .before .before .before .before .pre .1 .0) (listed-ranging (c .before .before .before .before .pre .1 .0) (c .before .before .before .before .pre .1 .1)) in omega arith
-
-evaluate-list-mul-rows-2 : (t : ℕ) → evaluate-list-lts.Need-mul-rows-2 (
-  look-reads.Asked,
-  look-reads.Learnt,
-  evaluate-row-below t,
-  evaluate-row.Post,
-  after-reads.Asked,
-  after-reads.Learnt,
-) (evaluate-list-at t) evaluate-list.Post evaluate-list-Inv-loop evaluate-list-μ-loop
-evaluate-list-mul-rows-2 t c = let z = range-bounds (c .before .before .before .before .pre .1 .0) (listed-ranging (c .before .before .before .before .pre .1 .0) (c .before .before .before .before .pre .1 .1)) in omega arith
-
-evaluate-list-element-copy-out-rows : (t : ℕ) → evaluate-list-lts.Need-element-copy-out-rows (
-  look-reads.Asked,
-  look-reads.Learnt,
-  evaluate-row-below t,
-  evaluate-row.Post,
-  after-reads.Asked,
-  after-reads.Learnt,
-) (evaluate-list-at t) evaluate-list.Post evaluate-list-Inv-loop evaluate-list-μ-loop
-evaluate-list-element-copy-out-rows t c = let z = range-bounds (c .before .before .before .before .pre .1 .0) (listed-ranging (c .before .before .before .before .pre .1 .0) (c .before .before .before .before .pre .1 .1)) in omega arith
+evaluate-list-table-place-requires t c κs = let k = c .before .before .pre .1 in range-bounds (k .0) (listed-ranging (k .0) (k .1)) .high
 
 evaluate-list-mul-look : (t : ℕ) → evaluate-list-lts.Need-mul-look (
+  table-place-reads.Asked,
+  table-place-reads.Learnt,
   look-reads.Asked,
   look-reads.Learnt,
   evaluate-row-below t,
@@ -557,9 +455,11 @@ evaluate-list-mul-look : (t : ℕ) → evaluate-list-lts.Need-mul-look (
   after-reads.Asked,
   after-reads.Learnt,
 ) (evaluate-list-at t) evaluate-list.Post evaluate-list-Inv-loop evaluate-list-μ-loop
-evaluate-list-mul-look t c = let z = start (c .before .before .before .before .before .pre .1 .0) in omega arith
+evaluate-list-mul-look t c = let z = start (c .before .before .before .pre .1 .0) in omega arith
 
 evaluate-list-add-look : (t : ℕ) → evaluate-list-lts.Need-add-look (
+  table-place-reads.Asked,
+  table-place-reads.Learnt,
   look-reads.Asked,
   look-reads.Learnt,
   evaluate-row-below t,
@@ -567,9 +467,11 @@ evaluate-list-add-look : (t : ℕ) → evaluate-list-lts.Need-add-look (
   after-reads.Asked,
   after-reads.Learnt,
 ) (evaluate-list-at t) evaluate-list.Post evaluate-list-Inv-loop evaluate-list-μ-loop
-evaluate-list-add-look t c = let z = start (c .before .before .before .before .before .pre .1 .0) in omega arith
+evaluate-list-add-look t c = let z = start (c .before .before .before .pre .1 .0) in omega arith
 
 evaluate-list-mul-look-2 : (t : ℕ) → evaluate-list-lts.Need-mul-look-2 (
+  table-place-reads.Asked,
+  table-place-reads.Learnt,
   look-reads.Asked,
   look-reads.Learnt,
   evaluate-row-below t,
@@ -577,9 +479,11 @@ evaluate-list-mul-look-2 : (t : ℕ) → evaluate-list-lts.Need-mul-look-2 (
   after-reads.Asked,
   after-reads.Learnt,
 ) (evaluate-list-at t) evaluate-list.Post evaluate-list-Inv-loop evaluate-list-μ-loop
-evaluate-list-mul-look-2 t c = let z = start (c .before .before .before .before .before .pre .1 .0) in omega arith
+evaluate-list-mul-look-2 t c = let z = start (c .before .before .before .pre .1 .0) in omega arith
 
 evaluate-list-element-copy-out-look : (t : ℕ) → evaluate-list-lts.Need-element-copy-out-look (
+  table-place-reads.Asked,
+  table-place-reads.Learnt,
   look-reads.Asked,
   look-reads.Learnt,
   evaluate-row-below t,
@@ -587,9 +491,11 @@ evaluate-list-element-copy-out-look : (t : ℕ) → evaluate-list-lts.Need-eleme
   after-reads.Asked,
   after-reads.Learnt,
 ) (evaluate-list-at t) evaluate-list.Post evaluate-list-Inv-loop evaluate-list-μ-loop
-evaluate-list-element-copy-out-look t c = let z = start (c .before .before .before .before .before .pre .1 .0) in omega arith
+evaluate-list-element-copy-out-look t c = let z = start (c .before .before .before .pre .1 .0) in omega arith
 
 evaluate-list-mul-look-3 : (t : ℕ) → evaluate-list-lts.Need-mul-look-3 (
+  table-place-reads.Asked,
+  table-place-reads.Learnt,
   look-reads.Asked,
   look-reads.Learnt,
   evaluate-row-below t,
@@ -597,9 +503,11 @@ evaluate-list-mul-look-3 : (t : ℕ) → evaluate-list-lts.Need-mul-look-3 (
   after-reads.Asked,
   after-reads.Learnt,
 ) (evaluate-list-at t) evaluate-list.Post evaluate-list-Inv-loop evaluate-list-μ-loop
-evaluate-list-mul-look-3 t c = let z = start (c .before .before .before .before .before .before .pre .1 .0) in omega arith
+evaluate-list-mul-look-3 t c = let z = start (c .before .before .before .before .pre .1 .0) in omega arith
 
 evaluate-list-add-look-2 : (t : ℕ) → evaluate-list-lts.Need-add-look-2 (
+  table-place-reads.Asked,
+  table-place-reads.Learnt,
   look-reads.Asked,
   look-reads.Learnt,
   evaluate-row-below t,
@@ -607,9 +515,11 @@ evaluate-list-add-look-2 : (t : ℕ) → evaluate-list-lts.Need-add-look-2 (
   after-reads.Asked,
   after-reads.Learnt,
 ) (evaluate-list-at t) evaluate-list.Post evaluate-list-Inv-loop evaluate-list-μ-loop
-evaluate-list-add-look-2 t c = let z = start (c .before .before .before .before .before .before .pre .1 .0) in omega arith
+evaluate-list-add-look-2 t c = let z = start (c .before .before .before .before .pre .1 .0) in omega arith
 
 evaluate-list-mul-look-4 : (t : ℕ) → evaluate-list-lts.Need-mul-look-4 (
+  table-place-reads.Asked,
+  table-place-reads.Learnt,
   look-reads.Asked,
   look-reads.Learnt,
   evaluate-row-below t,
@@ -617,9 +527,11 @@ evaluate-list-mul-look-4 : (t : ℕ) → evaluate-list-lts.Need-mul-look-4 (
   after-reads.Asked,
   after-reads.Learnt,
 ) (evaluate-list-at t) evaluate-list.Post evaluate-list-Inv-loop evaluate-list-μ-loop
-evaluate-list-mul-look-4 t c = let z = start (c .before .before .before .before .before .before .pre .1 .0) in omega arith
+evaluate-list-mul-look-4 t c = let z = start (c .before .before .before .before .pre .1 .0) in omega arith
 
 evaluate-list-element-copy-out-look-2 : (t : ℕ) → evaluate-list-lts.Need-element-copy-out-look-2 (
+  table-place-reads.Asked,
+  table-place-reads.Learnt,
   look-reads.Asked,
   look-reads.Learnt,
   evaluate-row-below t,
@@ -627,9 +539,11 @@ evaluate-list-element-copy-out-look-2 : (t : ℕ) → evaluate-list-lts.Need-ele
   after-reads.Asked,
   after-reads.Learnt,
 ) (evaluate-list-at t) evaluate-list.Post evaluate-list-Inv-loop evaluate-list-μ-loop
-evaluate-list-element-copy-out-look-2 t c = let z = start (c .before .before .before .before .before .before .pre .1 .0) in omega arith
+evaluate-list-element-copy-out-look-2 t c = let z = start (c .before .before .before .before .pre .1 .0) in omega arith
 
 evaluate-list-look-requires : (t : ℕ) → evaluate-list-lts.Need-look-requires (
+  table-place-reads.Asked,
+  table-place-reads.Learnt,
   look-reads.Asked,
   look-reads.Learnt,
   evaluate-row-below t,
@@ -637,9 +551,11 @@ evaluate-list-look-requires : (t : ℕ) → evaluate-list-lts.Need-look-requires
   after-reads.Asked,
   after-reads.Learnt,
 ) (evaluate-list-at t) evaluate-list.Post evaluate-list-Inv-loop evaluate-list-μ-loop
-evaluate-list-look-requires t c κs = outer-ready (c .before .before .before .before .before .before .before .pre .1 .0) (c .before .before .before .before .before .before .before .pre .1 .1)
+evaluate-list-look-requires t c κs = outer-ready (c .before .before .before .before .before .pre .1 .0) (c .before .before .before .before .before .pre .1 .1)
 
 evaluate-list-loop-holds : (t : ℕ) → evaluate-list-lts.Need-loop-holds (
+  table-place-reads.Asked,
+  table-place-reads.Learnt,
   look-reads.Asked,
   look-reads.Learnt,
   evaluate-row-below t,
@@ -647,9 +563,11 @@ evaluate-list-loop-holds : (t : ℕ) → evaluate-list-lts.Need-loop-holds (
   after-reads.Asked,
   after-reads.Learnt,
 ) (evaluate-list-at t) evaluate-list.Post evaluate-list-Inv-loop evaluate-list-μ-loop
-evaluate-list-loop-holds t c = passed-none _ _ _ _ _ _ _ _ _ _ (none-is (c .before .before .before .before .before .before .before .before .before .pre .1 .1)) (c .before .before .before .before .before .before .before .before .before .pre .1 .0 .readable .standing .size)
+evaluate-list-loop-holds t c = passed-none _ _ _ _ _ _ _ _ (none-is (c .before .before .before .before .before .before .before .pre .1 .1)) (c .before .before .before .before .before .before .before .pre .1 .0 .readable .standing .size)
 
 evaluate-list-mul-v : (t : ℕ) → evaluate-list-lts.Need-mul-v (
+  table-place-reads.Asked,
+  table-place-reads.Learnt,
   look-reads.Asked,
   look-reads.Learnt,
   evaluate-row-below t,
@@ -657,9 +575,11 @@ evaluate-list-mul-v : (t : ℕ) → evaluate-list-lts.Need-mul-v (
   after-reads.Asked,
   after-reads.Learnt,
 ) (evaluate-list-at t) evaluate-list.Post evaluate-list-Inv-loop evaluate-list-μ-loop
-evaluate-list-mul-v t c = let z = range-bounds (c .before .before .before .before .before .before .before .before .before .before .before .pre .1 .0) (listed-ranging (c .before .before .before .before .before .before .before .before .before .before .before .pre .1 .0) (c .before .before .before .before .before .before .before .before .before .before .before .pre .1 .1)) in omega arith
+evaluate-list-mul-v t c = let k = c .before .before .before .before .before .before .before .before .before .before .pre .1 in let z = range-bounds (k .0) (listed-ranging (k .0) (k .1)) in omega arith
 
 evaluate-list-array-write-v : (t : ℕ) → evaluate-list-lts.Need-array-write-v (
+  table-place-reads.Asked,
+  table-place-reads.Learnt,
   look-reads.Asked,
   look-reads.Learnt,
   evaluate-row-below t,
@@ -667,9 +587,11 @@ evaluate-list-array-write-v : (t : ℕ) → evaluate-list-lts.Need-array-write-v
   after-reads.Asked,
   after-reads.Learnt,
 ) (evaluate-list-at t) evaluate-list.Post evaluate-list-Inv-loop evaluate-list-μ-loop
-evaluate-list-array-write-v t c = let z = range-bounds (c .before .before .before .before .before .before .before .before .before .before .before .pre .1 .0) (listed-ranging (c .before .before .before .before .before .before .before .before .before .before .before .pre .1 .0) (c .before .before .before .before .before .before .before .before .before .before .before .pre .1 .1)) in omega arith
+evaluate-list-array-write-v t c = let k = c .before .before .before .before .before .before .before .before .before .before .pre .1 in let z = range-bounds (k .0) (listed-ranging (k .0) (k .1)) in omega arith
 
 evaluate-list-add-evaluate-row : (t : ℕ) → evaluate-list-lts.Need-add-evaluate-row (
+  table-place-reads.Asked,
+  table-place-reads.Learnt,
   look-reads.Asked,
   look-reads.Learnt,
   evaluate-row-below t,
@@ -677,9 +599,11 @@ evaluate-list-add-evaluate-row : (t : ℕ) → evaluate-list-lts.Need-add-evalua
   after-reads.Asked,
   after-reads.Learnt,
 ) (evaluate-list-at t) evaluate-list.Post evaluate-list-Inv-loop evaluate-list-μ-loop
-evaluate-list-add-evaluate-row t c = let z = range-bounds (c .before .before .before .before .before .before .before .before .before .before .before .before .pre .1 .0) (listed-ranging (c .before .before .before .before .before .before .before .before .before .before .before .before .pre .1 .0) (c .before .before .before .before .before .before .before .before .before .before .before .before .pre .1 .1)) in omega arith
+evaluate-list-add-evaluate-row t c = let k = c .before .before .before .before .before .before .before .before .before .before .before .pre .1 in let z = range-bounds (k .0) (listed-ranging (k .0) (k .1)) in omega arith
 
 evaluate-list-evaluate-row-requires : (t : ℕ) → evaluate-list-lts.Need-evaluate-row-requires (
+  table-place-reads.Asked,
+  table-place-reads.Learnt,
   look-reads.Asked,
   look-reads.Learnt,
   evaluate-row-below t,
@@ -688,11 +612,14 @@ evaluate-list-evaluate-row-requires : (t : ℕ) → evaluate-list-lts.Need-evalu
   after-reads.Learnt,
 ) (evaluate-list-at t) evaluate-list.Post evaluate-list-Inv-loop evaluate-list-μ-loop
 evaluate-list-evaluate-row-requires t c κs =
-    let m = c .before .before .before .before .before .before .before .before .before .before .before .before .pre .0 in
-    let z = start (c .before .before .before .before .before .before .before .before .before .before .before .before .pre .1 .0) in
-    (omega arith, row-ready (c .before .before .before .before .before .before .before .before .before .before .before .before .pre .1 .0) (c .before .before .before .before .before .before .before .before .before .before .before .before .pre .1 .1) (c .before .loop-test .taken) (c .before .before .loop .inv) (c .before .before .before .before .look .result))
+    let k = c .before .before .before .before .before .before .before .before .before .before .before .pre in
+    let m = k .0 in
+    let z = start (k .1 .0) in
+    (omega arith, row-ready (k .1 .0) (k .1 .1) (c .before .before .before .before .before .before .before .before .table-place .ensures) (c .before .if1 .taken) (c .before .before .before .loop .inv) (c .before .before .before .before .before .look .result))
 
-evaluate-list-sub-if1 : (t : ℕ) → evaluate-list-lts.Need-sub-if1 (
+evaluate-list-sub-if2 : (t : ℕ) → evaluate-list-lts.Need-sub-if2 (
+  table-place-reads.Asked,
+  table-place-reads.Learnt,
   look-reads.Asked,
   look-reads.Learnt,
   evaluate-row-below t,
@@ -700,9 +627,11 @@ evaluate-list-sub-if1 : (t : ℕ) → evaluate-list-lts.Need-sub-if1 (
   after-reads.Asked,
   after-reads.Learnt,
 ) (evaluate-list-at t) evaluate-list.Post evaluate-list-Inv-loop evaluate-list-μ-loop
-evaluate-list-sub-if1 t c = let z = none-high (c .before .before .before .before .before .before .before .before .before .before .before .before .before .pre .1 .1) in omega arith
+evaluate-list-sub-if2 t c = let z = none-high (c .before .before .before .before .before .before .before .before .before .before .before .before .pre .1 .1) in omega arith
 
 evaluate-list-returns : (t : ℕ) → evaluate-list-lts.Need-returns (
+  table-place-reads.Asked,
+  table-place-reads.Learnt,
   look-reads.Asked,
   look-reads.Learnt,
   evaluate-row-below t,
@@ -711,10 +640,12 @@ evaluate-list-returns : (t : ℕ) → evaluate-list-lts.Need-returns (
   after-reads.Learnt,
 ) (evaluate-list-at t) evaluate-list.Post evaluate-list-Inv-loop evaluate-list-μ-loop
 evaluate-list-returns t c = λ h.
-    listed-decides h (c .before .before .before .before .before .before .before .before .before .before .before .before .before .before .pre .1 .1) (c .before .before .before .loop-test .taken) (c .before .before .before .before .loop .inv) (c .before .before .before .before .before .before .look .result) (c .before .before .before .before .before .before .look .ensures) (c .before .evaluate-row .result) (c .before .evaluate-row .ensures)
-    (c .if1 .taken)
+    listed-decides h (c .before .before .before .before .before .before .before .before .before .before .before .before .before .pre .1 .1) (c .before .before .before .before .before .before .before .before .before .before .table-place .ensures) (c .before .before .before .if1 .taken) (c .before .before .before .before .before .loop .inv) (c .before .before .before .before .before .before .before .look .result) (c .before .before .before .before .before .before .before .look .ensures) (c .before .evaluate-row .result) (c .before .evaluate-row .ensures)
+    (c .if2 .taken)
 
 evaluate-list-after-requires : (t : ℕ) → evaluate-list-lts.Need-after-requires (
+  table-place-reads.Asked,
+  table-place-reads.Learnt,
   look-reads.Asked,
   look-reads.Learnt,
   evaluate-row-below t,
@@ -725,6 +656,8 @@ evaluate-list-after-requires : (t : ℕ) → evaluate-list-lts.Need-after-requir
 evaluate-list-after-requires t c κs = search needs
 
 evaluate-list-add-first : (t : ℕ) → evaluate-list-lts.Need-add-first (
+  table-place-reads.Asked,
+  table-place-reads.Learnt,
   look-reads.Asked,
   look-reads.Learnt,
   evaluate-row-below t,
@@ -733,10 +666,13 @@ evaluate-list-add-first : (t : ℕ) → evaluate-list-lts.Need-add-first (
   after-reads.Learnt,
 ) (evaluate-list-at t) evaluate-list.Post evaluate-list-Inv-loop evaluate-list-μ-loop
 evaluate-list-add-first t c =
-    let z = row-room (c .before .before .before .before .before .before .before .before .before .before .before .before .before .before .before .pre .1 .0) (listed-ranging (c .before .before .before .before .before .before .before .before .before .before .before .before .before .before .before .pre .1 .0) (c .before .before .before .before .before .before .before .before .before .before .before .before .before .before .before .pre .1 .1)) (c .before .before .before .before .loop-test .taken) (c .before .before .before .before .before .loop .inv) in
+    let k = c .before .before .before .before .before .before .before .before .before .before .before .before .before .before .before .pre .1 in
+    let z = row-room (k .0) (listed-ranging (k .0) (k .1)) (c .before .before .before .before .before .before .before .before .before .before .before .before .table-place .ensures) (c .before .before .before .before .before .if1 .taken) (c .before .before .before .before .before .before .before .loop .inv) in
     omega arith
 
 evaluate-list-add-r : (t : ℕ) → evaluate-list-lts.Need-add-r (
+  table-place-reads.Asked,
+  table-place-reads.Learnt,
   look-reads.Asked,
   look-reads.Learnt,
   evaluate-row-below t,
@@ -744,9 +680,11 @@ evaluate-list-add-r : (t : ℕ) → evaluate-list-lts.Need-add-r (
   after-reads.Asked,
   after-reads.Learnt,
 ) (evaluate-list-at t) evaluate-list.Post evaluate-list-Inv-loop evaluate-list-μ-loop
-evaluate-list-add-r t c = let z = range-bounds (c .before .before .before .before .before .before .before .before .before .before .before .before .before .before .before .pre .1 .0) (listed-ranging (c .before .before .before .before .before .before .before .before .before .before .before .before .before .before .before .pre .1 .0) (c .before .before .before .before .before .before .before .before .before .before .before .before .before .before .before .pre .1 .1)) in omega arith
+evaluate-list-add-r t c = omega arith
 
 evaluate-list-loop-less : (t : ℕ) → evaluate-list-lts.Need-loop-less (
+  table-place-reads.Asked,
+  table-place-reads.Learnt,
   look-reads.Asked,
   look-reads.Learnt,
   evaluate-row-below t,
@@ -757,6 +695,8 @@ evaluate-list-loop-less : (t : ℕ) → evaluate-list-lts.Need-loop-less (
 evaluate-list-loop-less t c = omega arith
 
 evaluate-list-loop-again : (t : ℕ) → evaluate-list-lts.Need-loop-again (
+  table-place-reads.Asked,
+  table-place-reads.Learnt,
   look-reads.Asked,
   look-reads.Learnt,
   evaluate-row-below t,
@@ -765,11 +705,13 @@ evaluate-list-loop-again : (t : ℕ) → evaluate-list-lts.Need-loop-again (
   after-reads.Learnt,
 ) (evaluate-list-at t) evaluate-list.Post evaluate-list-Inv-loop evaluate-list-μ-loop
 evaluate-list-loop-again t c =
-    passed-more _ _ _ _ _ _ _ _ _ _ (none-is (c .before .before .before .before .before .before .before .before .before .before .before .before .before .before .before .pre .1 .1)) (c .before .before .before .before .before .loop .inv) (c .before .before .before .before .loop-test .taken) (c .before .before .evaluate-row .result) (c .before .if1 .left) (λ h.
-    row-valued h (c .before .before .before .before .before .before .before .before .before .before .before .before .before .before .before .pre .1 .1) (c .before .before .before .before .loop-test .taken) (c .before .before .before .before .before .loop .inv) (c .before .before .before .before .before .before .before .look .result) (c .before .before .before .before .before .before .before .look .ensures) (c .before .before .evaluate-row .result) (c .before .before .evaluate-row .ensures))
-    _ (c .after .ensures)
+    passed-more _ _ _ _ _ _ _ _ (none-is (c .before .before .before .before .before .before .before .before .before .before .before .before .before .before .before .pre .1 .1)) (c .before .before .before .before .before .before .before .loop .inv) (c .before .before .before .before .before .if1 .taken) (c .before .before .before .evaluate-row .result) (c .before .before .if2 .left) (λ h.
+    row-valued h (c .before .before .before .before .before .before .before .before .before .before .before .before .before .before .before .pre .1 .1) (c .before .before .before .before .before .before .before .before .before .before .before .before .table-place .ensures) (c .before .before .before .before .before .if1 .taken) (c .before .before .before .before .before .before .before .loop .inv) (c .before .before .before .before .before .before .before .before .before .look .result) (c .before .before .before .before .before .before .before .before .before .look .ensures) (c .before .before .before .evaluate-row .result) (c .before .before .before .evaluate-row .ensures))
+    _ (c .before .after .ensures)
 
 evaluate-list-returns-2 : (t : ℕ) → evaluate-list-lts.Need-returns-2 (
+  table-place-reads.Asked,
+  table-place-reads.Learnt,
   look-reads.Asked,
   look-reads.Learnt,
   evaluate-row-below t,
@@ -777,7 +719,7 @@ evaluate-list-returns-2 : (t : ℕ) → evaluate-list-lts.Need-returns-2 (
   after-reads.Asked,
   after-reads.Learnt,
 ) (evaluate-list-at t) evaluate-list.Post evaluate-list-Inv-loop evaluate-list-μ-loop
-evaluate-list-returns-2 t c = λ h. listed-ends h (c .before .before .before .before .before .before .before .before .before .before .before .pre .1 .1) (c .before .loop .inv) (c .loop-test .left)
+evaluate-list-returns-2 t c = λ h. listed-ends h (c .before .before .before .before .before .before .before .before .before .before .pre .1 .1) (c .before .before .before .before .before .before .before .table-place .ensures) (c .before .before .loop .inv) (c .if1 .left)
 
 evaluate-or-add-evaluate-part : (t : ℕ) → evaluate-or-lts.Need-add-evaluate-part (
   evaluate-part-below t,
@@ -1389,27 +1331,21 @@ pub +evaluate-and+evaluate-exists+evaluate-list+evaluate-or+evaluate-part+evalua
     (evaluate-and-evaluate-part-requires-2 t)
     (evaluate-and-lesser-requires t)
     (evaluate-and-returns-2 t))
-    (λ t. evaluate-exists-lts.spec
-    (evaluate-part-below t, evaluate-part.Post)
+    (λ t. evaluate-exists-lts.spec (
+      table-place-reads.Asked,
+      table-place-reads.Learnt,
+      evaluate-part-below t,
+      evaluate-part.Post,
+    )
     (evaluate-exists-at t)
     evaluate-exists.Post
     evaluate-exists-Inv-loop
     evaluate-exists-μ-loop
-    (evaluate-exists-mul-t t)
-    (evaluate-exists-add-t t)
-    (evaluate-exists-mul-t-2 t)
-    (evaluate-exists-element-copy-out-t t)
-    (evaluate-exists-mul-first t)
-    (evaluate-exists-mul-first-2 t)
-    (evaluate-exists-element-copy-out-first t)
-    (evaluate-exists-mul-columns t)
-    (evaluate-exists-add-columns t)
-    (evaluate-exists-mul-columns-2 t)
-    (evaluate-exists-element-copy-out-columns t)
-    (evaluate-exists-mul-rows t)
-    (evaluate-exists-add-rows t)
-    (evaluate-exists-mul-rows-2 t)
-    (evaluate-exists-element-copy-out-rows t)
+    (evaluate-exists-mul-table-place t)
+    (evaluate-exists-add-table-place t)
+    (evaluate-exists-mul-table-place-2 t)
+    (evaluate-exists-element-copy-out-table-place t)
+    (evaluate-exists-table-place-requires t)
     (evaluate-exists-loop-holds t)
     (evaluate-exists-mul-v t)
     (evaluate-exists-array-write-v t)
@@ -1423,6 +1359,8 @@ pub +evaluate-and+evaluate-exists+evaluate-list+evaluate-or+evaluate-part+evalua
     (evaluate-exists-loop-again t)
     (evaluate-exists-returns-2 t))
     (λ t. evaluate-list-lts.spec (
+      table-place-reads.Asked,
+      table-place-reads.Learnt,
       look-reads.Asked,
       look-reads.Learnt,
       evaluate-row-below t,
@@ -1434,21 +1372,11 @@ pub +evaluate-and+evaluate-exists+evaluate-list+evaluate-or+evaluate-part+evalua
     evaluate-list.Post
     evaluate-list-Inv-loop
     evaluate-list-μ-loop
-    (evaluate-list-mul-t t)
-    (evaluate-list-add-t t)
-    (evaluate-list-mul-t-2 t)
-    (evaluate-list-element-copy-out-t t)
-    (evaluate-list-mul-first t)
-    (evaluate-list-mul-first-2 t)
-    (evaluate-list-element-copy-out-first t)
-    (evaluate-list-mul-columns t)
-    (evaluate-list-add-columns t)
-    (evaluate-list-mul-columns-2 t)
-    (evaluate-list-element-copy-out-columns t)
-    (evaluate-list-mul-rows t)
-    (evaluate-list-add-rows t)
-    (evaluate-list-mul-rows-2 t)
-    (evaluate-list-element-copy-out-rows t)
+    (evaluate-list-mul-table-place t)
+    (evaluate-list-add-table-place t)
+    (evaluate-list-mul-table-place-2 t)
+    (evaluate-list-element-copy-out-table-place t)
+    (evaluate-list-table-place-requires t)
     (evaluate-list-mul-look t)
     (evaluate-list-add-look t)
     (evaluate-list-mul-look-2 t)
@@ -1463,7 +1391,7 @@ pub +evaluate-and+evaluate-exists+evaluate-list+evaluate-or+evaluate-part+evalua
     (evaluate-list-array-write-v t)
     (evaluate-list-add-evaluate-row t)
     (evaluate-list-evaluate-row-requires t)
-    (evaluate-list-sub-if1 t)
+    (evaluate-list-sub-if2 t)
     (evaluate-list-returns t)
     (evaluate-list-after-requires t)
     (evaluate-list-add-first t)

@@ -12,25 +12,22 @@ use Rattle.gate.proofs.keep_rows.Statement.{statement}
 use Rattle.gate.proofs.keep_rows.Tie as tie
 
 abbrev Inv-loop : tie.InvT-loop
-Inv-loop card file d g kept₀ n columns rows w₀ first₀ k₀ row₀ kept w first k row =
-    (rows ≤ mostRows) × (row ≤ rows) × (first ≡ row * columns) × (length w ≡ 4) × Kept (saysYes card file) kept k row
+Inv-loop card file d g kept₀ n table w₀ first₀ k₀ row₀ kept w first k row =
+    (table .rows ≤ mostRows) × (row ≤ table .rows) × (first ≡ row * table .columns) × (length w ≡ 4) × Kept (saysYes card file) kept k row
 
 abbrev μ-loop : tie.MeasureT-loop
-μ-loop card file d g kept₀ n columns rows w₀ first₀ k₀ row₀ kept w first k row = rows - row
+μ-loop card file d g kept₀ n table w₀ first₀ k₀ row₀ kept w first k row = table .rows - row
 
 read16-requires : tie.Need-read16-requires Inv-loop μ-loop
 read16-requires c κs = let laid = laid-out _ (c .before .before .pre .0 .sound-is) in omega arith
 
-element-copy-out-columns : tie.Need-element-copy-out-columns Inv-loop μ-loop
-element-copy-out-columns c = omega arith
-
-element-copy-out-rows : tie.Need-element-copy-out-rows Inv-loop μ-loop
-element-copy-out-rows c = omega arith
+table-place-requires : tie.Need-table-place-requires Inv-loop μ-loop
+table-place-requires c κs = omega arith
 
 loop-holds : tie.Need-loop-holds Inv-loop μ-loop
 loop-holds c =
-    let start = c .before .before .before .before .before in
-    (few-rows _ _ _ _ (start .pre .0), omega arith, omega arith, refl, kept-none _ _ (start .pre .1))
+    let start = c .before .before .before .before in
+    (few-rows _ _ _ _ (start .pre .0) _ (c .table-place .ensures), omega arith, omega arith, refl, kept-none _ _ (start .pre .1))
 
 array-write-w : tie.Need-array-write-w Inv-loop μ-loop
 array-write-w c = omega arith
@@ -38,8 +35,9 @@ array-write-w c = omega arith
 run-entry-requires : tie.Need-run-entry-requires Inv-loop μ-loop
 run-entry-requires c κs =
     let start = c .before .before .before .before .before .before .before .before in
-    let loop = c .before .before .loop in
-    judged _ _ _ _ (start .pre .0) _ _ (c .before .loop-test .taken) (loop .inv .2) _ _ (c .before .before .before .before .before .read16 .ensures .0)
+    let is = c .before .before .before .before .table-place .ensures in
+    let loop = c .before .before .before .loop in
+    judged _ _ _ _ (start .pre .0) _ is _ _ (c .before .if1 .taken) (loop .inv .2) _ _ (c .before .before .before .before .before .read16 .ensures .0)
     (length-set (loop .w) 0 (loop .first) ∙ loop .inv .3) (getD-set-same (loop .w) 0 (loop .first) 0 (omega arith))
 
 cast-kept : tie.Need-cast-kept Inv-loop μ-loop
@@ -56,9 +54,9 @@ add-k c = omega arith
 
 add-first : tie.Need-add-first Inv-loop μ-loop
 add-first c =
-    let start = c .before .before .before .before .before .before .before .before .before .before in
-    let loop = c .before .before .before .before .loop in
-    omega (arith, row-room _ _ _ _ (start .pre .0) _ _ (c .before .before .before .loop-test .taken) (loop .inv .2))
+    let start = c .before .before .before .before .before .before .before .before .before .before .before in
+    let is = c .before .before .before .before .before .before .before .table-place .ensures in
+    omega (arith, row-room _ _ _ _ (start .pre .0) _ is _ _ (c .before .before .before .before .if1 .taken) (c .before .before .before .before .before .before .loop .inv .2))
 
 add-row : tie.Need-add-row Inv-loop μ-loop
 add-row c = omega arith
@@ -68,13 +66,14 @@ loop-less c = omega arith
 
 loop-again : tie.Need-loop-again Inv-loop μ-loop
 loop-again c =
-    let start = c .before .before .before .before .before .before .before .before .before .before in
-    let loop = c .before .before .before .before .loop in
-    let below = c .before .before .before .loop-test .taken in
+    let start = c .before .before .before .before .before .before .before .before .before .before .before in
+    let is = c .before .before .before .before .before .before .before .table-place .ensures in
+    let loop = c .before .before .before .before .before .before .loop in
+    let below = c .before .before .before .before .if1 .taken in
     let size = length-set (loop .w) 0 (loop .first) ∙ loop .inv .3 in
     let says =
-    judged-says _ _ _ _ (start .pre .0) _ _ below (loop .inv .2) _ _ (c .before .before .before .before .before .before .before .read16 .ensures .0)
-    size (getD-set-same (loop .w) 0 (loop .first) 0 (omega arith)) _ (c .before .run-entry .ensures) in (
+    judged-says _ _ _ _ (start .pre .0) _ is _ _ below (loop .inv .2) _ _ (c .before .before .before .before .before .before .before .before .read16 .ensures .0)
+    size (getD-set-same (loop .w) 0 (loop .first) 0 (omega arith)) _ (c .before .before .run-entry .ensures) in (
       loop .inv .0,
       omega arith,
       next-first _ _ _ (loop .inv .2),
@@ -82,14 +81,15 @@ loop-again c =
       ⊎-elim
           (λ x. kept-yes _ _ _ _ (loop .inv .4) (omega arith) _ (sym says ∙ x .0 .taken) (x .1))
           (λ x. kept-no _ _ _ _ (loop .inv .4) (omega arith) _ (sym says ∙ x .0 .left) (x .1))
-          (c .if1 .came),
+          (c .before .if2 .came),
     )
 
 returns : tie.Need-returns Inv-loop μ-loop
 returns c =
     let start = c .before .before .before .before .before .before .before in
-    let loop = c .before .loop in
-    let (rows, count) = kept-all _ _ _ _ _ _ (loop .inv .4) (one-rows _ _ _ _ (start .pre .0)) (loop .inv .1) (c .loop-test .left) in
+    let loop = c .before .before .loop in
+    let all = one-rows _ _ _ _ (start .pre .0) _ (c .before .before .before .table-place .ensures) in
+    let (rows, count) = kept-all _ _ _ _ _ _ (loop .inv .4) all (loop .inv .1) (c .if1 .left) in
     (rows, (count, (omega arith, loop .inv .4 .size)))
 
 pub keep-rows-spec : {M : Type 1} → statement M
@@ -99,8 +99,7 @@ keep-rows-spec =
     Inv-loop
     μ-loop
     read16-requires
-    element-copy-out-columns
-    element-copy-out-rows
+    table-place-requires
     loop-holds
     array-write-w
     run-entry-requires

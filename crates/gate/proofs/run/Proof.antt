@@ -19,52 +19,53 @@ returns c = run-refused _ _ _ (c .before .before .before .prepare .ensures .0) _
 enum-told : tie.Need-enum-told
 enum-told c = search needs
 
-array-read-if1 : tie.Need-array-read-if1
-array-read-if1 c = search needs
+table-place-requires : tie.Need-table-place-requires
+table-place-requires c κs = search needs
 
 returns-2 : tie.Need-returns-2
 returns-2 c =
-    let p = c .before .before .before .prepare .ensures in
-    let ready = c .before .enum-told .given .1 in
-    run-no-row _ _ _ (p .0) _ ready (omega (arith, one-rows _ _ _ _ (p .1 ready)))
+    let p = c .before .before .before .before .before .before .prepare .ensures in
+    let ready = c .before .before .before .before .enum-told .given .1 in
+    run-no-row _ _ _ (p .0) _ ready (omega (arith, one-rows _ _ _ _ (p .1 ready) _ (c .before .before .table-place .ensures)))
 
 read16-requires : tie.Need-read16-requires
 read16-requires c κs =
-    let laid = laid-out _ (c .before .before .before .prepare .ensures .1 (c .before .enum-told .given .1) .sound-is) in
+    let laid = laid-out _ (c .before .before .before .before .before .before .prepare .ensures .1 (c .before .before .before .before .enum-told .given .1) .sound-is) in
     omega arith
 
-array-read-t15 : tie.Need-array-read-t15
-array-read-t15 c = search needs
-
-mul-t20 : tie.Need-mul-t20
-mul-t20 c =
-    let o = c .before .before .before .before .prepare .ensures .1 (c .before .before .enum-told .given .1) in
-    omega (arith, row-room _ _ _ _ o _ _ (c .before .if1 .left) refl)
+mul-t17 : tie.Need-mul-t17
+mul-t17 c =
+    let test = c .before .before in
+    let o = test .before .before .before .before .before .before .prepare .ensures .1 (test .before .before .before .before .enum-told .given .1) in
+    omega (arith, row-room _ _ _ _ o _ (test .before .before .table-place .ensures) _ _ (test .if1 .left) refl)
 
 run-entry-requires : tie.Need-run-entry-requires
 run-entry-requires c κs =
-    let o = c .before .before .before .before .before .before .before .prepare .ensures .1 (c .before .before .before .before .before .enum-told .given .1) in
-    judged _ _ _ _ o _ _ (c .before .before .before .before .if1 .left) refl _ _ (c .before .before .before .read16 .ensures .0) refl refl
+    let test = c .before .before .before .before .before in
+    let o = test .before .before .before .before .before .before .prepare .ensures .1 (test .before .before .before .before .enum-told .given .1) in
+    judged _ _ _ _ o _ (test .before .before .table-place .ensures) _ _ (test .if1 .left) refl _ _ (c .before .before .before .before .read16 .ensures .0) refl refl
 
 returns-3 : tie.Need-returns-3
 returns-3 c =
-    let test = c .before .before .before .before .before .before in
-    let p = test .before .before .before .prepare .ensures in
-    let ready = test .before .enum-told .given .1 in
+    let test = c .before .before .before .before .before .before .before in
+    let p = test .before .before .before .before .before .before .prepare .ensures in
+    let ready = test .before .before .before .before .enum-told .given .1 in
     let o = p .1 ready in
-    let whole = c .before .before .before .before .before .read16 .ensures .0 in
-    let says = judged-says _ _ _ _ o _ _ (test .if1 .left) refl _ _ whole refl refl _ (c .before .run-entry .ensures) in
-    run-says _ _ _ (p .0) _ true ready (omega (arith, one-rows _ _ _ _ o)) (sym (c .if2 .taken) ∙ says)
+    let is = test .before .before .table-place .ensures in
+    let whole = c .before .before .before .before .before .before .read16 .ensures .0 in
+    let says = judged-says _ _ _ _ o _ is _ _ (test .if1 .left) refl _ _ whole refl refl _ (c .before .run-entry .ensures) in
+    run-says _ _ _ (p .0) _ true ready (omega (arith, one-rows _ _ _ _ o _ is)) (sym (c .if2 .taken) ∙ says)
 
 returns-4 : tie.Need-returns-4
 returns-4 c =
-    let test = c .before .before .before .before .before .before in
-    let p = test .before .before .before .prepare .ensures in
-    let ready = test .before .enum-told .given .1 in
+    let test = c .before .before .before .before .before .before .before in
+    let p = test .before .before .before .before .before .before .prepare .ensures in
+    let ready = test .before .before .before .before .enum-told .given .1 in
     let o = p .1 ready in
-    let whole = c .before .before .before .before .before .read16 .ensures .0 in
-    let says = judged-says _ _ _ _ o _ _ (test .if1 .left) refl _ _ whole refl refl _ (c .before .run-entry .ensures) in
-    run-says _ _ _ (p .0) _ false ready (omega (arith, one-rows _ _ _ _ o)) (sym (c .if2 .left) ∙ says)
+    let is = test .before .before .table-place .ensures in
+    let whole = c .before .before .before .before .before .before .read16 .ensures .0 in
+    let says = judged-says _ _ _ _ o _ is _ _ (test .if1 .left) refl _ _ whole refl refl _ (c .before .run-entry .ensures) in
+    run-says _ _ _ (p .0) _ false ready (omega (arith, one-rows _ _ _ _ o _ is)) (sym (c .if2 .left) ∙ says)
 
 pub run-spec : {M : Type 1} → statement M
 run-spec =
@@ -74,11 +75,10 @@ run-spec =
     enum-known-prepared
     returns
     enum-told
-    array-read-if1
+    table-place-requires
     returns-2
     read16-requires
-    array-read-t15
-    mul-t20
+    mul-t17
     run-entry-requires
     returns-3
     returns-4)

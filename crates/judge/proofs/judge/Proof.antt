@@ -28,42 +28,40 @@ places-requires c κs =
     let is = c .before .enum-told .given .1 in
     (file-sized (c .before .before .before .before .before .before .before .args .text .now) _ (c .before .before .before .before .before .before .before .args .row) (parse .result) (parse .last .1 .1 .0) _ told is, refl)
 
-array-read-if1 : tie.Need-array-read-if1
-array-read-if1 c = search needs
+table-place-requires : tie.Need-table-place-requires
+table-place-requires c κs = search needs
 
 returns-2 : tie.Need-returns-2
 returns-2 c =
-    let parse = c .before .before .before .before .before .parse in
-    let told = parse .ensures .1 .0 in
-    let is = c .before .before .before .enum-told .given .1 in
-    judge-no-row _ _ _ (parse .result) (parse .last .1 .1 .0) _ told is _ (c .before .places .ensures) (omega (arith, c .if1 .taken))
-
-array-read-t14 : tie.Need-array-read-t14
-array-read-t14 c = search needs
-
-mul-t19 : tie.Need-mul-t19
-mul-t19 c =
-    let parse = c .before .before .before .before .before .parse in
-    let told = parse .ensures .1 .0 in
-    let is = c .before .before .before .enum-told .given .1 in
-    omega (arith, judge-room (c .before .before .before .before .before .before .before .before .before .args .text .now) (c .before .before .before .before .before .before .before .before .before .args .file .now) (c .before .before .before .before .before .before .before .before .before .args .row) (parse .result) (parse .last .1 .1 .0) _ told is _ (c .before .places .ensures) (c .if1 .left))
-
-evaluate-part-requires : tie.Need-evaluate-part-requires
-evaluate-part-requires c κs =
     let parse = c .before .before .before .before .before .before .before .before .parse in
     let told = parse .ensures .1 .0 in
     let is = c .before .before .before .before .before .before .enum-told .given .1 in
-    whole-rule _ _ _ (parse .result) (parse .last .1 .1 .0) _ told is _ (c .before .before .before .before .places .ensures) (c .before .before .before .if1 .left) (parse .ensures .1 .1)
+    judge-no-row _ _ _ (parse .result) (parse .last .1 .1 .0) _ told is _ (c .before .before .before .before .places .ensures) (c .before .before .table-place .ensures) (c .if1 .taken)
+
+mul-t16 : tie.Need-mul-t16
+mul-t16 c =
+    let parse = c .before .before .before .before .before .before .before .before .before .parse in
+    let told = parse .ensures .1 .0 in
+    let is = c .before .before .before .before .before .before .before .enum-told .given .1 in
+    let args = c .before .before .before .before .before .before .before .before .before .before .before .before .before .args in
+    omega (arith, judge-room (args .text .now) (args .file .now) (args .row) (parse .result) (parse .last .1 .1 .0) _ told is _ (c .before .before .before .before .before .places .ensures) (c .before .before .before .table-place .ensures) (c .before .if1 .left))
+
+evaluate-part-requires : tie.Need-evaluate-part-requires
+evaluate-part-requires c κs =
+    let parse = c .before .before .before .before .before .before .before .before .before .before .before .before .parse in
+    let told = parse .ensures .1 .0 in
+    let is = c .before .before .before .before .before .before .before .before .before .before .enum-told .given .1 in
+    whole-rule _ _ _ (parse .result) (parse .last .1 .1 .0) _ told is _ (c .before .before .before .before .before .before .before .before .places .ensures) (c .before .before .before .before .before .before .table-place .ensures) (c .before .before .before .before .if1 .left) (parse .ensures .1 .1)
 
 judged-by-requires : tie.Need-judged-by-requires
 judged-by-requires c κs = search needs
 
 returns-3 : tie.Need-returns-3
 returns-3 c =
-    let parse = c .before .before .before .before .before .before .before .before .before .before .parse in
+    let parse = c .before .before .before .before .before .before .before .before .before .before .before .before .before .before .parse in
     let told = parse .ensures .1 .0 in
-    let is = c .before .before .before .before .before .before .before .before .enum-told .given .1 in
-    judge-given _ _ _ (parse .result) (parse .last .1 .1 .0) _ told is _ (c .before .before .before .before .before .before .places .ensures) (c .before .before .before .before .before .if1 .left) (parse .ensures .1 .1) (c .before .evaluate-part .result) (c .before .evaluate-part .ensures) _ (c .judged-by .ensures)
+    let is = c .before .before .before .before .before .before .before .before .before .before .before .before .enum-told .given .1 in
+    judge-given _ _ _ (parse .result) (parse .last .1 .1 .0) _ told is _ (c .before .before .before .before .before .before .before .before .before .before .places .ensures) (c .before .before .before .before .before .before .before .before .table-place .ensures) (c .before .before .before .before .before .before .if1 .left) (parse .ensures .1 .1) (c .before .evaluate-part .result) (c .before .evaluate-part .ensures) _ (c .judged-by .ensures)
 
 pub judge-spec : {M : Type 1} → statement M
 judge-spec =
@@ -75,10 +73,9 @@ judge-spec =
     passed-up-requires
     returns
     places-requires
-    array-read-if1
+    table-place-requires
     returns-2
-    array-read-t14
-    mul-t19
+    mul-t16
     evaluate-part-requires
     judged-by-requires
     returns-3)

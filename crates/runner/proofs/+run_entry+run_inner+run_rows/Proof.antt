@@ -4,7 +4,7 @@ use Prim.Native.Nat.{ℕ, _+_, _-_, _*_, _<_}
 use native.Mathlib.Omega.{arith}
 use borrow.Author.Tests.{not-true, not-false}
 use Rattle.tables.specs.Values.{And, Or}
-use Rattle.runner.proofs.Running.{RowsPassed, start, some-kind, leaf-ready, leaf-answer, middle, left-run, right-run, left-decides, right-decides, row-bounds, row-room, inner-run, inner-says, row-stops, rows-end, passed-none, passed-more, differ, agree}
+use Rattle.runner.proofs.Running.{RowsPassed, start, some-kind, leaf-ready, leaf-answer, middle, left-run, right-run, left-decides, right-decides, row-bounds, row-room, row-few, inner-run, inner-says, row-stops, rows-end, passed-none, passed-more, differ, agree}
 use Prim.Native.Nat.{ℕ, _<_}
 use borrow.Fn.Kinds.{In}
 use borrow.Fn.PlainCycle.{Measures, is, falls, and}
@@ -17,6 +17,7 @@ use Rattle.runner.proofs.+run_entry+run_inner+run_rows.Lts-run_inner as
 use Rattle.runner.proofs.run_rows.Reads as run-rows
 use Rattle.runner.proofs.run_rows.Kinds as run-rows-kinds
 use Rattle.runner.proofs.+run_entry+run_inner+run_rows.Lts-run_rows as run-rows-lts
+use Rattle.cells.proofs.table_place.Reads as table-place-reads
 use Rattle.runner.proofs.run_leaf.Reads as run-leaf-reads
 use Rattle.runner.proofs.run_leaf_rows.Reads as run-leaf-rows-reads
 use Rattle.runner.proofs.+run_entry+run_inner+run_rows.{statement}
@@ -342,14 +343,16 @@ run-inner-returns-6 : (t : ℕ) → run-inner-lts.Need-returns-6 (
 run-inner-returns-6 t c = c .run-rows2 .ensures
 
 abbrev run-rows-Inv-loop : run-rows-lts.InvT-loop
-run-rows-Inv-loop d g file s e w depth q t first₀ columns rows v₀ r₀ first v r = RowsPassed d g file w s e depth q first₀ columns r first v
+run-rows-Inv-loop d g file s e w depth q table first₀ v₀ r₀ first v r = RowsPassed d g file w s e depth q table r first v
 
 abbrev run-rows-μ-loop : run-rows-lts.MeasureT-loop
-run-rows-μ-loop d g file s e w depth q t first₀ columns rows v₀ r₀ first v r = rows - r
+run-rows-μ-loop d g file s e w depth q table first₀ v₀ r₀ first v r = table .rows - r
 
 run-rows-add-if1 : (t : ℕ) → run-rows-lts.Need-add-if1 (
   run-leaf-rows-reads.Asked,
   run-leaf-rows-reads.Learnt,
+  table-place-reads.Asked,
+  table-place-reads.Learnt,
   run-entry-below t,
   run-entry.Post,
 ) (run-rows-at t) run-rows.Post run-rows-Inv-loop run-rows-μ-loop
@@ -358,6 +361,8 @@ run-rows-add-if1 t c = let o = c .before in let z = row-bounds (o .pre .1 .0) (o
 run-rows-mul-if1 : (t : ℕ) → run-rows-lts.Need-mul-if1 (
   run-leaf-rows-reads.Asked,
   run-leaf-rows-reads.Learnt,
+  table-place-reads.Asked,
+  table-place-reads.Learnt,
   run-entry-below t,
   run-entry.Post,
 ) (run-rows-at t) run-rows.Post run-rows-Inv-loop run-rows-μ-loop
@@ -366,6 +371,8 @@ run-rows-mul-if1 t c = let o = c .before in let z = row-bounds (o .pre .1 .0) (o
 run-rows-mul-if1-2 : (t : ℕ) → run-rows-lts.Need-mul-if1-2 (
   run-leaf-rows-reads.Asked,
   run-leaf-rows-reads.Learnt,
+  table-place-reads.Asked,
+  table-place-reads.Learnt,
   run-entry-below t,
   run-entry.Post,
 ) (run-rows-at t) run-rows.Post run-rows-Inv-loop run-rows-μ-loop
@@ -374,6 +381,8 @@ run-rows-mul-if1-2 t c = let o = c .before in let z = row-bounds (o .pre .1 .0) 
 run-rows-element-copy-out-if1 : (t : ℕ) → run-rows-lts.Need-element-copy-out-if1 (
   run-leaf-rows-reads.Asked,
   run-leaf-rows-reads.Learnt,
+  table-place-reads.Asked,
+  table-place-reads.Learnt,
   run-entry-below t,
   run-entry.Post,
 ) (run-rows-at t) run-rows.Post run-rows-Inv-loop run-rows-μ-loop
@@ -382,6 +391,8 @@ run-rows-element-copy-out-if1 t c = let o = c .before in let z = row-bounds (o .
 run-rows-run-leaf-rows-requires : (t : ℕ) → run-rows-lts.Need-run-leaf-rows-requires (
   run-leaf-rows-reads.Asked,
   run-leaf-rows-reads.Learnt,
+  table-place-reads.Asked,
+  table-place-reads.Learnt,
   run-entry-below t,
   run-entry.Post,
 ) (run-rows-at t) run-rows.Post run-rows-Inv-loop run-rows-μ-loop
@@ -390,261 +401,217 @@ run-rows-run-leaf-rows-requires t c κs = let o = c .before .before .before in (
 run-rows-returns : (t : ℕ) → run-rows-lts.Need-returns (
   run-leaf-rows-reads.Asked,
   run-leaf-rows-reads.Learnt,
+  table-place-reads.Asked,
+  table-place-reads.Learnt,
   run-entry-below t,
   run-entry.Post,
 ) (run-rows-at t) run-rows.Post run-rows-Inv-loop run-rows-μ-loop
 run-rows-returns t c = c .run-leaf-rows .ensures
 
-run-rows-mul-t : (t : ℕ) → run-rows-lts.Need-mul-t (
+run-rows-mul-table-place : (t : ℕ) → run-rows-lts.Need-mul-table-place (
   run-leaf-rows-reads.Asked,
   run-leaf-rows-reads.Learnt,
+  table-place-reads.Asked,
+  table-place-reads.Learnt,
   run-entry-below t,
   run-entry.Post,
 ) (run-rows-at t) run-rows.Post run-rows-Inv-loop run-rows-μ-loop
-run-rows-mul-t t c = let o = c .before .before .before in let z = row-bounds (o .pre .1 .0) (o .args .q) (o .pre .1 .1) in omega arith
+run-rows-mul-table-place t c = let o = c .before .before .before in let z = row-bounds (o .pre .1 .0) (o .args .q) (o .pre .1 .1) in omega arith
 
-run-rows-add-t : (t : ℕ) → run-rows-lts.Need-add-t (
+run-rows-add-table-place : (t : ℕ) → run-rows-lts.Need-add-table-place (
   run-leaf-rows-reads.Asked,
   run-leaf-rows-reads.Learnt,
+  table-place-reads.Asked,
+  table-place-reads.Learnt,
   run-entry-below t,
   run-entry.Post,
 ) (run-rows-at t) run-rows.Post run-rows-Inv-loop run-rows-μ-loop
-run-rows-add-t t c = let o = c .before .before .before in let z = row-bounds (o .pre .1 .0) (o .args .q) (o .pre .1 .1) in omega arith
+run-rows-add-table-place t c = let o = c .before .before .before in let z = row-bounds (o .pre .1 .0) (o .args .q) (o .pre .1 .1) in omega arith
 
-run-rows-mul-t-2 : (t : ℕ) → run-rows-lts.Need-mul-t-2 (
+run-rows-mul-table-place-2 : (t : ℕ) → run-rows-lts.Need-mul-table-place-2 (
   run-leaf-rows-reads.Asked,
   run-leaf-rows-reads.Learnt,
+  table-place-reads.Asked,
+  table-place-reads.Learnt,
   run-entry-below t,
   run-entry.Post,
 ) (run-rows-at t) run-rows.Post run-rows-Inv-loop run-rows-μ-loop
-run-rows-mul-t-2 t c = let o = c .before .before .before in let z = row-bounds (o .pre .1 .0) (o .args .q) (o .pre .1 .1) in omega arith
+run-rows-mul-table-place-2 t c = let o = c .before .before .before in let z = row-bounds (o .pre .1 .0) (o .args .q) (o .pre .1 .1) in omega arith
 
-run-rows-element-copy-out-t : (t : ℕ) → run-rows-lts.Need-element-copy-out-t (
+run-rows-element-copy-out-table-place : (t : ℕ) → run-rows-lts.Need-element-copy-out-table-place (
   run-leaf-rows-reads.Asked,
   run-leaf-rows-reads.Learnt,
+  table-place-reads.Asked,
+  table-place-reads.Learnt,
   run-entry-below t,
   run-entry.Post,
 ) (run-rows-at t) run-rows.Post run-rows-Inv-loop run-rows-μ-loop
-run-rows-element-copy-out-t t c = let o = c .before .before .before in let z = row-bounds (o .pre .1 .0) (o .args .q) (o .pre .1 .1) in omega arith
+run-rows-element-copy-out-table-place t c = let o = c .before .before .before in let z = row-bounds (o .pre .1 .0) (o .args .q) (o .pre .1 .1) in omega arith
 
-run-rows-mul-first : (t : ℕ) → run-rows-lts.Need-mul-first (
+run-rows-table-place-requires : (t : ℕ) → run-rows-lts.Need-table-place-requires (
   run-leaf-rows-reads.Asked,
   run-leaf-rows-reads.Learnt,
+  table-place-reads.Asked,
+  table-place-reads.Learnt,
   run-entry-below t,
   run-entry.Post,
 ) (run-rows-at t) run-rows.Post run-rows-Inv-loop run-rows-μ-loop
-run-rows-mul-first t c = let o = c .before .before .before .before in let z = row-bounds (o .pre .1 .0) (o .args .q) (o .pre .1 .1) in omega arith
-
-run-rows-mul-first-2 : (t : ℕ) → run-rows-lts.Need-mul-first-2 (
-  run-leaf-rows-reads.Asked,
-  run-leaf-rows-reads.Learnt,
-  run-entry-below t,
-  run-entry.Post,
-) (run-rows-at t) run-rows.Post run-rows-Inv-loop run-rows-μ-loop
-run-rows-mul-first-2 t c = let o = c .before .before .before .before in let z = row-bounds (o .pre .1 .0) (o .args .q) (o .pre .1 .1) in omega arith
-
-run-rows-element-copy-out-first : (t : ℕ) → run-rows-lts.Need-element-copy-out-first (
-  run-leaf-rows-reads.Asked,
-  run-leaf-rows-reads.Learnt,
-  run-entry-below t,
-  run-entry.Post,
-) (run-rows-at t) run-rows.Post run-rows-Inv-loop run-rows-μ-loop
-run-rows-element-copy-out-first t c = let o = c .before .before .before .before in let z = row-bounds (o .pre .1 .0) (o .args .q) (o .pre .1 .1) in omega arith
-
-run-rows-mul-columns : (t : ℕ) → run-rows-lts.Need-mul-columns (
-  run-leaf-rows-reads.Asked,
-  run-leaf-rows-reads.Learnt,
-  run-entry-below t,
-  run-entry.Post,
-) (run-rows-at t) run-rows.Post run-rows-Inv-loop run-rows-μ-loop
-run-rows-mul-columns t c = let o = c .before .before .before .before .before in let z = row-bounds (o .pre .1 .0) (o .args .q) (o .pre .1 .1) in omega arith
-
-run-rows-add-columns : (t : ℕ) → run-rows-lts.Need-add-columns (
-  run-leaf-rows-reads.Asked,
-  run-leaf-rows-reads.Learnt,
-  run-entry-below t,
-  run-entry.Post,
-) (run-rows-at t) run-rows.Post run-rows-Inv-loop run-rows-μ-loop
-run-rows-add-columns t c = let o = c .before .before .before .before .before in let z = row-bounds (o .pre .1 .0) (o .args .q) (o .pre .1 .1) in omega arith
-
-run-rows-mul-columns-2 : (t : ℕ) → run-rows-lts.Need-mul-columns-2 (
-  run-leaf-rows-reads.Asked,
-  run-leaf-rows-reads.Learnt,
-  run-entry-below t,
-  run-entry.Post,
-) (run-rows-at t) run-rows.Post run-rows-Inv-loop run-rows-μ-loop
-run-rows-mul-columns-2 t c = let o = c .before .before .before .before .before in let z = row-bounds (o .pre .1 .0) (o .args .q) (o .pre .1 .1) in omega arith
-
-run-rows-element-copy-out-columns : (t : ℕ) → run-rows-lts.Need-element-copy-out-columns (
-  run-leaf-rows-reads.Asked,
-  run-leaf-rows-reads.Learnt,
-  run-entry-below t,
-  run-entry.Post,
-) (run-rows-at t) run-rows.Post run-rows-Inv-loop run-rows-μ-loop
-run-rows-element-copy-out-columns t c = let o = c .before .before .before .before .before in let z = row-bounds (o .pre .1 .0) (o .args .q) (o .pre .1 .1) in omega arith
-
-run-rows-mul-rows : (t : ℕ) → run-rows-lts.Need-mul-rows (
-  run-leaf-rows-reads.Asked,
-  run-leaf-rows-reads.Learnt,
-  run-entry-below t,
-  run-entry.Post,
-) (run-rows-at t) run-rows.Post run-rows-Inv-loop run-rows-μ-loop
-run-rows-mul-rows t c = let o = c .before .before .before .before .before .before in let z = row-bounds (o .pre .1 .0) (o .args .q) (o .pre .1 .1) in omega arith
-
-run-rows-add-rows : (t : ℕ) → run-rows-lts.Need-add-rows (
-  run-leaf-rows-reads.Asked,
-  run-leaf-rows-reads.Learnt,
-  run-entry-below t,
-  run-entry.Post,
-) (run-rows-at t) run-rows.Post run-rows-Inv-loop run-rows-μ-loop
-run-rows-add-rows t c = let o = c .before .before .before .before .before .before in let z = row-bounds (o .pre .1 .0) (o .args .q) (o .pre .1 .1) in omega arith
-
-run-rows-mul-rows-2 : (t : ℕ) → run-rows-lts.Need-mul-rows-2 (
-  run-leaf-rows-reads.Asked,
-  run-leaf-rows-reads.Learnt,
-  run-entry-below t,
-  run-entry.Post,
-) (run-rows-at t) run-rows.Post run-rows-Inv-loop run-rows-μ-loop
-run-rows-mul-rows-2 t c = let o = c .before .before .before .before .before .before in let z = row-bounds (o .pre .1 .0) (o .args .q) (o .pre .1 .1) in omega arith
-
-run-rows-element-copy-out-rows : (t : ℕ) → run-rows-lts.Need-element-copy-out-rows (
-  run-leaf-rows-reads.Asked,
-  run-leaf-rows-reads.Learnt,
-  run-entry-below t,
-  run-entry.Post,
-) (run-rows-at t) run-rows.Post run-rows-Inv-loop run-rows-μ-loop
-run-rows-element-copy-out-rows t c = let o = c .before .before .before .before .before .before in let z = row-bounds (o .pre .1 .0) (o .args .q) (o .pre .1 .1) in omega arith
+run-rows-table-place-requires t c κs = let o = c .before .before .before .before in row-bounds (o .pre .1 .0) (o .args .q) (o .pre .1 .1) .high
 
 run-rows-loop-holds : (t : ℕ) → run-rows-lts.Need-loop-holds (
   run-leaf-rows-reads.Asked,
   run-leaf-rows-reads.Learnt,
+  table-place-reads.Asked,
+  table-place-reads.Learnt,
   run-entry-below t,
   run-entry.Post,
 ) (run-rows-at t) run-rows.Post run-rows-Inv-loop run-rows-μ-loop
-run-rows-loop-holds t c = passed-none _ _ _ _ _ _ _ _ _ _ (c .before .before .before .before .before .before .before .before .pre .1 .0 .readable .standing .size)
+run-rows-loop-holds t c = passed-none _ _ _ _ _ _ _ _ (c .before .before .before .before .before .before .pre .1 .0 .readable .standing .size) (c .before .table-place .ensures)
 
 run-rows-mul-v : (t : ℕ) → run-rows-lts.Need-mul-v (
   run-leaf-rows-reads.Asked,
   run-leaf-rows-reads.Learnt,
+  table-place-reads.Asked,
+  table-place-reads.Learnt,
   run-entry-below t,
   run-entry.Post,
 ) (run-rows-at t) run-rows.Post run-rows-Inv-loop run-rows-μ-loop
 run-rows-mul-v t c =
-    let o = c .before .before .before .before .before .before .before .before .before .before in
+    let o = c .before .before .before .before .before .before .before .before .before in
     let z = row-bounds (o .pre .1 .0) (o .args .q) (o .pre .1 .1) in
     omega arith
 
 run-rows-array-write-v : (t : ℕ) → run-rows-lts.Need-array-write-v (
   run-leaf-rows-reads.Asked,
   run-leaf-rows-reads.Learnt,
+  table-place-reads.Asked,
+  table-place-reads.Learnt,
   run-entry-below t,
   run-entry.Post,
 ) (run-rows-at t) run-rows.Post run-rows-Inv-loop run-rows-μ-loop
 run-rows-array-write-v t c =
-    let o = c .before .before .before .before .before .before .before .before .before .before in
+    let o = c .before .before .before .before .before .before .before .before .before in
     let z = row-bounds (o .pre .1 .0) (o .args .q) (o .pre .1 .1) in
     omega arith
 
 run-rows-add-run-entry : (t : ℕ) → run-rows-lts.Need-add-run-entry (
   run-leaf-rows-reads.Asked,
   run-leaf-rows-reads.Learnt,
+  table-place-reads.Asked,
+  table-place-reads.Learnt,
   run-entry-below t,
   run-entry.Post,
 ) (run-rows-at t) run-rows.Post run-rows-Inv-loop run-rows-μ-loop
 run-rows-add-run-entry t c =
-    let o = c .before .before .before .before .before .before .before .before .before .before in
+    let o = c .before .before .before .before .before .before .before .before .before in
     let z = row-bounds (o .pre .1 .0) (o .args .q) (o .pre .1 .1) in
     omega arith
 
 run-rows-add-run-entry-2 : (t : ℕ) → run-rows-lts.Need-add-run-entry-2 (
   run-leaf-rows-reads.Asked,
   run-leaf-rows-reads.Learnt,
+  table-place-reads.Asked,
+  table-place-reads.Learnt,
   run-entry-below t,
   run-entry.Post,
 ) (run-rows-at t) run-rows.Post run-rows-Inv-loop run-rows-μ-loop
 run-rows-add-run-entry-2 t c =
-    let o = c .before .before .before .before .before .before .before .before .before .before .before in
+    let o = c .before .before .before .before .before .before .before .before .before .before in
     let z = row-bounds (o .pre .1 .0) (o .args .q) (o .pre .1 .1) in
     omega arith
 
 run-rows-run-entry-requires : (t : ℕ) → run-rows-lts.Need-run-entry-requires (
   run-leaf-rows-reads.Asked,
   run-leaf-rows-reads.Learnt,
+  table-place-reads.Asked,
+  table-place-reads.Learnt,
   run-entry-below t,
   run-entry.Post,
 ) (run-rows-at t) run-rows.Post run-rows-Inv-loop run-rows-μ-loop
 run-rows-run-entry-requires t c κs =
-    let o = c .before .before .before .before .before .before .before .before .before .before .before in
+    let o = c .before .before .before .before .before .before .before .before .before .before in
     let m = o .pre .0 in
     let z = row-bounds (o .pre .1 .0) (o .args .q) (o .pre .1 .1) in
-    (omega arith, inner-run (o .pre .1 .0) (o .args .q) (o .pre .1 .1) (c .before .loop-test .taken) (c .before .before .loop .inv))
+    (omega arith, inner-run (o .pre .1 .0) (o .args .q) (o .pre .1 .1) (c .before .if2 .taken) (c .before .before .before .loop .inv))
 
 run-rows-returns-2 : (t : ℕ) → run-rows-lts.Need-returns-2 (
   run-leaf-rows-reads.Asked,
   run-leaf-rows-reads.Learnt,
+  table-place-reads.Asked,
+  table-place-reads.Learnt,
   run-entry-below t,
   run-entry.Post,
 ) (run-rows-at t) run-rows.Post run-rows-Inv-loop run-rows-μ-loop
 run-rows-returns-2 t c = λ h.
-    let o = c .before .before .before .before .before .before .before .before .before .before .before .before .before in
-    let below = c .before .before .before .loop-test .taken in
-    let passed = c .before .before .before .before .loop .inv in
+    let o = c .before .before .before .before .before .before .before .before .before .before .before .before in
+    let below = c .before .before .before .if2 .taken in
+    let passed = c .before .before .before .before .before .loop .inv in
     row-stops h (o .args .q) (o .pre .1 .1) passed below _ (c .before .run-entry .ensures (inner-run h (o .args .q) (o .pre .1 .1) below passed))
-    (differ _ _ (c .if2 .taken))
+    (differ _ _ (c .if3 .taken))
 
 run-rows-add-first : (t : ℕ) → run-rows-lts.Need-add-first (
   run-leaf-rows-reads.Asked,
   run-leaf-rows-reads.Learnt,
+  table-place-reads.Asked,
+  table-place-reads.Learnt,
   run-entry-below t,
   run-entry.Post,
 ) (run-rows-at t) run-rows.Post run-rows-Inv-loop run-rows-μ-loop
 run-rows-add-first t c =
     let o = c .before .before .before .before .before .before .before .before .before .before .before .before .before in
-    let z = row-room (o .pre .1 .0) (o .args .q) (o .pre .1 .1) (c .before .before .before .loop-test .taken) (c .before .before .before .before .loop .inv) in
+    let z = row-room (o .pre .1 .0) (o .args .q) (o .pre .1 .1) (c .before .before .before .before .if2 .taken) (c .before .before .before .before .before .before .loop .inv) in
     omega arith
 
 run-rows-add-r : (t : ℕ) → run-rows-lts.Need-add-r (
   run-leaf-rows-reads.Asked,
   run-leaf-rows-reads.Learnt,
+  table-place-reads.Asked,
+  table-place-reads.Learnt,
   run-entry-below t,
   run-entry.Post,
 ) (run-rows-at t) run-rows.Post run-rows-Inv-loop run-rows-μ-loop
 run-rows-add-r t c =
     let o = c .before .before .before .before .before .before .before .before .before .before .before .before .before in
-    let z = row-bounds (o .pre .1 .0) (o .args .q) (o .pre .1 .1) in
+    let z = row-few (o .pre .1 .0) (o .args .q) (o .pre .1 .1) (c .before .before .before .before .if2 .taken) (c .before .before .before .before .before .before .loop .inv) in
     omega arith
 
 run-rows-loop-less : (t : ℕ) → run-rows-lts.Need-loop-less (
   run-leaf-rows-reads.Asked,
   run-leaf-rows-reads.Learnt,
+  table-place-reads.Asked,
+  table-place-reads.Learnt,
   run-entry-below t,
   run-entry.Post,
 ) (run-rows-at t) run-rows.Post run-rows-Inv-loop run-rows-μ-loop
-run-rows-loop-less t c = omega arith
+run-rows-loop-less t c = let z = c .before .before .before .before .if2 .taken in omega arith
 
 run-rows-loop-again : (t : ℕ) → run-rows-lts.Need-loop-again (
   run-leaf-rows-reads.Asked,
   run-leaf-rows-reads.Learnt,
+  table-place-reads.Asked,
+  table-place-reads.Learnt,
   run-entry-below t,
   run-entry.Post,
 ) (run-rows-at t) run-rows.Post run-rows-Inv-loop run-rows-μ-loop
 run-rows-loop-again t c =
     let o = c .before .before .before .before .before .before .before .before .before .before .before .before .before in
-    let below = c .before .before .before .loop-test .taken in
-    let passed = c .before .before .before .before .loop .inv in
-    passed-more _ _ _ _ _ _ _ _ _ _ passed (λ h.
-    sym (c .before .run-entry .ensures (inner-run h (o .args .q) (o .pre .1 .1) below passed) ∙ inner-says h (o .args .q) (o .pre .1 .1) _)
-    ∙ agree _ _ (c .if2 .left))
+    let below = c .before .before .before .before .if2 .taken in
+    let passed = c .before .before .before .before .before .before .loop .inv in
+    passed-more _ _ _ _ _ _ _ _ passed (λ h.
+    sym (c .before .before .run-entry .ensures (inner-run h (o .args .q) (o .pre .1 .1) below passed) ∙ inner-says h (o .args .q) (o .pre .1 .1) _)
+    ∙ agree _ _ (c .before .if3 .left))
 
 run-rows-returns-3 : (t : ℕ) → run-rows-lts.Need-returns-3 (
   run-leaf-rows-reads.Asked,
   run-leaf-rows-reads.Learnt,
+  table-place-reads.Asked,
+  table-place-reads.Learnt,
   run-entry-below t,
   run-entry.Post,
 ) (run-rows-at t) run-rows.Post run-rows-Inv-loop run-rows-μ-loop
 run-rows-returns-3 t c = λ h.
-    let o = c .before .before .before .before .before .before .before .before .before .before in
-    rows-end h (o .args .q) (o .pre .1 .1) (c .before .loop .inv) (c .loop-test .left)
+    let o = c .before .before .before .before .before .before .before .before .before in
+    rows-end h (o .args .q) (o .pre .1 .1) (c .before .before .loop .inv) (c .if2 .left)
 
 pub +run-entry+run-inner+run-rows-spec : {M : Type 1} → statement M
 +run-entry+run-inner+run-rows-spec =
@@ -692,8 +659,14 @@ pub +run-entry+run-inner+run-rows-spec : {M : Type 1} → statement M
     (run-inner-returns-4 t)
     (run-inner-returns-5 t)
     (run-inner-returns-6 t))
-    λ t. run-rows-lts.spec
-    (run-leaf-rows-reads.Asked, run-leaf-rows-reads.Learnt, run-entry-below t, run-entry.Post)
+    λ t. run-rows-lts.spec (
+      run-leaf-rows-reads.Asked,
+      run-leaf-rows-reads.Learnt,
+      table-place-reads.Asked,
+      table-place-reads.Learnt,
+      run-entry-below t,
+      run-entry.Post,
+    )
     (run-rows-at t)
     run-rows.Post
     run-rows-Inv-loop
@@ -704,21 +677,11 @@ pub +run-entry+run-inner+run-rows-spec : {M : Type 1} → statement M
     (run-rows-element-copy-out-if1 t)
     (run-rows-run-leaf-rows-requires t)
     (run-rows-returns t)
-    (run-rows-mul-t t)
-    (run-rows-add-t t)
-    (run-rows-mul-t-2 t)
-    (run-rows-element-copy-out-t t)
-    (run-rows-mul-first t)
-    (run-rows-mul-first-2 t)
-    (run-rows-element-copy-out-first t)
-    (run-rows-mul-columns t)
-    (run-rows-add-columns t)
-    (run-rows-mul-columns-2 t)
-    (run-rows-element-copy-out-columns t)
-    (run-rows-mul-rows t)
-    (run-rows-add-rows t)
-    (run-rows-mul-rows-2 t)
-    (run-rows-element-copy-out-rows t)
+    (run-rows-mul-table-place t)
+    (run-rows-add-table-place t)
+    (run-rows-mul-table-place-2 t)
+    (run-rows-element-copy-out-table-place t)
+    (run-rows-table-place-requires t)
     (run-rows-loop-holds t)
     (run-rows-mul-v t)
     (run-rows-array-write-v t)

@@ -1,0 +1,125 @@
+-- What the functions of src/ promise their callers, in the terms of the code: a card's entries as numbers in an array. The contract of a public call
+-- cites nothing of this file.
+use mathlib.Core.Path.{_≡_}
+use mathlib.Core.Bool.{Bool, false, cond, _&&_}
+use mathlib.Core.List.{List, [], _∷_}
+use mathlib.Core.Option.{Option, none, some}
+use Prim.Native.Nat.{ℕ, _+_, _*_, _/_, _%_, _<_, _≤_}
+use lib.Dec.{eqb}
+use lib.ListN.{length, getD, take, drop}
+use Rattle.tables.specs.Lists.{numbered}
+use Rattle.tables.specs.Bytes.{between, byteAt, word16, word32, signed, bits}
+use Rattle.tables.specs.Tables.{mostTables, mostColumns}
+use Rattle.tables.specs.Values.{constantTag, Value, comparisonOf, Connective, And, Or, Quantifier, Some, All}
+use Rattle.cells.specs.Code.{excess, Holds}
+use Rattle.values.specs.Code.{valueIn}
+use Rattle.card.specs.Card.{AsNo, AsYes, Leaf, CompareLeaf, BlankLeaf, NotBlankLeaf, Card, LeafEntry, PairEntry, RowEntry}
+use Rattle.card.specs.Layout.{recordSize, tablePlace, comparisonPlace, leftPlace, rightPlace, Head, LeafHead, PairHead, RowHead, cardLength, entryCount, tablesIn, kindAt, recordAt, zeros}
+use Rattle.card.specs.Sound.{mostEntries}
+
+-- ---- the layout
+
+-- what the layout says
+pub record Laid (card : List ℕ) : Type 0 where
+  pub entries-low : 1 ≤ entryCount card
+  pub entries-high : entryCount card ≤ mostEntries
+  pub tables-low : 1 ≤ tablesIn card
+  pub tables-high : tablesIn card ≤ mostTables
+  pub columns-high : (j : ℕ) → j < tablesIn card → byteAt card (3 + j) ≤ mostColumns
+  pub long : length card ≡ cardLength (tablesIn card) (entryCount card)
+
+-- the record from a place on
+abbrev pub recordFrom : List ℕ → ℕ → List ℕ
+recordFrom card place = take recordSize (drop place card)
+
+-- there is room for one
+abbrev pub RecordIn : List ℕ → ℕ → Type 0
+RecordIn card place = place + recordSize ≤ length card
+
+-- ---- an entry as eight numbers
+
+-- whether the fields of a record are as its kind wants them: a known comparison where one is used, and 0 in what is not used
+unfoldable pub fieldsFit : ℕ → List ℕ → Bool
+fieldsFit kind r =
+    let usesEnd = zeros r tablePlace recordSize in
+    let usesTable = zeros r comparisonPlace recordSize in
+    let usesComparison = zeros r tablePlace comparisonPlace && between 1 6 (byteAt r comparisonPlace) in
+    let usesLeft = zeros r tablePlace leftPlace && zeros r rightPlace recordSize in
+    numbered (usesEnd ∷ usesEnd ∷ usesTable ∷ usesTable ∷ usesComparison ∷ usesComparison ∷ usesLeft ∷ usesLeft ∷ []) kind false
+
+-- its kind, and 0 where they are not
+unfoldable pub knownKind : ℕ → List ℕ → ℕ
+knownKind kind r = cond (fieldsFit kind r) kind 0
+
+-- a value's number: a constant plus 2 ^ 31, or a column
+unfoldable pub numberIn : ℕ → ℕ → ℕ
+numberIn tag raw = cond (eqb tag constantTag) (excess (bits (signed raw))) raw
+
+abbrev pub numberFrom : List ℕ → ℕ → ℕ
+numberFrom r i = numberIn (byteAt r i) (word32 r (i + 1))
+
+-- kind, end, table, comparison, and two values of a tag and a number each
+unfoldable pub fieldsOf : List ℕ → ℕ → List ℕ
+fieldsOf card i =
+    let r = recordAt card i in
+    knownKind (kindAt card i) r
+    ∷ word16 r 0
+    ∷ byteAt r tablePlace
+    ∷ byteAt r comparisonPlace
+    ∷ byteAt r leftPlace
+    ∷ numberFrom r leftPlace
+    ∷ byteAt r rightPlace
+    ∷ numberFrom r rightPlace
+    ∷ []
+
+unfoldable pub fieldOf : List ℕ → ℕ → ℕ
+fieldOf card q = getD (fieldsOf card (q / 8)) (q % 8) 0
+
+-- the array d has them for the entries of a card
+abbrev pub Decoded : List ℕ → List ℕ → Type 0
+Decoded card d = Holds d (8 * entryCount card) (fieldOf card)
+
+-- ---- the entries of an array
+
+module _ (d : List ℕ) (i : ℕ) where
+  abbrev pub kindIn : ℕ
+  kindIn = getD d (8 * i) 0
+
+  abbrev pub endIn : ℕ
+  endIn = getD d (8 * i + 1) 0
+
+  abbrev pub tableIn : ℕ
+  tableIn = getD d (8 * i + 2) 0
+
+  abbrev pub comparisonIn : ℕ
+  comparisonIn = getD d (8 * i + 3) 0
+
+  abbrev pub leftIn : Value
+  leftIn = valueIn (getD d (8 * i + 4) 0) (getD d (8 * i + 5) 0)
+
+  abbrev pub rightIn : Value
+  rightIn = valueIn (getD d (8 * i + 6) 0) (getD d (8 * i + 7) 0)
+
+  -- what entry i says by itself
+  unfoldable pub headIn : Option Head
+  headIn =
+      numbered
+      (some (PairHead And)
+      ∷ some (PairHead Or)
+      ∷ some (RowHead Some tableIn)
+      ∷ some (RowHead All tableIn)
+      ∷ some (LeafHead (CompareLeaf AsNo (comparisonOf comparisonIn) leftIn rightIn))
+      ∷ some (LeafHead (CompareLeaf AsYes (comparisonOf comparisonIn) leftIn rightIn))
+      ∷ some (LeafHead (BlankLeaf leftIn))
+      ∷ some (LeafHead (NotBlankLeaf leftIn))
+      ∷ [])
+      kindIn
+      none
+
+-- the entries from number i up to e are a card: one entry with its inner ones
+pub data Coded (d : List ℕ) : ℕ → ℕ → Card → Type 0 where
+  coded-leaf : {i e : ℕ} {x : Leaf} → headIn d i ≡ some (LeafHead x) → endIn d i ≡ e → e ≡ i + 1 → Coded d i e (LeafEntry x)
+  coded-pair : {i m e : ℕ} {j : Connective} {a b : Card} → headIn d i ≡ some (PairHead j) → endIn d i ≡ e → Coded d (i + 1) m a → Coded d m e b
+      → Coded d i e (PairEntry j a b)
+  coded-row : {i e : ℕ} {q : Quantifier} {t : ℕ} {c : Card} → headIn d i ≡ some (RowHead q t) → endIn d i ≡ e → Coded d (i + 1) e c
+      → Coded d i e (RowEntry q t c)

@@ -1,0 +1,184 @@
+// A card's layout, and its entries as numbers, for whoever checks or runs it.
+// Short names: d, the decoded entries; r, where a record starts.
+ghost use mathlib.Core.Path.{_≡_};
+ghost use Prim.Native.Nat.{_+_, _<_, _≤_};
+ghost use lib.ListN.{length};
+ghost use Rattle.tables.specs.Lists.{all};
+ghost use Rattle.tables.specs.Bytes.{between};
+ghost use Rattle.tables.specs.Tables.{mostColumns};
+ghost use Rattle.card.specs.Layout.{tablesIn, columnsIn, zeros};
+ghost use Rattle.card.specs.Sound.{laid};
+ghost use Rattle.decoder.specs.Code.{Laid, recordFrom, RecordIn, fieldsFit, knownKind, numberFrom, Decoded};
+use card::COMPARISON_PLACE;
+use card::LEFT_PLACE;
+use card::MOST_ENTRIES;
+use card::RECORD_SIZE;
+use card::RIGHT_PLACE;
+use card::TABLE_PLACE;
+use cells::byte;
+use cells::read_excess;
+use cells::read16;
+use cells::read32;
+use values::CONSTANT;
+
+// The numbers that an entry is decoded to, and those of all entries.
+pub const FIELDS: usize = 8;
+
+pub const DECODED: usize = FIELDS * MOST_ENTRIES;
+
+// The order of an entry's numbers: its kind first, then these; and where the next entry's end stands.
+pub const END: usize = 1;
+
+pub const TABLE: usize = 2;
+
+pub const COMPARISON: usize = 3;
+
+pub const LEFT_TAG: usize = 4;
+
+pub const LEFT_NUMBER: usize = 5;
+
+pub const RIGHT_TAG: usize = 6;
+
+pub const RIGHT_NUMBER: usize = 7;
+
+pub const NEXT_END: usize = FIELDS + END;
+
+// Whether each of the n tables has 1 to 16 columns.
+fn columns_fit(card: &[u8], n: usize) -> bool
+    requires { ⌜ (n ≡ tablesIn (now card)) × (3 + n ≤ length (now card)) ⌝ }
+    ensures { λ r. ⌜ r ≡ all (between 1 mostColumns) (columnsIn (now (card .entry))) ⌝ }
+{
+    let mut j: usize = 0;
+    while j < n {
+        let columns = byte(card, 3 + j);
+        if columns < 1 {
+            return false;
+        }
+        if cells::MOST_COLUMNS < columns {
+            return false;
+        }
+        j += 1;
+    }
+    true
+}
+
+// Whether the numbers of entries, tables and columns are within the limits, and there are no spare bytes.
+pub fn laid_out(card: &[u8]) -> bool
+    ensures { λ r. ⌜ r ≡ laid (now (card .entry)) ⌝ }
+{
+    if card.len() < 3 {
+        return false;
+    }
+    let n = read16(card, 0);
+    if n < 1 {
+        return false;
+    }
+    if MOST_ENTRIES < n {
+        return false;
+    }
+    let t = byte(card, 2);
+    if t < 1 {
+        return false;
+    }
+    if cells::MOST_TABLES < t {
+        return false;
+    }
+    if card.len() != 3 + t + (1 + RECORD_SIZE) * n {
+        return false;
+    }
+    columns_fit(card, t)
+}
+
+// Whether the bytes i up to j of the record at r are 0.
+fn zero_bytes(card: &[u8], r: usize, i: usize, j: usize) -> bool
+    requires { ⌜ RecordIn (now card) r ⌝ ∗ ⌜ (i ≤ j) × (j ≤ 14) ⌝ }
+    ensures { λ x. ⌜ x ≡ zeros (recordFrom (now (card .entry)) r) i j ⌝ }
+{
+    let mut k: usize = i;
+    while k < j {
+        if byte(card, r + k) != 0 {
+            return false;
+        }
+        k += 1;
+    }
+    true
+}
+
+// Whether the fields of the record at r are as its kind wants them.
+fn fields_fit(card: &[u8], r: usize, kind: usize) -> bool
+    requires { ⌜ RecordIn (now card) r ⌝ }
+    ensures { λ x. ⌜ x ≡ fieldsFit kind (recordFrom (now (card .entry)) r) ⌝ }
+{
+    match kind {
+        1 | 2 => zero_bytes(card, r, TABLE_PLACE, RECORD_SIZE),
+        3 | 4 => zero_bytes(card, r, COMPARISON_PLACE, RECORD_SIZE),
+        5 | 6 => {
+            let op = byte(card, r + COMPARISON_PLACE);
+            if op < 1 {
+                return false;
+            }
+            if 6 < op {
+                return false;
+            }
+            zero_bytes(card, r, TABLE_PLACE, COMPARISON_PLACE)
+        }
+        7 | 8 => {
+            let before = zero_bytes(card, r, TABLE_PLACE, LEFT_PLACE);
+            if !before {
+                return false;
+            }
+            zero_bytes(card, r, RIGHT_PLACE, RECORD_SIZE)
+        }
+        _ => false,
+    }
+}
+
+// The kind, or 0 where the record at r is not as it wants.
+fn known_kind(card: &[u8], r: usize, kind: usize) -> usize
+    requires { ⌜ RecordIn (now card) r ⌝ ∗ ⌜ kind < 256 ⌝ }
+    ensures is { λ x. ⌜ x ≡ knownKind kind (recordFrom (now (card .entry)) r) ⌝ }
+    ensures small { λ x. ⌜ x < 256 ⌝ }
+{
+    let fits = fields_fit(card, r, kind);
+    if fits {
+        return kind;
+    }
+    0
+}
+
+// The number of the value at place i of the record at r: a constant plus 2 ^ 31, or a column.
+fn number_at(card: &[u8], r: usize, i: usize) -> usize
+    requires { ⌜ RecordIn (now card) r ⌝ ∗ ⌜ i + 5 ≤ 14 ⌝ }
+    ensures is { λ x. ⌜ x ≡ numberFrom (recordFrom (now (card .entry)) r) i ⌝ }
+    ensures small { λ x. ⌜ x < 4294967296 ⌝ }
+{
+    let tag = byte(card, r + i);
+    if tag == CONSTANT {
+        return read_excess(card, r + i + 1);
+    }
+    read32(card, r + i + 1)
+}
+
+// The entries of a card as numbers, eight for each: kind, end, table, comparison, and two values of a tag and a number each.
+pub fn decode(card: &[u8], d: &mut [usize; DECODED])
+    requires { ⌜ Laid (now card) ⌝ ∗ ⌜ length (now d) ≡ 1536 ⌝ }
+    ensures { λ _. ⌜ Decoded (now (card .entry)) (now (d .exit)) ⌝ }
+{
+    let n = read16(card, 0);
+    let kinds = 3 + byte(card, 2);
+    let records = kinds + n;
+    let mut i: usize = 0;
+    while i < n {
+        let r = records + RECORD_SIZE * i;
+        let p = FIELDS * i;
+        d[p] = known_kind(card, r, byte(card, kinds + i));
+        d[p + END] = read16(card, r);
+        d[p + TABLE] = byte(card, r + TABLE_PLACE);
+        d[p + COMPARISON] = byte(card, r + COMPARISON_PLACE);
+        d[p + LEFT_TAG] = byte(card, r + LEFT_PLACE);
+        d[p + LEFT_NUMBER] = number_at(card, r, LEFT_PLACE);
+        d[p + RIGHT_TAG] = byte(card, r + RIGHT_PLACE);
+        d[p + RIGHT_NUMBER] = number_at(card, r, RIGHT_PLACE);
+        i += 1;
+    }
+}

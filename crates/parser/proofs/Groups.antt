@@ -1,0 +1,199 @@
+-- The refusals of reading in three groups, each of which is tried where none of those before it applies: tables, bytes and tokens.
+use mathlib.Core.Path.{_≡_, sym, ap, _∙_}
+use mathlib.Core.Bool.{Bool, true, false}
+use mathlib.Core.List.{List, [], _++_}
+use mathlib.Core.Option.{Option, none, some}
+use Prim.Native.Nat.{ℕ, _≤_, _<_}
+use native.Mathlib.Omega.{arith}
+use borrow.Author.Tests.{lt-ltb, le-ltb, le-leb, lt-leb}
+use lib.Dec.{ltb}
+use lib.IntN.{pos}
+use lib.ListN.{length, take}
+use Rattle.tables.specs.Lists.{isMissing}
+use Rattle.tables.specs.Tables.{columnsOf}
+use Rattle.tables.specs.Refusals.{firstApplying, Refused, Given, tablesRefusals, tablesCall}
+use Rattle.tables.proofs.Refusals.{first-nil, first-one, first-none, first-append, first-found, unless-none, unless-some}
+use Rattle.cells.specs.Reasons.{reasonNumber, validityAnswer}
+use Rattle.cells.specs.Code.{Sized}
+use Rattle.cells.specs.declared.Reason.{Reason}
+use Rattle.cells.specs.declared.Validity.{Validity}
+use Rattle.cells.proofs.Valid.{tables-refuse, tables-pass}
+use Rattle.rule.specs.Tokens.{tokensOf, opensFit}
+use Rattle.rule.specs.Condition.{WrittenCondition, Rule, parts, fromsDeep}
+use Rattle.rule.specs.Grammar.{Tokens}
+use Rattle.rule.specs.Reader.{readAll}
+use Rattle.rule.specs.Names.{mostParts, mostFroms, limitsFit, outermost, ruleIn}
+use Rattle.rule.specs.Calls.{mostBytes, conditionOf, ruleOf, readingRefusals, Accepted, withRule}
+use Rattle.rule.proofs.Accepted.{limits-of}
+use Rattle.lexer.specs.Code.{tokensIn, tokenizedAs, tokensFit}
+use Rattle.lexer.specs.declared.Tokenized.{Tokenized}
+use Rattle.grammar.specs.Code.{WholeReading, ReadsAll}
+use Rattle.grammar.specs.declared.Step.{Step}
+use Rattle.names.specs.Code.{Nameable, NamedAt, NamedTo}
+use Rattle.names.proofs.Keeping.{read-kept}
+use Rattle.parser.specs.Code.{scanRefusals, Scanning, ScannedTo, tokensRefusals, TokensParsing, TokensParsedTo, parsedAnswer, parseCall, Parsing, ParsedTo}
+use Rattle.parser.proofs.Sizes.{written-count}
+use Rattle.parser.specs.declared.Scanned.{Scanned}
+use Rattle.parser.specs.declared.Parsed.{Parsed}
+use Rattle.parser.specs.declared.Parsed.the-variants.{Rule as ParsedRule, Refused as ParsedRefused}
+
+-- ---- bytes: refusals 3 and 4
+
+module _ (text : List ℕ) where
+  pub too-long : mostBytes < length text → firstApplying (scanRefusals text) ≡ some 3
+  too-long h = first-one 3 (ltb mostBytes (length text)) _ (lt-ltb mostBytes (length text) h)
+
+  module _ (short : length text ≤ mostBytes) where
+    short-enough : ltb mostBytes (length text) ≡ false
+    short-enough = le-ltb mostBytes (length text) short
+
+    no-tokens : tokensOf text ≡ none → firstApplying (scanRefusals text) ≡ some 4
+    unfolding firstApplying
+    no-tokens e = rw (short-enough, e)
+
+    pub untokenized : (new : List ℕ) (r : Tokenized) → r ≡ Tokenized.NoTokens → tokenizedAs r new ≡ tokensOf text → firstApplying (scanRefusals text) ≡ some 4
+    untokenized new r e p = no-tokens (sym p ∙ ap (λ (t : Tokenized). tokenizedAs t new) e)
+
+    pub tokenized : (new : List ℕ) (r : Tokenized) (n : ℕ) → r ≡ Tokenized.Tokens n → tokenizedAs r new ≡ tokensOf text → tokensFit r 4096 → Scanning text new n
+    tokenized new r n e p f =
+        record { short = short; few = rw e at f; are-tokens = sym p ∙ ap (λ (t : Tokenized). tokenizedAs t new) e }
+
+  scan-passes : (ts : Tokens) → length text ≤ mostBytes → tokensOf text ≡ some ts → firstApplying (scanRefusals text) ≡ none
+  scan-passes ts short e = first-none 3 _ _ (short-enough short) (first-none 4 _ [] (ap isMissing e) first-nil)
+
+-- ---- tokens: refusals 5 to 8
+
+limits-count : (a : WrittenCondition) → mostParts < parts a → limitsFit a ≡ false
+unfolding limitsFit
+limits-count a h = rw (lt-leb (parts a) mostParts h)
+
+limits-deep : (a : WrittenCondition) → parts a ≤ mostParts → mostFroms < fromsDeep a → limitsFit a ≡ false
+unfolding limitsFit
+limits-deep a h d = rw (le-leb (parts a) mostParts h, lt-leb (fromsDeep a) mostFroms d)
+
+module _ (s file : List ℕ) where
+  abbrev pub FirstOfTokens : ℕ → Type 0
+  FirstOfTokens n = firstApplying (tokensRefusals (tokensIn s) (columnsOf file)) ≡ some n
+
+  pub unfit-brackets : opensFit (pos 0) (tokensIn s) ≡ false → FirstOfTokens 5
+  unfolding firstApplying
+  unfit-brackets b = rw b
+
+  module _ (b : opensFit (pos 0) (tokensIn s) ≡ true) where
+    pub ungrammatical : readAll (tokensIn s) ≡ none → FirstOfTokens 6
+    unfolding firstApplying
+    ungrammatical e = rw (b, e)
+
+    module _ (notes : List ℕ) (n deep : ℕ) (w : WholeReading s notes n deep) where
+      over-limits : limitsFit (w .tree) ≡ false → FirstOfTokens 7
+      unfolding firstApplying
+      over-limits e = rw (b, w .reads, e)
+
+      pub too-many : 64 < n → FirstOfTokens 7
+      too-many h = over-limits (limits-count (w .tree) (omega (arith, w .count)))
+
+      pub too-deep : n ≤ 64 → 3 < deep → FirstOfTokens 7
+      too-deep h d = over-limits (limits-deep (w .tree) (omega (arith, w .count)) (omega (arith, w .froms)))
+
+      module _ (sized : Sized file) (size : length notes ≡ 512) (few : n ≤ 64) (shallow : deep ≤ 3) where
+        pub nameable : Nameable file notes n
+        nameable =
+            record {
+              sized = sized;
+              notes-size = size;
+              few-notes = few;
+              tree = w .tree;
+              count = w .count;
+              shallow = omega (arith, w .froms);
+              kept = read-kept s (w .tree) (w .reads);
+              notes-are = w .notes few;
+            }
+
+        limits : limitsFit (w .tree) ≡ true
+        limits = limits-of (w .tree) (omega (arith, w .count)) (omega (arith, w .froms))
+
+        no-rule : ruleIn (columnsOf file) outermost (w .tree) ≡ none → FirstOfTokens 8
+        unfolding firstApplying
+        no-rule e = rw (b, w .reads, limits, e)
+
+        pub unnamed : (new : List ℕ) (r : Bool) → r ≡ false → NamedTo file notes n new r → FirstOfTokens 8
+        unfolding nameable
+        unnamed new r e f = no-rule (rw e at (f nameable))
+
+        pub parsed-tokens : (new : List ℕ) (r : Bool) → r ≡ true → length new ≡ 512 → NamedTo file notes n new r → TokensParsing s file new n
+        unfolding nameable
+        parsed-tokens new r e l f =
+            let named : NamedAt file (w .tree) n new = rw e at (f nameable) in
+            record {
+              brackets = b;
+              tree = w .tree;
+              reads = w .reads;
+              limits = limits;
+              rule = named .rule;
+              named = named .named;
+              count = written-count new n (named .rule) (omega arith) (named .written);
+              written = named .written;
+            }
+
+-- what the lexer answered, and the grammar's reader
+module _ (text new : List ℕ) (r : Scanned) (told : ScannedTo text new r) where
+  pub scanned-as : (n : ℕ) → r ≡ Scanned.Tokens n → Scanning text new n
+  scanned-as n e = rw e at told
+
+  pub unscanned : (x : Reason) → r ≡ Scanned.NotScanned x → firstApplying (scanRefusals text) ≡ some (reasonNumber x)
+  unscanned x e = rw e at told
+
+module _ (s new : List ℕ) (r : Step) (told : ReadsAll s new r) where
+  pub unread : r ≡ Step.NoReading → readAll (tokensIn s) ≡ none
+  unread e = rw e at told
+
+  pub read-whole : (at n deep : ℕ) → r ≡ Step.Next at n deep → WholeReading s new n deep
+  read-whole at n deep e = rw e at told
+
+-- ---- all of them
+
+module _ (text file : List ℕ) where
+  in-groups : (ts : Tokens) → tokensOf text ≡ some ts → readingRefusals text file ≡ tablesRefusals file ++ (scanRefusals text ++ tokensRefusals ts (columnsOf file))
+  unfolding readingRefusals conditionOf
+  in-groups ts e = rw e
+
+  refused-first : {n : ℕ} → firstApplying (readingRefusals text file) ≡ some n → Refused n ≡ parseCall text file
+  unfolding parseCall
+  refused-first e = sym (unless-some _ _ e)
+
+  pub parse-tables : (r : Validity) (x : Reason) → r ≡ Validity.Invalid x → validityAnswer r ≡ tablesCall file → Refused (reasonNumber x) ≡ parseCall text file
+  unfolding readingRefusals
+  parse-tables r x e p = refused-first (first-found (tablesRefusals file) _ (tables-refuse file r x e p))
+
+  module _ (r : Validity) (e : r ≡ Validity.Valid) (p : validityAnswer r ≡ tablesCall file) where
+    pub parse-bytes : {n : ℕ} → firstApplying (scanRefusals text) ≡ some n → Refused n ≡ parseCall text file
+    unfolding readingRefusals
+    parse-bytes f = refused-first (first-append (tablesRefusals file) _ (tables-pass file r e p) ∙ first-found (scanRefusals text) _ f)
+
+    module _ (new : List ℕ) (n : ℕ) (scanned : Scanning text new n) where
+      tokens-decide : firstApplying (readingRefusals text file) ≡ firstApplying (tokensRefusals (tokensIn (take n new)) (columnsOf file))
+      tokens-decide =
+          ap firstApplying (in-groups _ (scanned .are-tokens))
+          ∙ first-append (tablesRefusals file) _ (tables-pass file r e p)
+          ∙ first-append (scanRefusals text) _ (scan-passes text _ (scanned .short) (scanned .are-tokens))
+
+      module _ (written : List ℕ) (m : ℕ) (q : TokensParsing (take n new) file written m) where
+        accepted : Accepted text file
+        unfolding firstApplying
+        accepted = tokens-decide ∙ rw (q .brackets, q .reads, q .limits, q .named)
+
+        is-rule : ruleOf text (columnsOf file) ≡ some (q .rule)
+        unfolding ruleOf conditionOf
+        is-rule = rw (scanned .are-tokens, q .reads, q .named)
+
+        parsing : Parsing text file written m
+        parsing = record { accepted = accepted; rule = q .rule; is-rule = is-rule; count = q .count; written = q .written }
+
+        parse-given : Given m ≡ parseCall text file
+        unfolding parseCall
+        parse-given = ap Given (q .count ∙ sym (ap (λ (o : Option Rule). withRule o 0 parts) is-rule)) ∙ sym (unless-none _ _ accepted)
+
+      pub parse-tokens-to : (written : List ℕ) (t : Parsed) → TokensParsedTo (take n new) file written t
+          → (parsedAnswer t ≡ parseCall text file) × ParsedTo text file written t
+      parse-tokens-to written (ParsedRule m) q = (parse-given written m q, parsing written m q)
+      parse-tokens-to written (ParsedRefused x) q = (refused-first (tokens-decide ∙ q), tt)

@@ -1,0 +1,5 @@
+pub mod Sizes
+pub mod Groups
+pub mod Small
+pub mod Known
+pub mod Parts

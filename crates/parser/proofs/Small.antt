@@ -1,0 +1,237 @@
+-- The parts of a rule that fits its tables have small numbers; and numbers that are noted as naturals come back as they are published.
+use mathlib.Core.Path.{_≡_, refl, sym, ap, ap₂, subst, _∙_}
+use mathlib.Core.Bool.{Bool, true, false, cond}
+use mathlib.Core.List.{List, [], _∷_, _++_, append-assoc, append-nil}
+use mathlib.Core.Logic.{⊎-elim}
+use Prim.Native.Nat.{ℕ, zero, suc, _+_, _*_, _<_, _≤_}
+use native.Mathlib.Nat.{eq-or-lt-of-le, add-zero}
+use native.Mathlib.Omega.{arith}
+use borrow.Author.Tests.{ne-eqb, ltb-true, ltb-false}
+use lib.Dec.{eqb, ltb}
+use lib.IntN.{ℤ}
+use lib.ListN.{length, getD, take, drop, length-append, length-take, List·getD-eq-default}
+use lib.Seq.{take-take, take-at, drop-at, take-add, drop-drop, getD-take, getD-drop, length-take-le}
+use Rattle.tables.specs.Lists.{numbered}
+use Rattle.tables.specs.Tables.{tableCount, columnsOf}
+use Rattle.tables.specs.Values.{constantTag, Value, Constant, Column, Comparison, Eq, Ne, Lt, Le, Gt, Ge, comparisonNumber, And, Or, Some, All}
+use Rattle.tables.proofs.Tests.{bounds}
+use Rattle.tables.proofs.Sizes.{columns-count, column-at}
+use Rattle.cells.specs.Code.{toExcess, Sized}
+use Rattle.rule.specs.Condition.{Compare, IsNull, IsNotNull, Atom, Join, Not, Exists, Listed, Rule, parts, fromsDeep}
+use Rattle.rule.specs.Names.{ValueFits, Fits}
+use Rattle.rule.specs.Parts.{taggedOf, unused, Head, AtomHead, JoinHead, NotHead, ExistsHead, ListedHead, kindOf, partWith, naturalOf, partsFrom}
+use Rattle.rule.specs.declared.TaggedValue.{TaggedValue}
+use Rattle.rule.specs.declared.Part.{Part}
+use Rattle.names.specs.Code.{partNumbers, partsNumbers}
+use Rattle.parser.specs.Parts.{signedOf, taggedFrom, partIn, partsIn, Signable, SmallPart}
+use Rattle.cells.proofs.Signed.{from-to, excess-small}
+
+-- a value's number as it is noted
+abbrev pub heldNumber : TaggedValue → ℕ
+heldNumber v = cond (eqb (v .tag) constantTag) (toExcess (v .number)) (naturalOf (v .number))
+
+pub record SmallValue (v : TaggedValue) : Type 0 where
+  pub tag-small : v .tag < 256
+  pub signable : Signable (v .tag) (heldNumber v)
+  pub back : signedOf (v .tag) (heldNumber v) ≡ v .number
+
+pub record SmallFields (p : Part) : Type 0 where
+  pub kind-small : p .kind < 256
+  pub comparison-small : p .comparison < 256
+  pub table-small : p .table < 256
+  pub end-small : p .end < 256
+  pub left-small : SmallValue (p .left)
+  pub right-small : SmallValue (p .right)
+
+abbrev pub EachSmall : List Part → Type 0
+EachSmall [] = Unit {0}
+EachSmall (p ∷ ps) = SmallFields p × EachSmall ps
+
+each-append : (ps qs : List Part) → EachSmall ps → EachSmall qs → EachSmall (ps ++ qs)
+each-append [] qs f g = g
+each-append (p ∷ ps) qs f g = (f .0, each-append ps qs (f .1) g)
+
+-- ---- the parts of a rule
+
+unused-small : SmallValue unused
+unused-small =
+    record { tag-small = omega arith; signable = record { whole = omega arith; column = λ f. omega arith }; back = refl }
+
+kind-small : (x : Head) → kindOf x < 256
+kind-small (JoinHead And) = omega arith
+kind-small (JoinHead Or) = omega arith
+kind-small NotHead = omega arith
+kind-small (AtomHead (Compare op l r)) = omega arith
+kind-small (AtomHead (IsNull l)) = omega arith
+kind-small (AtomHead (IsNotNull l)) = omega arith
+kind-small (ExistsHead t) = omega arith
+kind-small (ListedHead Some op l s t) = omega arith
+kind-small (ListedHead All op l s t) = omega arith
+
+pub comparison-small : (op : Comparison) → comparisonNumber op < 256
+comparison-small Eq = omega arith
+comparison-small Ne = omega arith
+comparison-small Lt = omega arith
+comparison-small Le = omega arith
+comparison-small Gt = omega arith
+comparison-small Ge = omega arith
+
+with-small : (k e op t : ℕ) (l r : TaggedValue) → k < 256 → e < 256 → op < 256 → t < 256 → SmallValue l → SmallValue r → SmallFields (partWith k op t e l r)
+with-small k e op t l r hk he ho ht hl hr =
+    record { kind-small = hk; comparison-small = ho; table-small = ht; end-small = he; left-small = hl; right-small = hr }
+
+-- a part without values
+plain-small : (x : Head) (e t : ℕ) → e < 256 → t < 256 → SmallFields (partWith (kindOf x) 0 t e unused unused)
+plain-small x e t h g = with-small (kindOf x) e 0 t unused unused (kind-small x) h (omega arith) g unused-small unused-small
+
+module _ (columns : List ℕ) (few : length columns < 256) (narrow : (t : ℕ) → numbered columns t 0 < 256) where
+  value-small : (levels : List ℕ) (v : Value) → length levels < 255 → ValueFits columns levels v → SmallValue (taggedOf v)
+  value-small levels (Constant k) h f =
+      record {
+        tag-small = omega arith;
+        signable = record { whole = excess-small k f; column = λ g. absurd (g refl) };
+        back = from-to k f;
+      }
+  value-small levels (Column l c) h f =
+      let level = f .0 in
+      let column = bounds 1 (numbered columns (getD levels l 0) 0) c (f .1) .1 in
+      let few-columns = narrow (getD levels l 0) in
+      let other : eqb l 255 ≡ false = ne-eqb l 255 (λ e. omega arith) in
+      record {
+        tag-small = omega arith;
+        signable = record { whole = rw other (omega arith); column = λ g. rw other (omega arith) };
+        back = rw other;
+      }
+
+  -- with so many levels around it, from part k on
+  pub rule-small : (r : Rule) (k : ℕ) (levels : List ℕ) → k + parts r < 256 → length levels + fromsDeep r < 255 → Fits columns levels r → EachSmall (partsFrom k r)
+  unfolding partsFrom parts fromsDeep Fits
+  rule-small (Atom (Compare op x y)) k levels h d f =
+      let l = value-small levels x (omega arith) (f .0) in
+      let r = value-small levels y (omega arith) (f .1) in
+      (with-small 4 (k + 1) (comparisonNumber op) 0 _ _ (omega arith) (omega arith) (comparison-small op) (omega arith) l r, tt)
+  rule-small (Atom (IsNull x)) k levels h d f =
+      let l = value-small levels x (omega arith) f in
+      (with-small 5 (k + 1) 0 0 _ _ (omega arith) (omega arith) (omega arith) (omega arith) l unused-small, tt)
+  rule-small (Atom (IsNotNull x)) k levels h d f =
+      let l = value-small levels x (omega arith) f in
+      (with-small 6 (k + 1) 0 0 _ _ (omega arith) (omega arith) (omega arith) (omega arith) l unused-small, tt)
+  rule-small (Join j a b) k levels h d f = (
+    plain-small (JoinHead j) _ 0 (omega arith) (omega arith),
+    each-append (partsFrom (k + 1) a) _ (rule-small a (k + 1) levels (omega arith) (omega arith) (f .0))
+        (rule-small b (k + 1 + parts a) levels (omega arith) (omega arith) (f .1)),
+  )
+  rule-small (Not a) k levels h d f = (plain-small NotHead _ 0 (omega arith) (omega arith), rule-small a (k + 1) levels (omega arith) (omega arith) f)
+  rule-small (Exists t w) k levels h d f =
+      let table = bounds 1 (length columns) t (f .0) .1 in
+      let deeper = length-append levels (t ∷ []) in
+      (plain-small (ExistsHead t) _ t (omega arith) (omega arith), rule-small w (k + 1) (levels ++ (t ∷ [])) (omega arith) (omega arith) (f .1))
+  rule-small (Listed q op x y t w) k levels h d f =
+      let table = bounds 1 (length columns) t (f .0) .1 in
+      let deeper = length-append levels (t ∷ []) in
+      let l = value-small levels x (omega arith) (f .1) in
+      let r = value-small (levels ++ (t ∷ [])) y (omega arith) (f .2) in (
+        with-small (kindOf (ListedHead q op x y t)) _ _ t _ _ (kind-small (ListedHead q op x y t)) (omega arith) (comparison-small op) (omega arith) l r,
+        rule-small w (k + 1) (levels ++ (t ∷ [])) (omega arith) (omega arith) (f .3),
+      )
+
+-- a valid file's tables are few and narrow
+module _ (file : List ℕ) (sized : Sized file) where
+  pub few-tables : length (columnsOf file) < 256
+  few-tables = omega (arith, columns-count file, sized .tables-high)
+
+  pub few-columns : (t : ℕ) → numbered (columnsOf file) t 0 < 256
+  few-columns zero = omega arith
+  few-columns (suc j) = go (ltb j (tableCount file)) refl
+    where
+      go : (b : Bool) → ltb j (tableCount file) ≡ b → getD (columnsOf file) j 0 < 256
+      go true e = let l = ltb-true j (tableCount file) e in omega (arith, column-at file j l, sized .each j l .columns-high)
+      go false e =
+          let l = ltb-false j (tableCount file) e in
+          let z = List·getD-eq-default (columnsOf file) 0 {n = j} (omega (arith, columns-count file)) in
+          omega arith
+
+-- ---- parts in an array
+
+same-part : {k c t e k′ c′ t′ e′ : ℕ} {l r l′ r′ : TaggedValue} → k ≡ k′ → c ≡ c′ → t ≡ t′ → e ≡ e′ → l ≡ l′ → r ≡ r′
+    → partWith k c t e l r ≡ partWith k′ c′ t′ e′ l′ r′
+same-part a b c d e f = cc
+
+-- a value from its two numbers
+value-is : {tag n : ℕ} {v : TaggedValue} → tag ≡ v .tag → n ≡ heldNumber v → signedOf (v .tag) (heldNumber v) ≡ v .number → taggedFrom tag n ≡ v
+value-is {v = v} e f back = ap₂ taggedFrom e f ∙ ap (λ (z : ℤ). record { tag = v .tag; number = z }) back
+
+-- a list that starts with xs: its front and what is behind it
+module _ (l xs rest : List ℕ) (a b : ℕ) (size : length xs ≡ a) (e : take (a + b) l ≡ xs ++ rest) where
+  long : a ≤ length l
+  long = omega (arith, length-take (a + b) l, ap length e, length-append xs rest)
+
+  pub front : take a l ≡ xs
+  front = sym (take-take a (a + b) l (omega arith)) ∙ ap (take a) e ∙ take-at xs rest a size
+
+  pub behind : take b (drop a l) ≡ rest
+  behind =
+      sym (drop-at (take a l) (take b (drop a l)) a (length-take-le a l long)) ∙ ap (drop a) (sym (take-add a b l) ∙ e) ∙ drop-at xs rest a size
+
+module _ (l : List ℕ) where
+  -- one part
+  module _ (k : ℕ) (p : Part) (e : take 8 (drop (8 * k) l) ≡ partNumbers p) (s : SmallFields p) where
+    at : (j : ℕ) → j < 8 → getD l (8 * k + j) 0 ≡ getD (partNumbers p) j 0
+    at j h = sym (getD-drop (8 * k) l j 0) ∙ sym (getD-take 8 (drop (8 * k) l) j 0 h) ∙ ap (λ (x : List ℕ). getD x j 0) e
+
+    first : getD l (8 * k) 0 ≡ p .kind
+    first = let z : 8 * k ≡ 8 * k + 0 = omega arith in ap (λ (n : ℕ). getD l n 0) z ∙ at 0 (omega arith)
+
+    part-small : SmallPart l k
+    part-small =
+        record {
+          kind = rw first (s .kind-small);
+          comparison = rw (at 1 (omega arith)) (s .comparison-small);
+          table = rw (at 2 (omega arith)) (s .table-small);
+          end = rw (at 3 (omega arith)) (s .end-small);
+          left-tag = rw (at 4 (omega arith)) (s .left-small .tag-small);
+          left-number = rw (at 4 (omega arith), at 5 (omega arith)) (s .left-small .signable);
+          right-tag = rw (at 6 (omega arith)) (s .right-small .tag-small);
+          right-number = rw (at 6 (omega arith), at 7 (omega arith)) (s .right-small .signable);
+        }
+
+    -- the record that the eight numbers stand for
+    part-is : partIn l k ≡ p
+    part-is =
+        same-part
+        first
+        (at 1 (omega arith))
+        (at 2 (omega arith))
+        (at 3 (omega arith))
+        (value-is (at 4 (omega arith)) (at 5 (omega arith)) (s .left-small .back))
+        (value-is (at 6 (omega arith)) (at 7 (omega arith)) (s .right-small .back))
+
+  -- those from part k on
+  from-part : (ps : List Part) (k : ℕ) → EachSmall ps → take (8 * length ps) (drop (8 * k) l) ≡ partsNumbers ps
+      → ((i : ℕ) → k ≤ i → i < k + length ps → SmallPart l i) × (partsIn l (k + length ps) ≡ partsIn l k ++ ps)
+  unfolding partsNumbers partsIn
+  from-part [] k s e = (λ i h g. absurd (omega arith), ap (partsIn l) (add-zero k) ∙ sym (append-nil (partsIn l k)))
+  from-part (p ∷ ps) k s e =
+      let m = length ps in
+      let here = drop (8 * k) l in
+      let z : 8 + 8 * m ≡ 8 * suc m = omega arith in
+      let y : 8 * k + 8 ≡ 8 * suc k = omega arith in
+      let x : k + suc m ≡ suc k + m = omega arith in
+      let all : take (8 + 8 * m) here ≡ partNumbers p ++ partsNumbers ps = ap (λ (n : ℕ). take n here) z ∙ e in
+      let one = front here (partNumbers p) (partsNumbers ps) 8 (8 * m) refl all in
+      let rest = behind here (partNumbers p) (partsNumbers ps) 8 (8 * m) refl all in
+      let next : drop 8 here ≡ drop (8 * suc k) l = drop-drop 8 (8 * k) l ∙ ap (λ (n : ℕ). drop n l) y in
+      let others = from-part ps (suc k) (s .1) (ap (take (8 * m)) (sym next) ∙ rest) in (
+        λ i h g. ⊎-elim (λ (q : k ≡ i). subst (SmallPart l) q (part-small k p one (s .0))) (λ q. others .0 i q (omega arith)) (eq-or-lt-of-le {n = k} {m = i} h),
+        ap (partsIn l) x ∙ others .1
+            ∙ append-assoc (partsIn l k) (partIn l k ∷ []) ps
+            ∙ ap (λ (q : Part). partsIn l k ++ (q ∷ ps)) (part-is k p one (s .0)),
+      )
+
+pub written-parts : (l : List ℕ) (ps : List Part) (n : ℕ) → n ≡ length ps → EachSmall ps → take (8 * n) l ≡ partsNumbers ps
+    → ((i : ℕ) → i < n → SmallPart l i) × (partsIn l n ≡ ps)
+unfolding partsIn
+written-parts l ps n c s e =
+    let z : n ≡ 0 + length ps = omega arith in
+    let all = from-part l ps 0 s (sym (ap (λ (m : ℕ). take (8 * m) l) c) ∙ e) in
+    (λ i h. all .0 i (omega arith) (omega arith), ap (partsIn l) z ∙ all .1)

@@ -1,0 +1,86 @@
+-- What the functions of src/ promise one another and their callers. The contract of a public call cites nothing of this file.
+use mathlib.Core.Path.{_≡_}
+use mathlib.Core.Bool.{true, not}
+use mathlib.Core.List.{List, [], _∷_}
+use mathlib.Core.Option.{some}
+use Prim.Native.Nat.{ℕ, _*_, _≤_}
+use lib.Dec.{ltb}
+use lib.IntN.{pos}
+use lib.ListN.{length, take}
+use Rattle.tables.specs.Lists.{isMissing}
+use Rattle.tables.specs.Tables.{columnsOf}
+use Rattle.tables.specs.Refusals.{Refusal, _if_, firstApplying, Answer, Refused, Given, unless}
+use Rattle.cells.specs.Reasons.{reasonNumber}
+use Rattle.rule.specs.Tokens.{tokensOf, opensFit}
+use Rattle.rule.specs.Condition.{WrittenCondition, Rule, parts}
+use Rattle.rule.specs.Grammar.{Tokens}
+use Rattle.rule.specs.Reader.{readAll}
+use Rattle.rule.specs.Names.{limitsFit, outermost, ruleIn}
+use Rattle.rule.specs.Parts.{partsOf}
+use Rattle.rule.specs.Calls.{mostBytes, fails, isThere, ruleOf, readingRefusals, Accepted, withRule}
+use Rattle.lexer.specs.Code.{tokensIn}
+use Rattle.names.specs.Code.{partsNumbers}
+use Rattle.parser.specs.declared.Scanned.{Scanned}
+use Rattle.parser.specs.declared.Scanned.the-variants.{Tokens as ScannedTokens, NotScanned}
+use Rattle.parser.specs.declared.Parsed.{Parsed}
+use Rattle.parser.specs.declared.Parsed.the-variants.{Rule as ParsedRule, Refused as ParsedRefused}
+
+-- ---- reading in three steps: the refusals of tables are tried first, then these two groups
+
+abbrev pub scanRefusals : List ℕ → List Refusal
+scanRefusals text = (3 if ltb mostBytes (length text)) ∷ (4 if isMissing (tokensOf text)) ∷ []
+
+-- so many tokens, at the front of an array
+pub record Scanning (text new : List ℕ) (n : ℕ) : Type 0 where
+  pub short : length text ≤ mostBytes
+  pub few : n ≤ 4096
+  pub are-tokens : tokensOf text ≡ some (tokensIn (take n new))
+
+abbrev pub ScannedTo : List ℕ → List ℕ → Scanned → Type 0
+ScannedTo text new (ScannedTokens n) = Scanning text new n
+ScannedTo text new (NotScanned x) = firstApplying (scanRefusals text) ≡ some (reasonNumber x)
+
+abbrev pub tokensRefusals : Tokens → List ℕ → List Refusal
+tokensRefusals ts columns =
+    (5 if not (opensFit (pos 0) ts))
+    ∷ (6 if not (isThere (readAll ts)))
+    ∷ (7 if fails limitsFit (readAll ts))
+    ∷ (8 if fails (λ a. isThere (ruleIn columns outermost a)) (readAll ts))
+    ∷ []
+
+-- the rule of some tokens, and its parts at the front of an array
+pub record TokensParsing (s file new : List ℕ) (n : ℕ) : Type 0 where
+  pub brackets : opensFit (pos 0) (tokensIn s) ≡ true
+  pub tree : WrittenCondition
+  pub reads : readAll (tokensIn s) ≡ some tree
+  pub limits : limitsFit tree ≡ true
+  pub rule : Rule
+  pub named : ruleIn (columnsOf file) outermost tree ≡ some rule
+  pub count : n ≡ parts rule
+  pub written : take (8 * n) new ≡ partsNumbers (partsOf rule)
+
+abbrev pub TokensParsedTo : (s file new : List ℕ) → Parsed → Type 0
+TokensParsedTo s file new (ParsedRule n) = TokensParsing s file new n
+TokensParsedTo s file new (ParsedRefused x) = firstApplying (tokensRefusals (tokensIn s) (columnsOf file)) ≡ some (reasonNumber x)
+
+-- ---- reading as a whole
+
+-- how many parts a rule has, or a refusal of reading
+abbrev pub parsedAnswer : Parsed → Answer ℕ
+parsedAnswer (ParsedRule n) = Given n
+parsedAnswer (ParsedRefused x) = Refused (reasonNumber x)
+
+unfoldable pub parseCall : List ℕ → List ℕ → Answer ℕ
+parseCall text file = unless (firstApplying (readingRefusals text file)) (λ _. withRule (ruleOf text (columnsOf file)) 0 parts)
+
+-- the rule of a text, and its parts at the front of an array
+pub record Parsing (text file new : List ℕ) (n : ℕ) : Type 0 where
+  pub accepted : Accepted text file
+  pub rule : Rule
+  pub is-rule : ruleOf text (columnsOf file) ≡ some rule
+  pub count : n ≡ parts rule
+  pub written : take (8 * n) new ≡ partsNumbers (partsOf rule)
+
+abbrev pub ParsedTo : (text file new : List ℕ) → Parsed → Type 0
+ParsedTo text file new (ParsedRule n) = Parsing text file new n
+ParsedTo text file new (ParsedRefused x) = Unit {0}

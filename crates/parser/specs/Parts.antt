@@ -1,0 +1,72 @@
+-- The parts of a rule in an array, as `parse` leaves them, eight numbers for each: for READ, JUDGE and CARD. The contract of a public
+-- call cites nothing of this file.
+use mathlib.Core.Path.{_≡_}
+use mathlib.Core.Bool.{cond}
+use mathlib.Core.List.{List, [], _∷_, _++_}
+use Prim.Native.Nat.{ℕ, zero, suc, _+_, _*_, _<_}
+use lib.Dec.{eqb}
+use lib.IntN.{ℤ, pos}
+use lib.ListN.{getD}
+use Rattle.tables.specs.Values.{constantTag}
+use Rattle.cells.specs.Code.{fromExcess}
+use Rattle.rule.specs.Condition.{Atom, Join, Not, Exists, Listed, Rule, parts}
+use Rattle.rule.specs.Parts.{AtomHead, JoinHead, NotHead, ExistsHead, ListedHead, partOf}
+use Rattle.rule.specs.declared.TaggedValue.{TaggedValue}
+use Rattle.rule.specs.declared.Part.{Part}
+use Rattle.names.specs.Code.{partNumbers}
+
+-- part s is this one
+pub record PartAt (p : List ℕ) (s : ℕ) (x : Part) : Type 0 where
+  pub field : (k : ℕ) → k < 8 → getD p (8 * s + k) 0 ≡ getD (partNumbers x) k 0
+
+-- the parts from number s on are those of a rule
+unfoldable pub Stands : List ℕ → ℕ → Rule → Type 0
+Stands p s (Atom x) = PartAt p s (partOf (s + 1) (AtomHead x))
+Stands p s (Join j a b) = PartAt p s (partOf (s + (1 + parts a + parts b)) (JoinHead j)) × Stands p (s + 1) a × Stands p (s + 1 + parts a) b
+Stands p s (Not a) = PartAt p s (partOf (s + (1 + parts a)) NotHead) × Stands p (s + 1) a
+Stands p s (Exists t w) = PartAt p s (partOf (s + (1 + parts w)) (ExistsHead t)) × Stands p (s + 1) w
+Stands p s (Listed q op l r t w) = PartAt p s (partOf (s + (1 + parts w)) (ListedHead q op l r t)) × Stands p (s + 1) w
+
+-- ---- as they are published
+
+-- a value's number by its tag: a constant less 2 ^ 31, or a column
+abbrev pub signedOf : ℕ → ℕ → ℤ
+signedOf tag n = cond (eqb tag constantTag) (fromExcess n) (pos n)
+
+-- the value of a tag and a number
+abbrev pub taggedFrom : ℕ → ℕ → TaggedValue
+taggedFrom tag n = record { tag = tag; number = signedOf tag n }
+
+-- the part that stands at number i, and the first n
+abbrev pub partIn : List ℕ → ℕ → Part
+partIn l i = record {
+  kind = getD l (8 * i) 0;
+  comparison = getD l (8 * i + 1) 0;
+  table = getD l (8 * i + 2) 0;
+  end = getD l (8 * i + 3) 0;
+  left = taggedFrom (getD l (8 * i + 4) 0) (getD l (8 * i + 5) 0);
+  right = taggedFrom (getD l (8 * i + 6) 0) (getD l (8 * i + 7) 0);
+}
+
+unfoldable pub partsIn : List ℕ → ℕ → List Part
+partsIn l zero = []
+partsIn l (suc n) = partsIn l n ++ (partIn l n ∷ [])
+
+-- a number that a value can have: 32 bits, and a byte where it is a column
+pub record Signable (tag n : ℕ) : Type 0 where
+  pub whole : n < 4294967296
+  pub column : (tag ≡ 255 → ⊥) → n < 256
+
+-- its fields have a byte each, but for the numbers of its values
+pub record SmallPart (l : List ℕ) (i : ℕ) : Type 0 where
+  pub kind : getD l (8 * i) 0 < 256
+  pub comparison : getD l (8 * i + 1) 0 < 256
+  pub table : getD l (8 * i + 2) 0 < 256
+  pub end : getD l (8 * i + 3) 0 < 256
+  pub left-tag : getD l (8 * i + 4) 0 < 256
+  pub left-number : Signable (getD l (8 * i + 4) 0) (getD l (8 * i + 5) 0)
+  pub right-tag : getD l (8 * i + 6) 0 < 256
+  pub right-number : Signable (getD l (8 * i + 6) 0) (getD l (8 * i + 7) 0)
+
+abbrev pub SmallParts : List ℕ → ℕ → Type 0
+SmallParts l n = (i : ℕ) → i < n → SmallPart l i

@@ -1,0 +1,86 @@
+// The rule of a text: its parts as numbers, or the first refusal of reading that applies. READ, JUDGE and CARD go on from here.
+ghost use mathlib.Core.Path.{_≡_};
+ghost use Prim.Native.Nat.{_≤_};
+ghost use lib.ListN.{length};
+ghost use Rattle.cells.specs.Code.{Sized};
+ghost use Rattle.parser.specs.Code.{ScannedTo, TokensParsedTo, parsedAnswer, parseCall, ParsedTo};
+use cells::Reason;
+use cells::Validity;
+use grammar::MOST_FROMS;
+use grammar::MOST_PARTS;
+use grammar::NOTE_NUMBERS;
+use grammar::Step;
+use lexer::MOST_BYTES;
+use lexer::Tokenized;
+use names::PART_NUMBERS;
+
+enum Scanned {
+    Tokens(usize),
+    NotScanned(Reason),
+}
+
+// The tokens of a text: refusals 3 and 4.
+fn scan(text: &[u8], tokens: &mut [usize; MOST_BYTES]) -> Scanned
+    requires { ⌜ length (now tokens) ≡ 4096 ⌝ }
+    ensures scanned { λ r. ⌜ ScannedTo (now (text .entry)) (now (tokens .exit)) r ⌝ }
+    ensures size { λ _. ⌜ length (now (tokens .exit)) ≡ 4096 ⌝ }
+{
+    if MOST_BYTES < text.len() {
+        return Scanned::NotScanned(Reason::TextLength);
+    }
+    let Tokenized::Tokens(n) = lexer::tokenize(text, tokens) else {
+        return Scanned::NotScanned(Reason::Token);
+    };
+    Scanned::Tokens(n)
+}
+
+// What reading gives: the number of a rule's parts, or why there is no rule.
+pub enum Parsed {
+    Rule(usize),
+    Refused(Reason),
+}
+
+// The rule of some tokens: refusals 5 to 8. The grammar is judged to the end before the limits, and these before the names.
+fn parse_tokens(s: &[usize], file: &[u8], parts: &mut [usize; PART_NUMBERS]) -> Parsed
+    requires { ⌜ length (now s) ≤ 4096 ⌝ ∗ ⌜ Sized (now file) ⌝ ∗ ⌜ length (now parts) ≡ 512 ⌝ }
+    ensures parsed { λ r. ⌜ TokensParsedTo (now (s .entry)) (now (file .entry)) (now (parts .exit)) r ⌝ }
+    ensures size { λ _. ⌜ length (now (parts .exit)) ≡ 512 ⌝ }
+{
+    let fits = lexer::brackets_fit(s);
+    if !fits {
+        return Parsed::Refused(Reason::Brackets);
+    }
+    let mut notes = [0usize; NOTE_NUMBERS];
+    let Step::Next { at: _, count, deep } = grammar::read_tokens(s, &mut notes) else {
+        return Parsed::Refused(Reason::Grammar);
+    };
+    if MOST_PARTS < count {
+        return Parsed::Refused(Reason::Limits);
+    }
+    if MOST_FROMS < deep {
+        return Parsed::Refused(Reason::Limits);
+    }
+    let named = names::name_parts(file, &notes, count, parts);
+    if !named {
+        return Parsed::Refused(Reason::Names);
+    }
+    Parsed::Rule(count)
+}
+
+// The rule of a text, for every call that reads one: the numbers of its parts, from the start of parts on.
+pub fn parse(text: &[u8], file: &[u8], parts: &mut [usize; PART_NUMBERS]) -> Parsed
+    requires { ⌜ length (now parts) ≡ 512 ⌝ }
+    ensures answer { λ r. ⌜ parsedAnswer r ≡ parseCall (now (text .entry)) (now (file .entry)) ⌝ }
+    ensures parsed { λ r. ⌜ ParsedTo (now (text .entry)) (now (file .entry)) (now (parts .exit)) r ⌝ }
+    ensures size { λ _. ⌜ length (now (parts .exit)) ≡ 512 ⌝ }
+{
+    let valid = cells::check_tables(file);
+    if let Validity::Invalid(x) = valid {
+        return Parsed::Refused(x);
+    }
+    let mut tokens = [0usize; MOST_BYTES];
+    match scan(text, &mut tokens) {
+        Scanned::Tokens(n) => parse_tokens(&tokens[..n], file, parts),
+        Scanned::NotScanned(x) => Parsed::Refused(x),
+    }
+}
