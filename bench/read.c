@@ -1,15 +1,12 @@
 /* read TEXT TABLES: the best time of one READ in nanoseconds, the bytes of its stack that a thread has touched after it, and what it returned. */
 #define _GNU_SOURCE
+#include "../include/roskudla.h"
 #include "shared.h"
 
-struct tagged_value { uint8_t tag; int32_t number; };
-struct part { uint8_t kind, comparison, table, end; struct tagged_value left, right; };
-uint32_t roskudla_read(const uint8_t *text, size_t text_len, const uint8_t *tables, size_t tables_len, struct part *parts, size_t parts_len, size_t *count);
-
-enum { TURNS = 15, TIMES = 400, ROOM = 64 };
+enum { TURNS = 15, TIMES = 400, ROOM = ROSKUDLA_MOST_PARTS };
 static uint8_t text[1 << 16], tables[1 << 16];
 static size_t text_len, tables_len;
-static struct part parts[ROOM];
+static struct roskudla_part parts[ROOM];
 static uint32_t status;
 
 static void *once(void *unused) {

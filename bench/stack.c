@@ -1,12 +1,9 @@
 /* stack CARD TABLES: how many bytes of its stack a thread has touched after CHECK, RUN and LIST, and after a call of nothing. */
 #define _GNU_SOURCE
+#include "../include/roskudla.h"
 #include "shared.h"
 
-uint32_t roskudla_check(const uint8_t *card, size_t card_len);
-uint32_t roskudla_run(const uint8_t *card, size_t card_len, const uint8_t *tables, size_t tables_len, size_t row, uint8_t *answer);
-uint32_t roskudla_list(const uint8_t *card, size_t card_len, const uint8_t *tables, size_t tables_len, uint32_t *rows, size_t rows_len, size_t *count);
-
-enum { ROOM = 1000 };
+enum { ROOM = ROSKUDLA_MOST_ROWS };
 static uint8_t card[1 << 16], tables[1 << 16];
 static size_t card_len, tables_len;
 static uint32_t rows[ROOM];

@@ -1,10 +1,8 @@
 /* time CARD TABLES ROW: the best time of one RUN and of one LIST, in nanoseconds, by the library and by plain C, taken by turns. */
 #define _GNU_SOURCE
+#include "../include/roskudla.h"
 #include "plain.h"
 #include "shared.h"
-
-uint32_t roskudla_run(const uint8_t *card, size_t card_len, const uint8_t *tables, size_t tables_len, size_t row, uint8_t *answer);
-uint32_t roskudla_list(const uint8_t *card, size_t card_len, const uint8_t *tables, size_t tables_len, uint32_t *rows, size_t rows_len, size_t *count);
 
 typedef uint32_t Run(const uint8_t *, size_t, const uint8_t *, size_t, size_t, uint8_t *);
 typedef uint32_t List(const uint8_t *, size_t, const uint8_t *, size_t, uint32_t *, size_t, size_t *);
@@ -19,7 +17,7 @@ typedef struct { uint8_t bytes[1 << 16]; size_t length; } File;
 /* moves all code behind it: where code lies against cache lines makes a difference to both sides */
 __attribute__((used)) static void padding(void) { __asm__(SKIP(PADDING)); }
 
-enum { TURNS = 15, ROOM = 1000 };
+enum { TURNS = 15, ROOM = ROSKUDLA_MOST_ROWS };
 static const double TURN_NANOSECONDS = 4e6;
 static File card, tables;
 static size_t row;

@@ -1,11 +1,13 @@
-// The calls on rules for C: READ, JUDGE and CARD. Each returns 0, or the number of the refusal; a refusal leaves what the pointers point to.
+// The six calls for C. Each returns 0, or the number of the refusal; a refusal leaves what the pointers point to.
 // A slice is a pointer and then a length, in elements; what is written through one argument must not be reachable through another.
+// CHECK, RUN and LIST are the gate's, under the names that they have in the archive of the gate alone.
 ghost use mathlib.Core.Path.{_≡_};
+ghost use Rattle.card.specs.Calls.{checkCall, runCall, listCall};
 ghost use Rattle.rule.specs.Calls.{readCall, judgeCall};
 ghost use Rattle.translation.specs.Calls.{cardCall};
 ghost use Rattle.reader.specs.Answers.{readAnswer};
 ghost use Rattle.rule.specs.Meaning.{truthNumber};
-ghost use Rattle.roskudla_gate.specs.Exports.{statusOf, numberAfter};
+ghost use Rattle.roskudla_gate.specs.Exports.{statusOf, yesNo, numberAfter};
 use judge::Judged;
 use reader::Reading;
 use rule::Part;
@@ -41,24 +43,24 @@ pub extern "C" fn roskudla_read(
     give_count(reading, count)
 }
 
-// JUDGE: answer becomes 0 for false, 1 for unknown, 2 for true.
+// JUDGE: value becomes 0 for false, 1 for unknown, 2 for true.
 #[no_mangle]
-pub extern "C" fn roskudla_judge(text: &[u8], tables: &[u8], row: usize, answer: &mut u8) -> u32
+pub extern "C" fn roskudla_judge(text: &[u8], tables: &[u8], row: usize, value: &mut u8) -> u32
     ensures status { λ r. ⌜ r ≡ statusOf (judgeCall (now (text .entry)) (now (tables .entry)) row) ⌝ }
-    ensures answered { λ r. ⌜ now (answer .exit) ≡ numberAfter truthNumber (judgeCall (now (text .entry)) (now (tables .entry)) row) (now (answer .entry)) ⌝ }
+    ensures answered { λ r. ⌜ now (value .exit) ≡ numberAfter truthNumber (judgeCall (now (text .entry)) (now (tables .entry)) row) (now (value .entry)) ⌝ }
 {
     let judged = judge::judge(text, tables, row);
     match judged {
         Judged::False => {
-            *answer = 0;
+            *value = 0;
             0
         }
         Judged::Unknown => {
-            *answer = 1;
+            *value = 1;
             0
         }
         Judged::True => {
-            *answer = 2;
+            *value = 2;
             0
         }
         Judged::NotJudged(x) => cells::refusal_number(x),
@@ -85,4 +87,36 @@ pub extern "C" fn roskudla_card(
         }
         Made::NotMade(x) => cells::refusal_number(x),
     }
+}
+
+// CHECK: a card alone.
+#[no_mangle]
+pub extern "C" fn roskudla_check(card: &[u8]) -> u32
+    ensures { λ r. ⌜ r ≡ statusOf (checkCall (now (card .entry))) ⌝ }
+{
+    roskudla_gate::roskudla_check(card)
+}
+
+// RUN: answer becomes 1 for yes, 0 for no.
+#[no_mangle]
+pub extern "C" fn roskudla_run(card: &[u8], tables: &[u8], row: usize, answer: &mut u8) -> u32
+    ensures status { λ r. ⌜ r ≡ statusOf (runCall (now (card .entry)) (now (tables .entry)) row) ⌝ }
+    ensures answered { λ r. ⌜ now (answer .exit) ≡ numberAfter yesNo (runCall (now (card .entry)) (now (tables .entry)) row) (now (answer .entry)) ⌝ }
+{
+    roskudla_gate::roskudla_run(card, tables, row, answer)
+}
+
+// LIST: the admitted rows from the start of rows on; count becomes how many they are.
+#[no_mangle]
+pub extern "C" fn roskudla_list(
+    card: &[u8],
+    tables: &[u8],
+    rows: &mut [u32],
+    count: &mut usize,
+) -> u32
+    ensures status { λ r. ⌜ r ≡ statusOf (listCall (now (card .entry)) (now (tables .entry)) (now (rows .entry)) .result) ⌝ }
+    ensures written { λ r. ⌜ now (rows .exit) ≡ listCall (now (card .entry)) (now (tables .entry)) (now (rows .entry)) .buffer ⌝ }
+    ensures counted { λ r. ⌜ now (count .exit) ≡ numberAfter (λ n. n) (listCall (now (card .entry)) (now (tables .entry)) (now (rows .entry)) .result) (now (count .entry)) ⌝ }
+{
+    roskudla_gate::roskudla_list(card, tables, rows, count)
 }

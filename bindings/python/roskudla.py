@@ -1,0 +1,164 @@
+"""The six calls of Roskudla: entry rules with blanks, turned into cards that answer yes or no.
+
+    import roskudla
+    calls = roskudla.Calls("target/shared/libroskudla.so")
+    card = calls.card(b"m.2 > 0 OR m.2 IS NULL", tables)
+    calls.list_rows(card, tables)
+
+A rule's text, a tables file and a card are bytes. A refused call raises Refused, with the refusal's number. `bindings/build` links the shared object from the
+proved archive.
+"""
+import ctypes
+import enum
+import typing
+
+MOST_PARTS = 64
+MOST_CARD_BYTES = 2891
+MOST_ROWS = 1000
+
+REASONS = {
+    1: "tables: sizes or length wrong",
+    2: "tables: a mark above 1",
+    3: "text over 4,096 bytes",
+    4: "no such token, or a number beyond the range",
+    5: "over 32 more ( than ) up to some token",
+    6: "the text does not follow the grammar",
+    7: "over 64 parts, or over three FROMs around one another",
+    8: "a letter that is not bound, a table or a column that is absent",
+    9: "the card is not sound",
+    10: "the card was made for another number of tables or columns",
+    11: "the row is not in table 1",
+    12: "what was lent is shorter than the whole answer",
+}
+
+
+class Refused(Exception):
+    """A call was refused; `number` is the lowest refusal that applies."""
+
+    def __init__(self, number):
+        super().__init__(f"refused {number}: {REASONS.get(number, 'no published reason')}")
+        self.number = number
+
+
+class Truth(enum.IntEnum):
+    """The value of a rule on a row."""
+    FALSE = 0
+    UNKNOWN = 1
+    TRUE = 2
+
+
+class Value(typing.NamedTuple):
+    """A value of a part: the tag is 255 for a constant, else the level of a column; the number is the constant, or the column's."""
+    tag: int
+    number: int
+
+
+class Part(typing.NamedTuple):
+    """A part of a rule."""
+    kind: int
+    comparison: int
+    table: int
+    end: int
+    left: Value
+    right: Value
+
+
+class ValueLayout(ctypes.Structure):
+    """A value as C lays it out."""
+    _fields_ = [("tag", ctypes.c_uint8), ("number", ctypes.c_int32)]
+
+
+class PartLayout(ctypes.Structure):
+    """A part as C lays it out."""
+    _fields_ = [("kind", ctypes.c_uint8), ("comparison", ctypes.c_uint8), ("table", ctypes.c_uint8), ("end", ctypes.c_uint8),
+                ("left", ValueLayout), ("right", ValueLayout)]
+
+
+BYTES = (ctypes.c_char_p, ctypes.c_size_t)
+LENT = (ctypes.c_void_p, ctypes.c_size_t, ctypes.POINTER(ctypes.c_size_t))
+ANSWERED = (ctypes.c_size_t, ctypes.POINTER(ctypes.c_uint8))
+LARGEST_SIZE = 2 ** (8 * ctypes.sizeof(ctypes.c_size_t)) - 1
+ARGUMENTS = {
+    "read": BYTES + BYTES + LENT,
+    "judge": BYTES + BYTES + ANSWERED,
+    "card": BYTES + BYTES + LENT,
+    "check": BYTES,
+    "run": BYTES + BYTES + ANSWERED,
+    "list": BYTES + BYTES + LENT,
+}
+
+
+def declared(library, call):
+    """A call of a library by its C name, with the types of its arguments."""
+    function = getattr(library, f"roskudla_{call}")
+    function.argtypes = ARGUMENTS[call]
+    function.restype = ctypes.c_uint32
+    return function
+
+
+def sliced(some):
+    """Bytes, or anything that holds bytes, as a pointer and a length."""
+    some = memoryview(some).tobytes()
+    return some, len(some)
+
+
+def size_of_row(row):
+    """A row's number for C. One that C's sizes cannot hold is no row of any table, and neither is the largest that they hold."""
+    if not isinstance(row, int):
+        raise TypeError(f"a row is a whole number, not {type(row).__name__}")
+    return row if 0 <= row <= LARGEST_SIZE else LARGEST_SIZE
+
+
+class Calls:
+    """The calls of a shared object. One linked from the gate's archive has check, run and list_rows alone."""
+
+    def __init__(self, path):
+        library = ctypes.CDLL(str(path))
+        self.functions = {call: declared(library, call) for call in ARGUMENTS if hasattr(library, f"roskudla_{call}")}
+
+    def called(self, call, *arguments):
+        """Calls a function; raises what it refuses."""
+        if call not in self.functions:
+            raise NotImplementedError(f"this library has no roskudla_{call}")
+        status = self.functions[call](*arguments)
+        if status != 0:
+            raise Refused(status)
+
+    def lent(self, call, source, tables, sort, room):
+        """What a call writes to a list with room for so many elements of a sort."""
+        elements = (sort * room)()
+        count = ctypes.c_size_t()
+        self.called(call, *sliced(source), *sliced(tables), elements, room, ctypes.byref(count))
+        return elements[:count.value]
+
+    def answered(self, call, source, tables, row):
+        """The number that a call answers on a row."""
+        answer = ctypes.c_uint8()
+        self.called(call, *sliced(source), *sliced(tables), size_of_row(row), ctypes.byref(answer))
+        return answer.value
+
+    def read(self, text, tables):
+        """READ: the parts of a rule. Refusals 1 to 8."""
+        parts = self.lent("read", text, tables, PartLayout, MOST_PARTS)
+        return [Part(part.kind, part.comparison, part.table, part.end, Value(part.left.tag, part.left.number), Value(part.right.tag, part.right.number))
+                for part in parts]
+
+    def judge(self, text, tables, row):
+        """JUDGE: the value of a rule on a row of table 1. Refusals 1 to 8 and 11."""
+        return Truth(self.answered("judge", text, tables, row))
+
+    def card(self, text, tables):
+        """CARD: the card of a rule. Refusals 1 to 8."""
+        return bytes(self.lent("card", text, tables, ctypes.c_uint8, MOST_CARD_BYTES))
+
+    def check(self, card):
+        """CHECK: nothing where a card is sound. Refusal 9."""
+        self.called("check", *sliced(card))
+
+    def run(self, card, tables, row):
+        """RUN: whether a card says yes to a row of table 1. Refusals 1, 2 and 9 to 11."""
+        return self.answered("run", card, tables, row) == 1
+
+    def list_rows(self, card, tables):
+        """LIST: the rows of table 1 that a card says yes to, rising. Refusals 1, 2, 9 and 10."""
+        return self.lent("list", card, tables, ctypes.c_uint32, MOST_ROWS)

@@ -1,0 +1,129 @@
+"""The wrapper on document 01's own examples: its cases, its worked card and parts, and each refusal that can reach it; the gate's library alone; and
+arguments that are no bytes or no row. Then that the header, the wrapper for Rust and this one give the same numbers, reasons and sizes."""
+import pathlib
+import re
+import unittest
+
+import roskudla
+from roskudla import Part, Truth, Value
+
+ROOT = pathlib.Path(__file__).resolve().parents[2]
+SHARED = ROOT / "target" / "shared"
+# (1, 5), (2, blank), (3, 0); 1, blank; no rows. Under the blanks stand 7 and 1, which no answer may show
+CASE_TABLES = bytes.fromhex(
+    "03 02 03 00 01 02 00 01 00 00"
+    " 01 00 00 00 05 00 00 00  02 00 00 00 07 00 00 00  03 00 00 00 00 00 00 00  01 00 00 00  01 00 00 00"
+    " 00 00  00 01  00 00  00  01")
+WORKED_TABLES = bytes.fromhex("01 03 00 00")
+WORKED_CARD = bytes.fromhex("01 00 01 03 05 01 00 00 06 00 02 00 00 00 FF 05 00 00 00")
+ALL2 = "(SELECT v.1 FROM 2 v WHERE 1 = 1)"
+ALL3 = "(SELECT v.1 FROM 3 v WHERE 1 = 1)"
+CASES = (
+    ("m.2 > 0", "TUF"),
+    ("NOT m.2 > 0", "FUT"),
+    ("m.2 > 0 OR NOT m.2 > 0", "TUT"),
+    ("m.2 IS NULL", "FTF"),
+    ("m.1 IN " + ALL2, "TUU"),
+    ("m.1 NOT IN " + ALL2, "FUU"),
+    ("m.1 <> ALL (SELECT v.1 FROM 2 v WHERE v.1 = 1)", "FTT"),
+    ("m.2 = ALL " + ALL3, "TTT"),
+    ("m.2 = SOME " + ALL3, "FFF"),
+    ("EXISTS (FROM 2 v WHERE v.1 > 1)", "FFF"),
+    ("NOT EXISTS (FROM 2 v WHERE v.1 > 1)", "TTT"),
+    ("m.1 = SOME (SELECT m.1 FROM 2 m WHERE m.1 = 1)", "TFF"),
+)
+TRUTHS = {"F": Truth.FALSE, "U": Truth.UNKNOWN, "T": Truth.TRUE}
+
+
+class WholeLibrary(unittest.TestCase):
+    def setUp(self):
+        self.calls = roskudla.Calls(SHARED / "libroskudla.so")
+
+    def refused(self, number, call, *arguments):
+        with self.assertRaises(roskudla.Refused) as caught:
+            call(*arguments)
+        self.assertEqual(caught.exception.number, number)
+
+    def test_cases(self):
+        for text, values in CASES:
+            text = text.encode()
+            card = self.calls.card(text, CASE_TABLES)
+            self.calls.check(card)
+            self.assertEqual([self.calls.judge(text, CASE_TABLES, row) for row in range(3)], [TRUTHS[value] for value in values])
+            self.assertEqual([self.calls.run(card, CASE_TABLES, row) for row in range(3)], [value == "T" for value in values])
+            self.assertEqual(self.calls.list_rows(card, CASE_TABLES), [row for row, value in enumerate(values) if value == "T"])
+
+    def test_worked_card(self):
+        self.assertEqual(self.calls.card(b"NOT m.2 < 5", WORKED_TABLES), WORKED_CARD)
+
+    def test_parts(self):
+        parts = self.calls.read(b"EXISTS (FROM 2 a WHERE a.1 >= SOME (SELECT -7 FROM 3 b WHERE m.2 < 9))", CASE_TABLES)
+        nothing = Value(0, 0)
+        self.assertEqual(parts, [
+            Part(7, 0, 2, 3, nothing, nothing),
+            Part(8, 6, 3, 3, Value(1, 1), Value(255, -7)),
+            Part(4, 3, 0, 3, Value(0, 2), Value(255, 9))])
+
+    def test_largest_answers(self):
+        """As many parts, bytes and rows as the lists that are lent have room for, or nearly."""
+        text = b"NOT " + b" OR ".join([b"1=1"] * 32)
+        self.assertEqual(len(self.calls.read(text, WORKED_TABLES)), roskudla.MOST_PARTS)
+        rows = roskudla.MOST_ROWS
+        tables = bytes([1, 1]) + rows.to_bytes(2, "little") + bytes(5 * rows)
+        self.assertEqual(self.calls.list_rows(self.calls.card(b"1=1", tables), tables), list(range(rows)))
+
+    def test_refusals(self):
+        for number, text in ((3, b" " * 4097), (4, b"m.1 = 2147483648"), (5, b"(" * 33), (6, b""), (6, b"m.1 ="),
+                             (7, b" OR ".join([b"1 = 1"] * 33)), (8, b"k.1 = 1")):
+            self.refused(number, self.calls.read, text, CASE_TABLES)
+            self.refused(number, self.calls.judge, text, CASE_TABLES, 0)
+            self.refused(number, self.calls.card, text, CASE_TABLES)
+        self.refused(1, self.calls.read, b"1 = 1", b"")
+        self.refused(2, self.calls.read, b"1 = 1", bytes.fromhex("01 01 01 00 00 00 00 00 02"))
+        self.refused(9, self.calls.check, b"\0\0")
+        self.refused(10, self.calls.list_rows, WORKED_CARD, CASE_TABLES)
+
+    def test_rows_that_are_none(self):
+        """A number that C's sizes would cut to a row of the table is refused as any other that is no row."""
+        card = self.calls.card(b"1 = 1", CASE_TABLES)
+        for row in (3, -1, 2 ** 64, 2 ** 64 + 1, 2 ** 200, -2 ** 64):
+            self.refused(11, self.calls.judge, b"1 = 1", CASE_TABLES, row)
+            self.refused(11, self.calls.run, card, CASE_TABLES, row)
+
+    def test_no_bytes(self):
+        for wrong in ("m.1 = 1", 5, None):
+            self.assertRaises(TypeError, self.calls.read, wrong, CASE_TABLES)
+            self.assertRaises(TypeError, self.calls.check, wrong)
+        self.assertRaises(TypeError, self.calls.judge, b"1 = 1", CASE_TABLES, 0.0)
+        self.assertEqual(self.calls.card(bytearray(b"NOT m.2 < 5"), memoryview(WORKED_TABLES)), WORKED_CARD)
+
+
+class GateAlone(unittest.TestCase):
+    def test_gate(self):
+        calls = roskudla.Calls(SHARED / "libroskudla_gate.so")
+        calls.check(WORKED_CARD)
+        self.assertEqual(calls.list_rows(WORKED_CARD, WORKED_TABLES), [])
+        self.assertRaises(NotImplementedError, calls.judge, b"1 = 1", CASE_TABLES, 0)
+
+
+class InterfacesAgree(unittest.TestCase):
+    def setUp(self):
+        self.header = (ROOT / "include" / "roskudla.h").read_text()
+        self.rust = (ROOT / "bindings" / "rust" / "src" / "lib.rs").read_text()
+
+    def test_reasons(self):
+        in_header = re.findall(r"ROSKUDLA_[A-Z]+ = ([1-9][0-9]*),? *\/\* (.*?) \*\/", self.header)
+        in_rust = re.findall(r'([0-9]+) => "(.*?)",', self.rust)
+        for found in (in_header, in_rust):
+            self.assertEqual({int(number): reason for number, reason in found}, roskudla.REASONS)
+
+    def test_sizes(self):
+        sizes = {name: getattr(roskudla, name) for name in ("MOST_PARTS", "MOST_CARD_BYTES", "MOST_ROWS")}
+        in_header = re.findall(r"#define ROSKUDLA_(MOST_[A-Z_]+) ([0-9]+)", self.header)
+        in_rust = re.findall(r"pub const (MOST_[A-Z_]+): usize = ([0-9]+);", self.rust)
+        for found in (in_header, in_rust):
+            self.assertEqual({name: int(number) for name, number in found}, sizes)
+
+
+if __name__ == "__main__":
+    unittest.main()

@@ -1,0 +1,116 @@
+//! The six calls of Roskudla: entry rules with blanks, turned into cards that answer yes or no.
+//!
+//! A rule's text, a tables file and a card are bytes. What a call writes goes to a slice that the caller lends; a refusal leaves it as it was, and a success
+//! leaves what lies past the answer. Lent at least [`MOST_PARTS`], [`MOST_CARD_BYTES`] or [`MOST_ROWS`] elements, no call is refused for want of room.
+//!
+//! Links `libroskudla.a`, which `bindings/build` writes. Every call may be used from several threads at a time.
+
+pub mod ffi;
+
+pub use ffi::{Part, Value};
+use std::fmt;
+
+/// The most parts that a rule has.
+pub const MOST_PARTS: usize = 64;
+
+/// The most bytes that a card has.
+pub const MOST_CARD_BYTES: usize = 2891;
+
+/// The most rows that a table has.
+pub const MOST_ROWS: usize = 1000;
+
+/// Why a call was refused: the lowest number that applies.
+#[derive(Clone, Copy, Debug, PartialEq, Eq)]
+pub struct Refusal(pub u32);
+
+impl fmt::Display for Refusal {
+    fn fmt(&self, f: &mut fmt::Formatter<'_>) -> fmt::Result {
+        let reason = match self.0 {
+            1 => "tables: sizes or length wrong",
+            2 => "tables: a mark above 1",
+            3 => "text over 4,096 bytes",
+            4 => "no such token, or a number beyond the range",
+            5 => "over 32 more ( than ) up to some token",
+            6 => "the text does not follow the grammar",
+            7 => "over 64 parts, or over three FROMs around one another",
+            8 => "a letter that is not bound, a table or a column that is absent",
+            9 => "the card is not sound",
+            10 => "the card was made for another number of tables or columns",
+            11 => "the row is not in table 1",
+            12 => "what was lent is shorter than the whole answer",
+            _ => "no published reason",
+        };
+        write!(f, "refused {}: {}", self.0, reason)
+    }
+}
+
+impl std::error::Error for Refusal {}
+
+/// The value of a rule on a row.
+#[derive(Clone, Copy, Debug, PartialEq, Eq)]
+pub enum Truth {
+    False,
+    Unknown,
+    True,
+}
+
+/// The answer of a call that returned a status.
+fn answer_of<T>(status: u32, answer: T) -> Result<T, Refusal> {
+    match status {
+        0 => Ok(answer),
+        number => Err(Refusal(number)),
+    }
+}
+
+// Each pointer below comes from a slice or a local, with the slice's length, and `&mut` keeps what is written from being reachable otherwise: that is all that
+// the C functions ask.
+
+/// READ: writes the parts of a rule from the start of `parts` on, and answers how many they are. Refusals 1 to 8 and 12.
+pub fn read(text: &[u8], tables: &[u8], parts: &mut [Part]) -> Result<usize, Refusal> {
+    let mut count = 0;
+    let status = unsafe {
+        ffi::roskudla_read(text.as_ptr(), text.len(), tables.as_ptr(), tables.len(), parts.as_mut_ptr(), parts.len(), &mut count)
+    };
+    answer_of(status, count)
+}
+
+/// JUDGE: the value of a rule on a row of table 1. Refusals 1 to 8 and 11.
+pub fn judge(text: &[u8], tables: &[u8], row: usize) -> Result<Truth, Refusal> {
+    let mut value = 0;
+    let status = unsafe { ffi::roskudla_judge(text.as_ptr(), text.len(), tables.as_ptr(), tables.len(), row, &mut value) };
+    let truth = match value {
+        0 => Truth::False,
+        1 => Truth::Unknown,
+        _ => Truth::True,
+    };
+    answer_of(status, truth)
+}
+
+/// CARD: writes the card of a rule from the start of `card` on, and answers how many bytes it has. Refusals 1 to 8 and 12.
+pub fn card(text: &[u8], tables: &[u8], card: &mut [u8]) -> Result<usize, Refusal> {
+    let mut length = 0;
+    let status =
+        unsafe { ffi::roskudla_card(text.as_ptr(), text.len(), tables.as_ptr(), tables.len(), card.as_mut_ptr(), card.len(), &mut length) };
+    answer_of(status, length)
+}
+
+/// CHECK: whether a card is sound. Refusal 9.
+pub fn check(card: &[u8]) -> Result<(), Refusal> {
+    answer_of(unsafe { ffi::roskudla_check(card.as_ptr(), card.len()) }, ())
+}
+
+/// RUN: whether a card says yes to a row of table 1. Refusals 1, 2 and 9 to 11.
+pub fn run(card: &[u8], tables: &[u8], row: usize) -> Result<bool, Refusal> {
+    let mut answer = 0;
+    let status = unsafe { ffi::roskudla_run(card.as_ptr(), card.len(), tables.as_ptr(), tables.len(), row, &mut answer) };
+    answer_of(status, answer == 1)
+}
+
+/// LIST: writes the numbers of the rows of table 1 that a card says yes to, rising, from the start of `rows` on, and answers how many they are.
+/// Refusals 1, 2, 9, 10 and 12.
+pub fn list(card: &[u8], tables: &[u8], rows: &mut [u32]) -> Result<usize, Refusal> {
+    let mut count = 0;
+    let status =
+        unsafe { ffi::roskudla_list(card.as_ptr(), card.len(), tables.as_ptr(), tables.len(), rows.as_mut_ptr(), rows.len(), &mut count) };
+    answer_of(status, count)
+}

@@ -1,0 +1,89 @@
+/* Roskudla: entry rules with blanks, turned into cards that answer yes or no.
+ *
+ * Six calls. Each returns 0, or the number of a refusal (1 to 12, below): the lowest that applies. The answer comes through pointers, and a
+ * refusal leaves everything that they point to as it was; after a success what lies past the answer is untouched. A call keeps nothing
+ * between two uses, so it may be used from several threads at a time.
+ *
+ * A slice is a pointer and its length, in elements. Where the length is 0 the pointer is not looked at and may be NULL; every other pointer
+ * points to what it says. What a call writes through one argument must not be reachable through another.
+ *
+ * libroskudla.a (rt staticlib roskudla) has all six calls; libroskudla_gate.a (rt staticlib roskudla_gate) has roskudla_check, roskudla_run
+ * and roskudla_list alone, for a controller that only runs cards. Link one of the two.
+ */
+#ifndef ROSKUDLA_H
+#define ROSKUDLA_H
+
+#include <stddef.h>
+#include <stdint.h>
+
+#ifdef __cplusplus
+extern "C" {
+#endif
+
+/* What a call returns; where several refusals apply, the lowest. */
+enum roskudla_status {
+    ROSKUDLA_OK = 0,
+    ROSKUDLA_TABLES = 1,    /* tables: sizes or length wrong */
+    ROSKUDLA_MARK = 2,      /* tables: a mark above 1 */
+    ROSKUDLA_TEXT = 3,      /* text over 4,096 bytes */
+    ROSKUDLA_TOKEN = 4,     /* no such token, or a number beyond the range */
+    ROSKUDLA_BRACKETS = 5,  /* over 32 more ( than ) up to some token */
+    ROSKUDLA_GRAMMAR = 6,   /* the text does not follow the grammar */
+    ROSKUDLA_LIMITS = 7,    /* over 64 parts, or over three FROMs around one another */
+    ROSKUDLA_NAMES = 8,     /* a letter that is not bound, a table or a column that is absent */
+    ROSKUDLA_UNSOUND = 9,   /* the card is not sound */
+    ROSKUDLA_COLUMNS = 10,  /* the card was made for another number of tables or columns */
+    ROSKUDLA_ROW = 11,      /* the row is not in table 1 */
+    ROSKUDLA_ROOM = 12      /* what was lent is shorter than the whole answer */
+};
+
+/* With so much room no call returns ROSKUDLA_ROOM. */
+#define ROSKUDLA_MOST_PARTS 64         /* parts of a rule, for roskudla_read */
+#define ROSKUDLA_MOST_CARD_BYTES 2891  /* bytes of a card, for roskudla_card */
+#define ROSKUDLA_MOST_ROWS 1000        /* rows of a table, for roskudla_list */
+
+/* A value in a part: the tag is 255 for a constant, else the level of a column, 0 to 3; the number is the constant, or the column's. */
+struct roskudla_value {
+    uint8_t tag;
+    int32_t number;
+};
+
+/* A part of a rule. Fields that its kind does not use are 0. */
+struct roskudla_part {
+    uint8_t kind;       /* 1 and, 2 or, 3 not, 4 comparison, 5 IS NULL, 6 IS NOT NULL, 7 exists, 8 some, 9 all */
+    uint8_t comparison; /* 1 =, 2 <>, 3 <, 4 <=, 5 >, 6 >= */
+    uint8_t table;
+    uint8_t end;        /* number of the first part after this one and its inner parts */
+    struct roskudla_value left;
+    struct roskudla_value right;
+};
+
+/* READ: the parts of a rule, from the start of parts on; *count becomes how many they are. Refusals 1 to 8 and 12. */
+uint32_t roskudla_read(const uint8_t *text, size_t text_len, const uint8_t *tables, size_t tables_len,
+                       struct roskudla_part *parts, size_t parts_len, size_t *count);
+
+/* JUDGE: *value becomes the value of a rule on a row of table 1: 0 false, 1 unknown, 2 true. Refusals 1 to 8 and 11. */
+uint32_t roskudla_judge(const uint8_t *text, size_t text_len, const uint8_t *tables, size_t tables_len,
+                        size_t row, uint8_t *value);
+
+/* CARD: the card of a rule, from the start of card on; *length becomes how many bytes it has. Refusals 1 to 8 and 12. */
+uint32_t roskudla_card(const uint8_t *text, size_t text_len, const uint8_t *tables, size_t tables_len,
+                       uint8_t *card, size_t card_len, size_t *length);
+
+/* CHECK: whether a card is sound. Refusal 9. */
+uint32_t roskudla_check(const uint8_t *card, size_t card_len);
+
+/* RUN: *answer becomes what a card says of a row of table 1: 0 no, 1 yes. Refusals 1, 2 and 9 to 11. */
+uint32_t roskudla_run(const uint8_t *card, size_t card_len, const uint8_t *tables, size_t tables_len,
+                      size_t row, uint8_t *answer);
+
+/* LIST: the numbers of the rows of table 1 that a card says yes to, rising, from the start of rows on; *count becomes how many they are.
+ * Refusals 1, 2, 9, 10 and 12. */
+uint32_t roskudla_list(const uint8_t *card, size_t card_len, const uint8_t *tables, size_t tables_len,
+                       uint32_t *rows, size_t rows_len, size_t *count);
+
+#ifdef __cplusplus
+}
+#endif
+
+#endif

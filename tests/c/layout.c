@@ -1,0 +1,80 @@
+/* How a part lies in memory: what the compiled READ writes is found in the fields of the struct, as this compiler lays it out. Rules are read in which
+ * each field of a part, and each byte of a number, has a value that no other one has. */
+#include "expect.h"
+
+enum { MOST = 5 };
+
+/* READ into a list of MOST parts, in the middle of a larger one; what lies around what was written has to be as it was */
+static size_t read_parts(const char *text, struct roskudla_part *parts) {
+    struct roskudla_part lent[MOST + 2];
+    size_t count = 0;
+    memset(lent, UNTOUCHED, sizeof lent);
+    EXPECT(roskudla_read((const uint8_t *)text, strlen(text), case_tables, sizeof case_tables, lent + 1, MOST, &count) == ROSKUDLA_OK);
+    EXPECT(count <= MOST);
+    EXPECT(untouched(lent, sizeof lent[0]));
+    EXPECT(untouched(lent + 1 + count, (MOST + 1 - count) * sizeof lent[0]));
+    memcpy(parts, lent + 1, MOST * sizeof lent[0]);
+    return count;
+}
+
+static int is_value(struct roskudla_value value, uint8_t tag, int32_t number) { return value.tag == tag && value.number == number; }
+
+static int is_part(struct roskudla_part part, uint8_t kind, uint8_t comparison, uint8_t table, uint8_t end) {
+    return part.kind == kind && part.comparison == comparison && part.table == table && part.end == end;
+}
+
+/* three parts of different kinds: so the fields, their order and the distance from one part to the next */
+static void three_parts(void) {
+    struct roskudla_part parts[MOST];
+    size_t count = read_parts("EXISTS (FROM 2 a WHERE a.1 >= SOME (SELECT -2023406815 FROM 3 b WHERE m.2 < 67305985))", parts);
+    EXPECT(count == 3);
+    EXPECT(is_part(parts[0], 7, 0, 2, 3) && is_value(parts[0].left, 0, 0) && is_value(parts[0].right, 0, 0));
+    EXPECT(is_part(parts[1], 8, 6, 3, 3) && is_value(parts[1].left, 1, 1) && is_value(parts[1].right, 255, -2023406815));
+    EXPECT(is_part(parts[2], 4, 3, 0, 3) && is_value(parts[2].left, 0, 2) && is_value(parts[2].right, 255, 67305985));
+}
+
+/* the same numbers on the left, and levels on the right */
+static void left_numbers(void) {
+    struct roskudla_part parts[MOST];
+    size_t count = read_parts("-2023406815 <= ALL (SELECT m.1 FROM 1 k WHERE 67305985 > k.2) OR NOT m.1 IS NOT NULL", parts);
+    EXPECT(count == 5);
+    EXPECT(is_part(parts[0], 2, 0, 0, 5) && is_value(parts[0].left, 0, 0) && is_value(parts[0].right, 0, 0));
+    EXPECT(is_part(parts[1], 9, 4, 1, 3) && is_value(parts[1].left, 255, -2023406815) && is_value(parts[1].right, 0, 1));
+    EXPECT(is_part(parts[2], 4, 5, 0, 3) && is_value(parts[2].left, 255, 67305985) && is_value(parts[2].right, 1, 2));
+    EXPECT(is_part(parts[3], 3, 0, 0, 5) && is_value(parts[3].left, 0, 0) && is_value(parts[3].right, 0, 0));
+    EXPECT(is_part(parts[4], 6, 0, 0, 5) && is_value(parts[4].left, 0, 1) && is_value(parts[4].right, 0, 0));
+}
+
+/* room for every number of parts up to what is needed: too little leaves every byte, the bytes between fields too */
+static void rooms(void) {
+    static const char text[] = "m.1 = 1 AND NOT m.2 = 2";
+    struct roskudla_part lent[MOST];
+    size_t room;
+    for (room = 0; room <= MOST; room++) {
+        size_t count = 77;
+        uint32_t status;
+        memset(lent, UNTOUCHED, sizeof lent);
+        status = roskudla_read((const uint8_t *)text, strlen(text), case_tables, sizeof case_tables, lent, room, &count);
+        if (room < 4) {
+            EXPECT(status == ROSKUDLA_ROOM && count == 77 && untouched(lent, sizeof lent));
+        } else {
+            EXPECT(status == ROSKUDLA_OK && count == 4 && untouched(lent + 4, sizeof lent - 4 * sizeof lent[0]));
+        }
+    }
+}
+
+static void no_room(void) {
+    size_t count = 77;
+    EXPECT(roskudla_read((const uint8_t *)"1 = 1", 5, case_tables, sizeof case_tables, NULL, 0, &count) == ROSKUDLA_ROOM && count == 77);
+}
+
+int main(void) {
+    printf("layout: a part takes %u bytes, its left value stands at %u, its right one at %u, a value's number at %u\n",
+           (unsigned)sizeof(struct roskudla_part), (unsigned)offsetof(struct roskudla_part, left),
+           (unsigned)offsetof(struct roskudla_part, right), (unsigned)offsetof(struct roskudla_value, number));
+    three_parts();
+    left_numbers();
+    rooms();
+    no_room();
+    return told("layout");
+}
