@@ -9,7 +9,7 @@
 #include <sys/mman.h>
 #include <time.h>
 
-enum { STACK_SIZE = 1 << 20, UNTOUCHED = 0xA5 };
+enum { STACK_SIZE = 1 << 20, PAINT = 0xA5 };
 
 static inline size_t read_file(uint8_t *bytes, size_t most, const char *path) {
     FILE *stream = fopen(path, "rb");
@@ -28,13 +28,13 @@ static inline double now(void) {
 static inline size_t touched(void *(*call)(void *)) {
     uint8_t *stack = mmap(NULL, STACK_SIZE, PROT_READ | PROT_WRITE, MAP_PRIVATE | MAP_ANONYMOUS, -1, 0);
     if (stack == MAP_FAILED) exit(2);
-    memset(stack, UNTOUCHED, STACK_SIZE);
+    memset(stack, PAINT, STACK_SIZE);
     pthread_attr_t attributes;
     pthread_t thread;
     pthread_attr_init(&attributes);
     if (pthread_attr_setstack(&attributes, stack, STACK_SIZE) || pthread_create(&thread, &attributes, call, NULL) || pthread_join(thread, NULL)) exit(2);
     size_t below = 0;
-    while (below < STACK_SIZE && stack[below] == UNTOUCHED) below++;
+    while (below < STACK_SIZE && stack[below] == PAINT) below++;
     return STACK_SIZE - below;
 }
 #endif

@@ -1,14 +1,20 @@
 /* Roskudla: entry rules with blanks, turned into cards that answer yes or no.
  *
  * Six calls. Each returns 0, or the number of a refusal (1 to 12, below): the lowest that applies. The answer comes through pointers, and a
- * refusal leaves everything that they point to as it was; after a success what lies past the answer is untouched. A call keeps nothing
- * between two uses, so it may be used from several threads at a time.
+ * refusal leaves everything that they point to as it was; after a success what lies past the answer is untouched. What rules, tables and
+ * cards are, byte by byte, is in README.md and in what it leads to.
  *
- * A slice is a pointer and its length, in elements. Where the length is 0 the pointer is not looked at and may be NULL; every other pointer
- * points to what it says. What a call writes through one argument must not be reachable through another.
+ * A slice is a pointer and its length, in elements. Where the length is 0 the pointer is not looked at and may be NULL. All other pointers
+ * point to as many elements as their length says, or to one where they have no length; they are never NULL, and are aligned as C aligns what
+ * they point to. What a call writes must not overlap anything else that it was given; what it only reads may overlap.
  *
- * libroskudla.a (rt staticlib roskudla) has all six calls; libroskudla_gate.a (rt staticlib roskudla_gate) has roskudla_check, roskudla_run
- * and roskudla_list alone, for a controller that only runs cards. Link one of the two.
+ * The calls have no state: they may run in several threads at a time, as long as nobody writes what another call is given. They use the
+ * caller's stack alone, up to 80 KB in roskudla_read, roskudla_judge and roskudla_card, and up to 40 KB in the others, and call nothing but
+ * memcpy and memset. The time of a call grows with the product of the row counts of tables whose FROMs stand around one another, and for
+ * roskudla_list with the rows of table 1 besides: three FROMs over large tables take seconds or hours.
+ *
+ * libroskudla.a (rt staticlib roskudla) has all six calls. libroskudla_gate.a (rt staticlib roskudla_gate) has roskudla_check, roskudla_run
+ * and roskudla_list alone, for a gate that runs cards and reads no rules. Link one of the two. They are for x86-64.
  */
 #ifndef ROSKUDLA_H
 #define ROSKUDLA_H
@@ -39,7 +45,7 @@ enum roskudla_status {
 
 /* With so much room no call returns ROSKUDLA_ROOM. */
 #define ROSKUDLA_MOST_PARTS 64         /* parts of a rule, for roskudla_read */
-#define ROSKUDLA_MOST_CARD_BYTES 2891  /* bytes of a card, for roskudla_card */
+#define ROSKUDLA_MOST_CARD_BYTES 2891  /* bytes of any sound card, for roskudla_card */
 #define ROSKUDLA_MOST_ROWS 1000        /* rows of a table, for roskudla_list */
 
 /* A value in a part: the tag is 255 for a constant, else the level of a column, 0 to 3; the number is the constant, or the column's. */
@@ -48,7 +54,7 @@ struct roskudla_value {
     int32_t number;
 };
 
-/* A part of a rule. Fields that its kind does not use are 0. */
+/* A part of a rule. Fields that its kind does not use are 0. Bytes between fields may be anything: compare parts field by field. */
 struct roskudla_part {
     uint8_t kind;       /* 1 and, 2 or, 3 not, 4 comparison, 5 IS NULL, 6 IS NOT NULL, 7 exists, 8 some, 9 all */
     uint8_t comparison; /* 1 =, 2 <>, 3 <, 4 <=, 5 >, 6 >= */

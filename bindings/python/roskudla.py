@@ -6,10 +6,11 @@
     calls.list_rows(card, tables)
 
 A rule's text, a tables file and a card are bytes. A refused call raises Refused, with the refusal's number. `bindings/build` links the shared object from the
-proved archive.
+proved archive. What a call takes of a thread's stack, and how its time grows, is in include/roskudla.h.
 """
 import ctypes
 import enum
+import operator
 import typing
 
 MOST_PARTS = 64
@@ -36,8 +37,11 @@ class Refused(Exception):
     """A call was refused; `number` is the lowest refusal that applies."""
 
     def __init__(self, number):
-        super().__init__(f"refused {number}: {REASONS.get(number, 'no published reason')}")
+        super().__init__(number)
         self.number = number
+
+    def __str__(self):
+        return f"refused {self.number}: {REASONS.get(self.number, 'no published reason')}"
 
 
 class Truth(enum.IntEnum):
@@ -87,6 +91,8 @@ ARGUMENTS = {
     "list": BYTES + BYTES + LENT,
 }
 
+GATE_CALLS = ("check", "run", "list")
+
 
 def declared(library, call):
     """A call of a library by its C name, with the types of its arguments."""
@@ -98,23 +104,27 @@ def declared(library, call):
 
 def sliced(some):
     """Bytes, or anything that holds bytes, as a pointer and a length."""
-    some = memoryview(some).tobytes()
+    view = memoryview(some)
+    if view.itemsize != 1:
+        raise TypeError(f"bytes are asked for, not elements of {view.itemsize} bytes")
+    some = view.tobytes()
     return some, len(some)
 
 
-def size_of_row(row):
+def row_for_c(row):
     """A row's number for C. One that C's sizes cannot hold is no row of any table, and neither is the largest that they hold."""
-    if not isinstance(row, int):
-        raise TypeError(f"a row is a whole number, not {type(row).__name__}")
+    if isinstance(row, bool):
+        raise TypeError("a row is a whole number, not a bool")
+    row = operator.index(row)
     return row if 0 <= row <= LARGEST_SIZE else LARGEST_SIZE
 
 
 class Calls:
-    """The calls of a shared object. One linked from the gate's archive has check, run and list_rows alone."""
+    """The calls of a shared object. One linked from the gate's archive has check, run and list_rows alone; one without these is an error."""
 
     def __init__(self, path):
         library = ctypes.CDLL(str(path))
-        self.functions = {call: declared(library, call) for call in ARGUMENTS if hasattr(library, f"roskudla_{call}")}
+        self.functions = {call: declared(library, call) for call in ARGUMENTS if call in GATE_CALLS or hasattr(library, f"roskudla_{call}")}
 
     def called(self, call, *arguments):
         """Calls a function; raises what it refuses."""
@@ -124,9 +134,9 @@ class Calls:
         if status != 0:
             raise Refused(status)
 
-    def lent(self, call, source, tables, sort, room):
-        """What a call writes to a list with room for so many elements of a sort."""
-        elements = (sort * room)()
+    def lent(self, call, source, tables, element, room):
+        """What a call writes to a list with room for so many elements of a type."""
+        elements = (element * room)()
         count = ctypes.c_size_t()
         self.called(call, *sliced(source), *sliced(tables), elements, room, ctypes.byref(count))
         return elements[:count.value]
@@ -134,7 +144,7 @@ class Calls:
     def answered(self, call, source, tables, row):
         """The number that a call answers on a row."""
         answer = ctypes.c_uint8()
-        self.called(call, *sliced(source), *sliced(tables), size_of_row(row), ctypes.byref(answer))
+        self.called(call, *sliced(source), *sliced(tables), row_for_c(row), ctypes.byref(answer))
         return answer.value
 
     def read(self, text, tables):

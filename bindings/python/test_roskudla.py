@@ -1,6 +1,9 @@
 """The wrapper on document 01's own examples: its cases, its worked card and parts, and each refusal that can reach it; the gate's library alone; and
 arguments that are no bytes or no row. Then that the header, the wrapper for Rust and this one give the same numbers, reasons and sizes."""
+import array
+import ctypes.util
 import pathlib
+import pickle
 import re
 import unittest
 
@@ -65,9 +68,14 @@ class WholeLibrary(unittest.TestCase):
             Part(4, 3, 0, 3, Value(0, 2), Value(255, 9))])
 
     def test_largest_answers(self):
-        """As many parts, bytes and rows as the lists that are lent have room for, or nearly."""
-        text = b"NOT " + b" OR ".join([b"1=1"] * 32)
-        self.assertEqual(len(self.calls.read(text, WORKED_TABLES)), roskudla.MOST_PARTS)
+        """The most parts, the longest card that a rule has (13 triples of lists within one another, over eight tables), and the most rows."""
+        text = b"1=1"
+        for _ in range(3):
+            text = b"1=SOME(SELECT 1 FROM 1 a WHERE " + text + b")"
+        text = b" OR ".join([text] * 13)
+        eight = bytes([8]) + bytes([1, 0, 0]) * 8
+        self.assertEqual(len(self.calls.read(text, eight)), roskudla.MOST_PARTS)
+        self.assertEqual(len(self.calls.card(text, eight)), 3 + 8 + 15 * 142)
         rows = roskudla.MOST_ROWS
         tables = bytes([1, 1]) + rows.to_bytes(2, "little") + bytes(5 * rows)
         self.assertEqual(self.calls.list_rows(self.calls.card(b"1=1", tables), tables), list(range(rows)))
@@ -91,18 +99,33 @@ class WholeLibrary(unittest.TestCase):
             self.refused(11, self.calls.run, card, CASE_TABLES, row)
 
     def test_no_bytes(self):
-        for wrong in ("m.1 = 1", 5, None):
+        for wrong in ("m.1 = 1", 5, None, array.array("I", [1])):
             self.assertRaises(TypeError, self.calls.read, wrong, CASE_TABLES)
+            self.assertRaises(TypeError, self.calls.read, b"1 = 1", wrong)
             self.assertRaises(TypeError, self.calls.check, wrong)
-        self.assertRaises(TypeError, self.calls.judge, b"1 = 1", CASE_TABLES, 0.0)
         self.assertEqual(self.calls.card(bytearray(b"NOT m.2 < 5"), memoryview(WORKED_TABLES)), WORKED_CARD)
+
+    def test_no_row(self):
+        for wrong in (0.0, "0", None, True):
+            self.assertRaises(TypeError, self.calls.judge, b"1 = 1", CASE_TABLES, wrong)
+
+    def test_refused_is_told(self):
+        refused = roskudla.Refused(6)
+        self.assertEqual(str(refused), "refused 6: the text does not follow the grammar")
+        self.assertEqual(str(pickle.loads(pickle.dumps(refused))), str(refused))
+
+    def test_other_library(self):
+        self.assertRaises(AttributeError, roskudla.Calls, ctypes.util.find_library("c"))
 
 
 class GateAlone(unittest.TestCase):
     def test_gate(self):
         calls = roskudla.Calls(SHARED / "libroskudla_gate.so")
         calls.check(WORKED_CARD)
-        self.assertEqual(calls.list_rows(WORKED_CARD, WORKED_TABLES), [])
+        column = (7, 4, 5)  # the second of three, in three rows; the worked card asks for 5 or more
+        tables = WORKED_TABLES[:2] + bytes([3, 0]) + b"".join(bytes(4) + bytes([number, 0, 0, 0]) + bytes(4) for number in column) + bytes(9)
+        self.assertEqual([calls.run(WORKED_CARD, tables, row) for row in range(3)], [True, False, True])
+        self.assertEqual(calls.list_rows(WORKED_CARD, tables), [0, 2])
         self.assertRaises(NotImplementedError, calls.judge, b"1 = 1", CASE_TABLES, 0)
 
 

@@ -26,7 +26,7 @@ static const uint8_t *bytes_of(const char *text) { return (const uint8_t *)text;
 static void one_case(const char *text, const char *values) {
     uint8_t card[ROSKUDLA_MOST_CARD_BYTES], value, answer;
     uint32_t rows[ROSKUDLA_MOST_ROWS];
-    size_t length, count, place = 0, row;
+    size_t length = 0, count = 0, place = 0, row;
     EXPECT(roskudla_card(bytes_of(text), strlen(text), case_tables, sizeof case_tables, card, sizeof card, &length) == ROSKUDLA_OK);
     EXPECT(roskudla_check(card, length) == ROSKUDLA_OK);
     EXPECT(roskudla_list(card, length, case_tables, sizeof case_tables, rows, ROSKUDLA_MOST_ROWS, &count) == ROSKUDLA_OK);
@@ -70,12 +70,12 @@ static void refused(uint32_t number, const void *text, size_t text_len, const vo
     struct roskudla_part parts[2];
     uint8_t card[64], value = UNTOUCHED;
     size_t count = UNTOUCHED, length = UNTOUCHED;
-    const uint8_t *words = (const uint8_t *)text, *file = (const uint8_t *)tables;
+    const uint8_t *rule = (const uint8_t *)text, *file = (const uint8_t *)tables;
     memset(parts, UNTOUCHED, sizeof parts);
     memset(card, UNTOUCHED, sizeof card);
-    EXPECT(roskudla_read(words, text_len, file, tables_len, parts, 2, &count) == number);
-    EXPECT(roskudla_judge(words, text_len, file, tables_len, 0, &value) == number);
-    EXPECT(roskudla_card(words, text_len, file, tables_len, card, sizeof card, &length) == number);
+    EXPECT(roskudla_read(rule, text_len, file, tables_len, parts, 2, &count) == number);
+    EXPECT(roskudla_judge(rule, text_len, file, tables_len, 0, &value) == number);
+    EXPECT(roskudla_card(rule, text_len, file, tables_len, card, sizeof card, &length) == number);
     EXPECT(untouched(parts, sizeof parts) && untouched(card, sizeof card) && count == UNTOUCHED && value == UNTOUCHED && length == UNTOUCHED);
 }
 
@@ -114,10 +114,26 @@ static void refusal_examples(void) {
     free(tests);
 }
 
+/* the longest card that a rule has: 13 triples of lists within one another, joined by OR, over eight tables; and the most parts */
+static void largest_answers(void) {
+    static const char triple[] = "1=SOME(SELECT 1 FROM 1 a WHERE 1=SOME(SELECT 1 FROM 1 b WHERE 1=SOME(SELECT 1 FROM 1 c WHERE 1=1)))";
+    static const uint8_t eight_tables[] = {8, 1, 0, 0, 1, 0, 0, 1, 0, 0, 1, 0, 0, 1, 0, 0, 1, 0, 0, 1, 0, 0, 1, 0, 0};
+    char *text = repeated(triple, " OR ", 13);
+    uint8_t card[ROSKUDLA_MOST_CARD_BYTES];
+    struct roskudla_part parts[ROSKUDLA_MOST_PARTS];
+    size_t length = 0, count = 0;
+    EXPECT(roskudla_card(bytes_of(text), strlen(text), eight_tables, sizeof eight_tables, card, sizeof card, &length) == ROSKUDLA_OK);
+    EXPECT(length == 3 + 8 + 15 * 142 && roskudla_check(card, length) == ROSKUDLA_OK);
+    EXPECT(roskudla_read(bytes_of(text), strlen(text), eight_tables, sizeof eight_tables, parts, ROSKUDLA_MOST_PARTS, &count) == ROSKUDLA_OK);
+    EXPECT(count == ROSKUDLA_MOST_PARTS);
+    free(text);
+}
+
 int main(void) {
     size_t number;
     for (number = 0; number < CASES; number++) one_case(cases[number].text, cases[number].values);
     card_rooms();
     refusal_examples();
-    return told("calls");
+    largest_answers();
+    return report("calls");
 }

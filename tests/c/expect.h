@@ -17,7 +17,7 @@ static void expect_that(int holds, const char *fact, const char *file, int line)
     }
 }
 
-static int told(const char *name) {
+static inline int report(const char *name) {
     printf("%s: %d expectations, %d failed\n", name, expectations, failures);
     return failures == 0 ? 0 : 1;
 }
@@ -25,7 +25,7 @@ static int told(const char *name) {
 enum { UNTOUCHED = 0xA5 };
 
 /* whether so many bytes are as they were filled before a call */
-static int untouched(const void *some, size_t length) {
+static inline int untouched(const void *some, size_t length) {
     const uint8_t *bytes = (const uint8_t *)some;
     size_t place;
     for (place = 0; place < length; place++)

@@ -1,5 +1,5 @@
-/* How a part lies in memory: what the compiled READ writes is found in the fields of the struct, as this compiler lays it out. Rules are read in which
- * each field of a part, and each byte of a number, has a value that no other one has. */
+/* How a part lies in memory: what the compiled READ writes is found in the fields of the struct, as this compiler lays it out. In the rules that are read
+ * no two fields are equal in all parts, and no two bytes of the large numbers are. */
 #include "expect.h"
 
 enum { MOST = 5 };
@@ -17,10 +17,24 @@ static size_t read_parts(const char *text, struct roskudla_part *parts) {
     return count;
 }
 
-static int is_value(struct roskudla_value value, uint8_t tag, int32_t number) { return value.tag == tag && value.number == number; }
+/* as wider numbers with a sign, so that a field of another sign or width is seen */
+static int is_value(struct roskudla_value value, long long tag, long long number) {
+    long long is_tag = value.tag, is_number = value.number;
+    return is_tag == tag && is_number == number;
+}
 
-static int is_part(struct roskudla_part part, uint8_t kind, uint8_t comparison, uint8_t table, uint8_t end) {
-    return part.kind == kind && part.comparison == comparison && part.table == table && part.end == end;
+static int is_part(struct roskudla_part part, long long kind, long long comparison, long long table, long long end) {
+    long long is_kind = part.kind, is_comparison = part.comparison, is_table = part.table, is_end = part.end;
+    return is_kind == kind && is_comparison == comparison && is_table == table && is_end == end;
+}
+
+/* each field has the width and the sign that the call's own fields have; by these alone a struct would be told apart that READ fills rightly by chance */
+static void widths_and_signs(void) {
+    struct roskudla_part part;
+    memset(&part, 0xFF, sizeof part);
+    EXPECT(sizeof part.kind == 1 && sizeof part.comparison == 1 && sizeof part.table == 1 && sizeof part.end == 1);
+    EXPECT(sizeof part.left.tag == 1 && sizeof part.left.number == 4 && sizeof part.right.tag == 1 && sizeof part.right.number == 4);
+    EXPECT(is_part(part, 255, 255, 255, 255) && is_value(part.left, 255, -1) && is_value(part.right, 255, -1));
 }
 
 /* three parts of different kinds: so the fields, their order and the distance from one part to the next */
@@ -72,9 +86,10 @@ int main(void) {
     printf("layout: a part takes %u bytes, its left value stands at %u, its right one at %u, a value's number at %u\n",
            (unsigned)sizeof(struct roskudla_part), (unsigned)offsetof(struct roskudla_part, left),
            (unsigned)offsetof(struct roskudla_part, right), (unsigned)offsetof(struct roskudla_value, number));
+    widths_and_signs();
     three_parts();
     left_numbers();
     rooms();
     no_room();
-    return told("layout");
+    return report("layout");
 }

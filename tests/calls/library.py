@@ -1,4 +1,4 @@
-"""The calls as they are built: the archives of the crates roskudla and roskudla_gate, each linked into a shared object and called by ctypes.
+"""The calls as they are built: the archives of the crates roskudla and roskudla_gate, each linked into a shared object (bindings/build) and called by ctypes.
 
 Texts, cards, tables files, lent lists and what a call writes its answer to end where a page ends that may not be touched, so that a read or a write past
 them ends the program. What stands before them is a pattern of at least a page: a call that changes any of it is an error, and so is one that changes a text,
@@ -12,22 +12,20 @@ import subprocess
 import sys
 
 ROOT = pathlib.Path(__file__).resolve().parents[2]
-sys.path.insert(0, str(ROOT / "tests" / "model"))
+sys.path[:0] = [str(ROOT / "tests" / "model"), str(ROOT / "bindings" / "python")]
 
 import model  # noqa: E402
+import roskudla  # noqa: E402
 
 
 class OutsideWritten(Exception):
     """A call changed what it was not lent."""
 
 
-def load(crate, folder):
-    """The library of a crate's calls, by a shared object that is put into a folder."""
-    subprocess.run(["rt", "staticlib", crate], cwd=ROOT, check=True, stdout=subprocess.DEVNULL)
-    archive = ROOT / "target" / "staticlib" / f"lib{crate}.a"
-    shared = pathlib.Path(folder) / f"{crate}.so"
-    subprocess.run(["gcc", "-shared", "-o", str(shared), "-Wl,--whole-archive", str(archive), "-Wl,--no-whole-archive"], check=True)
-    return ctypes.CDLL(str(shared))
+def load(crate):
+    """The library of a crate's calls."""
+    subprocess.run([str(ROOT / "bindings" / "build")], check=True)
+    return ctypes.CDLL(str(ROOT / "target" / "shared" / f"lib{crate}.so"))
 
 
 class EndOfPage:
@@ -93,17 +91,7 @@ class LentList:
         return tuple(array.array(self.sort, self.room.after()))
 
 
-class TaggedValue(ctypes.Structure):
-    """A value of a part as C lays it out."""
-    _fields_ = [("tag", ctypes.c_uint8), ("number", ctypes.c_int32)]
-
-
-class Part(ctypes.Structure):
-    """A part as C lays it out."""
-    _fields_ = [("kind", ctypes.c_uint8), ("comparison", ctypes.c_uint8), ("table", ctypes.c_uint8), ("end", ctypes.c_uint8),
-                ("left", TaggedValue), ("right", TaggedValue)]
-
-
+Part = roskudla.PartLayout
 GAP = 0xA5
 
 

@@ -6,7 +6,6 @@ Exit status 0 when all answers and all lent lists agree, and every sort of answe
 import collections
 import itertools
 import random
-import tempfile
 
 import compare
 import library
@@ -239,8 +238,7 @@ def check_all(reader):
 
 
 def main():
-    with tempfile.TemporaryDirectory() as folder:
-        check_all(library.Rules(library.load("roskudla", folder)))
+    check_all(library.Rules(library.load("roskudla")))
 
 
 if __name__ == "__main__":

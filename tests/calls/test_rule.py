@@ -7,7 +7,6 @@ Exit status 0 when all answers and all lent buffers agree, and every sort of ans
 import collections
 import itertools
 import random
-import tempfile
 
 import compare
 import end_to_end
@@ -393,8 +392,7 @@ def check_all(rules, gate):
 
 
 def main():
-    with tempfile.TemporaryDirectory() as folder:
-        check_all(library.Rules(library.load("roskudla", folder)), library.Gate(library.load("roskudla_gate", folder)))
+    check_all(library.Rules(library.load("roskudla")), library.Gate(library.load("roskudla_gate")))
 
 
 if __name__ == "__main__":

@@ -38,15 +38,20 @@ class RuleMaker:
     """Draws rules as tokens, for tables with given columns.
 
     `quantified`: whether SOME and ALL are drawn beside IN and NOT IN. `wild`: how often a name is drawn that may be absent.
-    A scope is a list of letters and the tables that they range over, the innermost last.
+    `constants`: how often a value is a number. `outer`: how often a column's letter is any that is bound, and not surely the
+    innermost. `even`: whether the tests without a FROM are drawn alike in all places; otherwise, where no FROM may follow, most
+    of them are IS NULL. A scope is a list of letters and the tables that they range over, the innermost last.
     """
 
-    def __init__(self, random, columns, quantified=True, wild=0.0, deepest=3):
+    def __init__(self, random, columns, quantified=True, wild=0.0, deepest=3, constants=.3, outer=.5, even=False):
         self.random = random
         self.columns = columns
         self.quantified = quantified
         self.wild = wild
         self.deepest = deepest
+        self.constants = constants
+        self.outer = outer
+        self.even = even
 
     def rule(self, size):
         return self.condition([("m", 1)], size, self.deepest)
@@ -89,6 +94,8 @@ class RuleMaker:
             return ["EXISTS", "("] + source + self.condition(inner_scope, max(1, size - 1), froms - 1) + [")"]
         if froms > 0 and draw < .72:
             return self.value(scope) + self.before_list() + self.listed(scope, max(1, size - 1), froms)
+        if self.even:
+            draw = self.random.uniform(.72, 1)
         if draw < .82:
             return self.value(scope) + ["IS", "NULL"]
         if draw < .87:
@@ -119,12 +126,12 @@ class RuleMaker:
         return ["FROM", str(written), letter, "WHERE"], scope + [(letter, table)]
 
     def value(self, scope):
-        if chance(self.random, .3):
+        if chance(self.random, self.constants):
             return [number_token(self.random)]
         if chance(self.random, self.wild):
             return [self.random.choice("abcmvwxyz"), ".", self.random.choice(["0", "1", "-1", "17", "2", "99"])]
         nearest = dict(scope)
-        letter = self.random.choice(list(nearest)) if chance(self.random, .5) else scope[-1][0]
+        letter = self.random.choice(list(nearest)) if chance(self.random, self.outer) else scope[-1][0]
         column = self.random.randint(1, self.columns[nearest[letter] - 1])
         return [letter, ".", str(column)]
 
@@ -339,12 +346,16 @@ def cell_value(random):
     return random.choice(EDGE_CELLS + (random.randint(-2**31, 2**31 - 1),))
 
 
-def filled_tables(random, sizes):
-    """A file with the given (columns, row count) of each table. The value bytes of blank cells are random."""
+def filled_tables(random, sizes, blanks=None):
+    """A file with the given (columns, row count) of each table. The value bytes of blank cells are random.
+
+    `blanks`: how often a cell is blank; drawn where it is not given.
+    """
     head = bytes([len(sizes)])
     values = b""
     marks = b""
-    blanks = random.choice([0, .2, .4, .4, .6, 1])
+    if blanks is None:
+        blanks = random.choice([0, .2, .4, .4, .6, 1])
     for columns, row_count in sizes:
         head += bytes([columns]) + row_count.to_bytes(2, "little")
         for _ in range(columns * row_count):

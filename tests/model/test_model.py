@@ -130,7 +130,7 @@ def database_of(tables):
 
 
 def sql_of_tokens(tokens):
-    """The SQL of a rule without SOME and ALL, from its written tokens alone."""
+    """The SQL of a rule from its written tokens alone; SOME and ALL stay as they are, and SQLite knows neither."""
     words = []
     place = 0
     while place < len(tokens):

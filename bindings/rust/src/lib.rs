@@ -1,9 +1,10 @@
 //! The six calls of Roskudla: entry rules with blanks, turned into cards that answer yes or no.
 //!
 //! A rule's text, a tables file and a card are bytes. What a call writes goes to a slice that the caller lends; a refusal leaves it as it was, and a success
-//! leaves what lies past the answer. Lent at least [`MOST_PARTS`], [`MOST_CARD_BYTES`] or [`MOST_ROWS`] elements, no call is refused for want of room.
+//! leaves what lies past the answer. With room for [`MOST_PARTS`], [`MOST_CARD_BYTES`] or [`MOST_ROWS`] elements, no call is refused with 12.
 //!
-//! Links `libroskudla.a`, which `bindings/build` writes. Every call may be used from several threads at a time.
+//! Links `libroskudla.a`, which `bindings/build` writes. Every call may be used from several threads at a time; what it takes of a thread's stack, and
+//! how its time grows, is in `include/roskudla.h`.
 
 pub mod ffi;
 
@@ -13,7 +14,7 @@ use std::fmt;
 /// The most parts that a rule has.
 pub const MOST_PARTS: usize = 64;
 
-/// The most bytes that a card has.
+/// The most bytes that any sound card has.
 pub const MOST_CARD_BYTES: usize = 2891;
 
 /// The most rows that a table has.
@@ -78,12 +79,12 @@ pub fn read(text: &[u8], tables: &[u8], parts: &mut [Part]) -> Result<usize, Ref
 pub fn judge(text: &[u8], tables: &[u8], row: usize) -> Result<Truth, Refusal> {
     let mut value = 0;
     let status = unsafe { ffi::roskudla_judge(text.as_ptr(), text.len(), tables.as_ptr(), tables.len(), row, &mut value) };
-    let truth = match value {
+    answer_of(status, value).map(|value| match value {
         0 => Truth::False,
         1 => Truth::Unknown,
-        _ => Truth::True,
-    };
-    answer_of(status, truth)
+        2 => Truth::True,
+        other => unreachable!("JUDGE's contract gives 0, 1 or 2, not {other}"),
+    })
 }
 
 /// CARD: writes the card of a rule from the start of `card` on, and answers how many bytes it has. Refusals 1 to 8 and 12.

@@ -1,4 +1,4 @@
-// The six calls for C. Each returns 0, or the number of the refusal; a refusal leaves what the pointers point to.
+// The six calls for C. Each returns 0, or the number of the refusal; a refusal leaves what the pointers point to as it was.
 // A slice is a pointer and then a length, in elements; what is written through one argument must not be reachable through another.
 // CHECK, RUN and LIST are the gate's, under the names that they have in the archive of the gate alone.
 ghost use mathlib.Core.Path.{_≡_};

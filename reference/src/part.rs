@@ -1,0 +1,46 @@
+//! The record of one part and the numbers of its kinds (section "Rule text", the paragraph on parts).
+
+use crate::value::Value;
+
+/// Both inner parts.
+pub const AND: u8 = 1;
+/// One of the two inner parts.
+pub const OR: u8 = 2;
+/// The reverse of the inner part.
+pub const NOT: u8 = 3;
+/// Left value compared with right value.
+pub const COMPARISON: u8 = 4;
+/// Left value is blank.
+pub const IS_NULL: u8 = 5;
+/// Left value is not blank.
+pub const IS_NOT_NULL: u8 = 6;
+/// Some row of the table is retained by the inner part.
+pub const EXISTS: u8 = 7;
+/// Left value compared with the selected value of some retained row.
+pub const SOME: u8 = 8;
+/// Left value compared with the selected value of every retained row.
+pub const ALL: u8 = 9;
+
+/// One part of an accepted rule: an OR, an AND, a NOT or a test. Unused fields are 0.
+#[derive(Clone, Copy, Debug, Default, PartialEq, Eq)]
+pub struct Part {
+    /// 1 and, 2 or, 3 not, 4 comparison, 5 IS NULL, 6 IS NOT NULL, 7 exists, 8 some, 9 all.
+    pub kind: u8,
+    /// 1 `=`, 2 `<>`, 3 `<`, 4 `<=`, 5 `>`, 6 `>=`; used by kinds 4, 8 and 9.
+    pub comparison: u8,
+    /// The table of the FROM, counted from 1; used by kinds 7, 8 and 9.
+    pub table: u8,
+    /// The number of the first part after this one and its inner parts.
+    pub end: u8,
+    /// Used by kinds 4, 5, 6, 8 and 9.
+    pub left: Value,
+    /// Used by kind 4, and by kinds 8 and 9 for the selected value.
+    pub right: Value,
+}
+
+impl Part {
+    /// A part of this kind with all other fields still 0.
+    pub(crate) fn of(kind: u8) -> Part {
+        Part { kind, ..Part::default() }
+    }
+}

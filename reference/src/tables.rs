@@ -1,0 +1,132 @@
+//! The tables file (section "Tables"): sizes first, then the values and the marks of all cells.
+
+use crate::refusal::{self, Refusal};
+use crate::value::{Value, CONSTANT, MOST_LEVELS};
+
+/// The table whose rows are judged, at level 0.
+pub const JUDGED_TABLE: u8 = 1;
+/// At most this many tables.
+pub const MOST_TABLES: usize = 8;
+/// At most this many columns in a table.
+pub const MOST_COLUMNS: usize = 16;
+/// At most this many rows in a table.
+const MOST_ROWS: usize = 1_000;
+/// At most this many cells over all tables.
+const MOST_CELLS: usize = 8_192;
+/// Bytes of the sizes of one table: columns, then rows in two bytes.
+const SIZE_BYTES: usize = 3;
+/// Bytes of the value of one cell.
+const VALUE_BYTES: usize = 4;
+/// The highest mark: 0 is present, 1 is blank.
+const BLANK: u8 = 1;
+
+/// For each level the number of the first cell of the row that it stands at.
+pub type Levels = [usize; MOST_LEVELS];
+
+/// The window on one table: where its cells begin, and its sizes.
+#[derive(Clone, Copy, Debug)]
+pub struct Window {
+    first: usize,
+    columns: usize,
+    rows: usize,
+}
+
+impl Window {
+    /// How many columns the table has.
+    pub fn columns(&self) -> usize {
+        self.columns
+    }
+
+    /// How many rows the table has.
+    pub fn rows(&self) -> usize {
+        self.rows
+    }
+
+    /// The number of the first cell of a row.
+    #[inline]
+    pub fn row(&self, row: usize) -> usize {
+        self.first + row * self.columns
+    }
+
+    /// The numbers of the first cells of all rows, in order.
+    #[inline]
+    pub fn each_row(self) -> impl Iterator<Item = usize> {
+        (0..self.rows).map(move |row| self.row(row))
+    }
+}
+
+/// A tables file without refusal 1 or 2: the sizes decoded, the cells left where they stand.
+#[derive(Debug)]
+pub struct Tables<'a> {
+    windows: Vec<Window>,
+    values: &'a [[u8; VALUE_BYTES]],
+    marks: &'a [u8],
+}
+
+impl<'a> Tables<'a> {
+    /// Reads a tables file: refusal 1 for sizes or length, refusal 2 for a mark.
+    pub fn read(bytes: &'a [u8]) -> Result<Tables<'a>, Refusal> {
+        let (windows, cells) = sizes(bytes).ok_or(refusal::TABLES)?;
+        let (values, marks) = cells.split_at(cells.len() / (VALUE_BYTES + 1) * VALUE_BYTES);
+        if marks.iter().copied().fold(0, u8::max) > BLANK {
+            return Err(refusal::MARK);
+        }
+        let (values, _) = values.as_chunks();
+        Ok(Tables { windows, values, marks })
+    }
+
+    /// The windows on all tables, table 1 first.
+    pub fn windows(&self) -> &[Window] {
+        &self.windows
+    }
+
+    /// The window on a table that exists, counted from 1.
+    #[inline]
+    pub fn window(&self, table: u8) -> Window {
+        self.windows[usize::from(table) - 1]
+    }
+
+    /// The window on table 1, whose rows are judged.
+    pub fn judged(&self) -> Window {
+        self.window(JUDGED_TABLE)
+    }
+
+    /// The number in a cell, or none where the cell is blank: then its value bytes affect no answer.
+    #[inline]
+    fn cell(&self, cell: usize) -> Option<i32> {
+        (self.marks[cell] != BLANK).then(|| i32::from_le_bytes(self.values[cell]))
+    }
+
+    /// The number that a value stands for with the levels at these rows, or none where it is blank. A constant never is.
+    #[inline]
+    pub fn value(&self, value: Value, levels: &Levels) -> Option<i32> {
+        if value.tag == CONSTANT {
+            Some(value.number)
+        } else {
+            self.cell(levels[usize::from(value.tag)] + value.number as usize - 1)
+        }
+    }
+}
+
+/// Decodes the sizes and parts them from the bytes of the cells; none if a size or the length is wrong.
+fn sizes(bytes: &[u8]) -> Option<(Vec<Window>, &[u8])> {
+    let (&count, rest) = bytes.split_first()?;
+    let count = usize::from(count);
+    if !(1..=MOST_TABLES).contains(&count) {
+        return None;
+    }
+    let (sizes, cell_bytes) = rest.split_at_checked(SIZE_BYTES * count)?;
+    let mut windows = Vec::with_capacity(count);
+    let mut cells = 0;
+    for &[columns, low, high] in sizes.as_chunks::<SIZE_BYTES>().0 {
+        let columns = usize::from(columns);
+        let rows = usize::from(u16::from_le_bytes([low, high]));
+        if !(1..=MOST_COLUMNS).contains(&columns) || rows > MOST_ROWS {
+            return None;
+        }
+        windows.push(Window { first: cells, columns, rows });
+        cells += columns * rows;
+    }
+    let fits = cells <= MOST_CELLS && cell_bytes.len() == cells * (VALUE_BYTES + 1);
+    fits.then_some((windows, cell_bytes))
+}

@@ -1,0 +1,95 @@
+/* How much of its stack a thread has touched after each call is within what the header says, on rules and a card that are as deep as the limits allow. */
+#include "../../bench/shared.h"
+#include "expect.h"
+
+enum { MOST_OF_RULES = 80 << 10, MOST_OF_CARDS = 40 << 10, ROW_ENTRIES = 3, PAIRS = 94, ENTRIES = ROW_ENTRIES + 2 * PAIRS + 1 };
+
+static const uint8_t one_row[] = {1, 1, 1, 0, 1, 0, 0, 0, 0};
+static char text[2048];
+static uint8_t card[ROSKUDLA_MOST_CARD_BYTES];
+static size_t card_len;
+
+static void times(const char *word, int count) {
+    while (count-- > 0) strcat(text, word);
+}
+
+static void *nothing(void *unused) { return unused; }
+
+static void *read_rule(void *unused) {
+    struct roskudla_part parts[ROSKUDLA_MOST_PARTS];
+    size_t count;
+    if (roskudla_read((const uint8_t *)text, strlen(text), one_row, sizeof one_row, parts, ROSKUDLA_MOST_PARTS, &count)) exit(3);
+    return unused;
+}
+
+static void *judge_rule(void *unused) {
+    uint8_t value;
+    if (roskudla_judge((const uint8_t *)text, strlen(text), one_row, sizeof one_row, 0, &value)) exit(3);
+    return unused;
+}
+
+static void *make_card(void *unused) {
+    static uint8_t made[ROSKUDLA_MOST_CARD_BYTES];
+    size_t length;
+    if (roskudla_card((const uint8_t *)text, strlen(text), one_row, sizeof one_row, made, sizeof made, &length)) exit(3);
+    return unused;
+}
+
+static void *check_card(void *unused) {
+    if (roskudla_check(card, card_len)) exit(3);
+    return unused;
+}
+
+static void *run_card(void *unused) {
+    uint8_t answer;
+    if (roskudla_run(card, card_len, one_row, sizeof one_row, 0, &answer)) exit(3);
+    return unused;
+}
+
+static void *list_card(void *unused) {
+    uint32_t rows[1];
+    size_t count;
+    if (roskudla_list(card, card_len, one_row, sizeof one_row, rows, 1, &count)) exit(3);
+    return unused;
+}
+
+/* three row entries around one another, in them pairs each in the right side of the one before; the left sides and the last one ask whether 1 is not blank */
+static void deepest_card(void) {
+    uint8_t *kinds = card + 4, *records = kinds + ENTRIES;
+    int number;
+    card[0] = ENTRIES, card[1] = 0, card[2] = 1, card[3] = 1;
+    for (number = 0; number < ENTRIES; number++) {
+        uint8_t *record = records + 14 * number;
+        int leaf = number == ENTRIES - 1 || (number >= ROW_ENTRIES && (number - ROW_ENTRIES) % 2 == 1);
+        kinds[number] = leaf ? 8 : number < ROW_ENTRIES ? 3 : 1;
+        record[0] = leaf ? number + 1 : ENTRIES;
+        record[2] = number < ROW_ENTRIES;
+        if (leaf) record[4] = 255, record[5] = 1;
+    }
+    card_len = 4 + 15 * ENTRIES;
+}
+
+static void rule_within(const char *name) {
+    size_t of_read = touched(read_rule), of_judge = touched(judge_rule), of_card = touched(make_card);
+    printf("stack: %s: READ %zu, JUDGE %zu, CARD %zu bytes\n", name, of_read, of_judge, of_card);
+    EXPECT(of_read <= MOST_OF_RULES && of_judge <= MOST_OF_RULES && of_card <= MOST_OF_RULES);
+    text[0] = 0;
+}
+
+int main(void) {
+    size_t of_nothing = touched(nothing), of_check, of_run, of_list;
+    times("NOT ", 63), times("1=1", 1);
+    rule_within("63 NOTs");
+    times("EXISTS(FROM 1 a WHERE ", 3), times("NOT ", 30), times("(", 29), times("NOT ", 30), times("1=1", 1), times(")", 32);
+    rule_within("three FROMs, 60 NOTs and 29 brackets");
+    times("(1=1 OR ", 31), times("1=1", 1), times(")", 31);
+    rule_within("31 ORs, each in the one before");
+    times("1=SOME(SELECT 1 FROM 1 a WHERE ", 3), times("(1=1 AND ", 29), times("1=1", 1), times(")", 32);
+    rule_within("three lists around 29 ANDs");
+    deepest_card();
+    of_check = touched(check_card), of_run = touched(run_card), of_list = touched(list_card);
+    printf("stack: the deepest card: CHECK %zu, RUN %zu, LIST %zu bytes; a thread that calls nothing: %zu\n", of_check, of_run, of_list, of_nothing);
+    EXPECT(of_check <= MOST_OF_CARDS && of_run <= MOST_OF_CARDS && of_list <= MOST_OF_CARDS);
+    EXPECT(of_check > of_nothing + ENTRIES);
+    return report("stack");
+}

@@ -1,0 +1,112 @@
+"""What a rule is made of, told by its written tokens alone: parts, brackets, FROMs and letters. No grammar is needed, since the rules are drawn valid."""
+import typing
+
+import built  # noqa: F401  (it adds the folders of the calls and of the model to the path)
+
+import model
+
+SIGNS = tuple(model.COMPARISONS)
+EDGE = 2**31 - 2
+
+
+class From(typing.NamedTuple):
+    """A FROM: its table and letter, and the letters that are bound around it, the innermost last."""
+    table: int
+    letter: str
+    outer: tuple
+
+
+def part_count(tokens):
+    """Every OR, AND, NOT and test. The NOT of NOT IN and of IS NOT NULL is none of its own, nor is SOME or ALL beside its sign."""
+    followed = zip(tokens, tokens[1:] + [""])
+    return sum(
+        token in ("AND", "OR", "EXISTS", "IS", "IN") or token in SIGNS or token == "NOT" and after not in ("IN", "NULL") for token, after in followed)
+
+
+def most_open(tokens):
+    """The most brackets that are open together."""
+    opened, most = 0, 0
+    for token in tokens:
+        opened += (token == "(") - (token == ")")
+        most = max(most, opened)
+    return most
+
+
+def scopes(tokens):
+    """Each token's place, with the letters that are bound there, the innermost last; a FROM's letter is bound behind its FROM, up to its bracket's end."""
+    bound, opened = [(0, "m")], 0
+    for place, token in enumerate(tokens):
+        opened += token == "("
+        yield place, tuple(letter for _, letter in bound)
+        if token == "FROM":
+            bound.append((opened, tokens[place + 2]))
+        if token == ")":
+            if bound[-1][0] == opened:
+                bound.pop()
+            opened -= 1
+
+
+def froms(tokens):
+    """The FROMs of a rule."""
+    return [From(int(tokens[place + 1]), tokens[place + 2], outer) for place, outer in scopes(tokens) if tokens[place] == "FROM"]
+
+
+def depth(tokens):
+    """How many FROMs stand around one another at most."""
+    return max((len(source.outer) for source in froms(tokens)), default=0)
+
+
+def refusal(tokens, text):
+    """The number that READ refuses a drawn rule with, which may only be too large; None if it is to be accepted."""
+    if len(text) > model.MOST_TEXT_BYTES:
+        return 3
+    if most_open(tokens) > model.MOST_OPEN_BRACKETS:
+        return 5
+    return 7 if part_count(tokens) > model.MOST_PARTS or depth(tokens) > model.MOST_FROMS else None
+
+
+# ---- what is counted
+
+def forms(tokens):
+    """The forms of test in a rule, each comparison and each SOME and ALL with its sign too."""
+    found = set()
+    for place, token in enumerate(tokens):
+        before, after = tokens[place - 1] if place > 0 else "", tokens[place + 1] if place + 1 < len(tokens) else ""
+        if token == "EXISTS":
+            found.add("EXISTS")
+        elif token == "IN":
+            found.add("NOT IN" if before == "NOT" else "IN")
+        elif token == "IS":
+            found.add("IS NULL" if after == "NULL" else "IS NOT NULL")
+        elif token in SIGNS:
+            found.update([after, f"{token} {after}"] if after in ("SOME", "ALL") else [f"comparison {token}"])
+    return found
+
+
+def left_letter(tokens, place):
+    """The letter of the value left of a list whose SELECT is at a place, or None if that value is a number."""
+    words = 3 if tokens[place - 2] == "IN" and tokens[place - 3] != "NOT" else 4
+    end = place - words + 1
+    return tokens[end - 3] if end >= 3 and tokens[end - 2] == "." else None
+
+
+def list_letter(tokens, place):
+    """The letter that the list binds whose SELECT is at a place."""
+    return tokens[tokens.index("FROM", place) + 2]
+
+
+def traits(tokens):
+    """What is worth counting of the letters and numbers in a rule."""
+    found = set()
+    for source in froms(tokens):
+        if source.letter in source.outer:
+            found.update(["a letter bound again"] + ["m bound again"] * (source.letter == "m"))
+    for place, bound in scopes(tokens):
+        token = tokens[place]
+        if token == "SELECT" and left_letter(tokens, place) == list_letter(tokens, place):
+            found.add("left of a list, the letter that the list binds")
+        if tokens[place + 1:place + 2] == ["."] and token != bound[-1] and tokens[place - 1] != "SELECT":
+            found.add("a column of an outer row")
+        if token[-1].isdigit() and abs(int(token)) >= EDGE:
+            found.add("a number at an end of the range")
+    return found
