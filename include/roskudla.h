@@ -1,8 +1,9 @@
 /* Roskudla: entry rules with blanks, turned into cards that answer yes or no.
  *
  * Six calls. Each returns 0, or the number of a refusal (1 to 12, below): the lowest that applies. The answer comes through pointers, and a
- * refusal leaves everything that they point to as it was; after a success what lies past the answer is untouched. What rules, tables and
- * cards are, byte by byte, is in README.md and in what it leads to.
+ * refusal leaves everything that they point to as it was; after a success what lies past the answer is untouched. The grammar of
+ * rules and the bytes of tables and cards are defined in crates/rule/specs, crates/tables/specs and crates/card/specs; docs/ARCHITECTURE.md has an
+ * index of them.
  *
  * A slice is a pointer and its length, in elements. Where the length is 0 the pointer is not looked at and may be NULL. All other pointers
  * point to as many elements as their length says, or to one where they have no length; they are never NULL, and are aligned as C aligns what

@@ -28,7 +28,7 @@ static int is_part(struct roskudla_part part, long long kind, long long comparis
     return is_kind == kind && is_comparison == comparison && is_table == table && is_end == end;
 }
 
-/* each field has the width and the sign that the call's own fields have; by these alone a struct would be told apart that READ fills rightly by chance */
+/* each field has the width and the sign of the call's own: a wider tag would hold the right number as well, since the bytes behind a tag are 0 as compiled now */
 static void widths_and_signs(void) {
     struct roskudla_part part;
     memset(&part, 0xFF, sizeof part);

@@ -13,43 +13,50 @@ static void times(const char *word, int count) {
     while (count-- > 0) strcat(text, word);
 }
 
+static void must(const char *call, uint32_t status) {
+    if (status != ROSKUDLA_OK) {
+        printf("stack: %s is refused with %u: %s\n", call, (unsigned)status, text);
+        exit(3);
+    }
+}
+
 static void *nothing(void *unused) { return unused; }
 
 static void *read_rule(void *unused) {
     struct roskudla_part parts[ROSKUDLA_MOST_PARTS];
     size_t count;
-    if (roskudla_read((const uint8_t *)text, strlen(text), one_row, sizeof one_row, parts, ROSKUDLA_MOST_PARTS, &count)) exit(3);
+    must("read", roskudla_read((const uint8_t *)text, strlen(text), one_row, sizeof one_row, parts, ROSKUDLA_MOST_PARTS, &count));
     return unused;
 }
 
 static void *judge_rule(void *unused) {
     uint8_t value;
-    if (roskudla_judge((const uint8_t *)text, strlen(text), one_row, sizeof one_row, 0, &value)) exit(3);
+    must("judge", roskudla_judge((const uint8_t *)text, strlen(text), one_row, sizeof one_row, 0, &value));
     return unused;
 }
 
 static void *make_card(void *unused) {
     static uint8_t made[ROSKUDLA_MOST_CARD_BYTES];
     size_t length;
-    if (roskudla_card((const uint8_t *)text, strlen(text), one_row, sizeof one_row, made, sizeof made, &length)) exit(3);
+    must("card", roskudla_card((const uint8_t *)text, strlen(text), one_row, sizeof one_row, made, sizeof made, &length));
     return unused;
 }
 
 static void *check_card(void *unused) {
-    if (roskudla_check(card, card_len)) exit(3);
+    must("check", roskudla_check(card, card_len));
     return unused;
 }
 
 static void *run_card(void *unused) {
     uint8_t answer;
-    if (roskudla_run(card, card_len, one_row, sizeof one_row, 0, &answer)) exit(3);
+    must("run", roskudla_run(card, card_len, one_row, sizeof one_row, 0, &answer));
     return unused;
 }
 
 static void *list_card(void *unused) {
     uint32_t rows[1];
     size_t count;
-    if (roskudla_list(card, card_len, one_row, sizeof one_row, rows, 1, &count)) exit(3);
+    must("list", roskudla_list(card, card_len, one_row, sizeof one_row, rows, 1, &count));
     return unused;
 }
 

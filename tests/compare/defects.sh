@@ -1,7 +1,7 @@
 #!/usr/bin/env bash
 # Shows that the drawn inputs reach what matters: each defect of defects/ is put into a copy of the reference, and the comparing
 # program built with that copy must find a difference within 200,000 inputs. A defect is a file of three lines: `file:` names a file
-# of the reference, `old:` a text that stands in it exactly once, `new:` what stands there instead.
+# of the reference, `old:` a text that stands in it exactly once, `new:` what stands there instead. That all of them fit is looked at first.
 #
 #   defects.sh [NAME ...]     tries the named defects, or all
 set -u
@@ -50,6 +50,14 @@ run() { # run: builds the program with the copy as it is and compares
 if [ $# -gt 0 ]; then defects=("${@/%/.edit}"); defects=("${defects[@]/#/$here/defects/}"); else defects=("$here"/defects/*.edit); fi
 
 bad=0
+for defect in "$here"/defects/*.edit; do
+  if apply "$defect"; then restore "$defect"; else
+    echo "defects: $(basename "$defect" .edit) does not fit: its old text does not stand exactly once in its file"
+    bad=1
+  fi
+done
+[ "$bad" -eq 0 ] || exit 1
+
 run
 status=$?
 if [ "$status" -ne 0 ]; then
@@ -59,11 +67,7 @@ if [ "$status" -ne 0 ]; then
 fi
 for defect in "${defects[@]}"; do
   name=$(basename "$defect" .edit)
-  if ! apply "$defect"; then
-    echo "defects: $name does not fit: its old text does not stand exactly once in its file"
-    bad=1
-    continue
-  fi
+  apply "$defect" || { echo "defects: there is no $name"; bad=1; continue; }
   run
   status=$?
   seen=$(sed -n 's/^compare: a difference after \([0-9]*\) inputs.*/\1/p' "$work/compare.log")

@@ -1,4 +1,4 @@
-"""What occurred in a comparison, so that none passes over little: rules by their forms, depths, names and values, values, and tables."""
+"""What occurred in a comparison: rules by their forms, depths, names and values, values, and tables. A comparison with too little of one fails."""
 import collections
 import textwrap
 

@@ -14,7 +14,7 @@ PROGRAMS = ("initdb", "postgres", "pg_isready", "psql")
 SERVER_USERS = ("postgres", "nobody")
 START_SECONDS = 60
 STOP_SECONDS = 30
-# What is lost when the machine stops is of no use to anybody. Queries are small and many: compiling one, or sharing it out, takes longer than running it.
+# Nothing of the server is kept, so nothing needs to reach the disk. Queries are small and many: compiling one, or sharing it out, takes longer than running it.
 SETTINGS = (
     "listen_addresses=", "fsync=off", "synchronous_commit=off", "full_page_writes=off", "autovacuum=off", "jit=off",
     "max_parallel_workers_per_gather=0", "max_connections=5", "shared_buffers=32MB")

@@ -2,15 +2,10 @@
 from built import Disagreement  # (built adds the folders of the calls and of the model to the path)
 
 import model
-from test_model import sql_of_tokens
+from test_model import sql_of_tokens as condition_of  # noqa: F401  (the condition in SQL of a rule's tokens; SOME and ALL stay as they are)
 
 SEPARATOR = "="
 TRUTHS = {"t": model.TRUE, "f": model.FALSE, "U": model.UNKNOWN}
-
-
-def condition_of(tokens):
-    """The condition in SQL of a rule's tokens; what is not a name or a number stays as it is, SOME and ALL too."""
-    return sql_of_tokens(tokens)
 
 
 def cell_sql(cell):

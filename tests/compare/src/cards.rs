@@ -1,17 +1,14 @@
 //! Drawing of cards: sound ones as trees of entries, and damaged ones of each sort.
 
 use crate::draw::Draw;
+use crate::limits::{card_bytes, ENTRY_BYTES, MOST_COLUMNS, MOST_ENTRIES, RECORD_BYTES};
 use crate::rules::Bounds;
 use crate::tables::{self, Size};
-
-/// The most entries of a sound card.
-const MOST_ENTRIES: usize = 192;
 
 /// The tag of a constant.
 const CONSTANT: u8 = 255;
 
-/// The bytes of one record, and the places of its fields in it.
-const RECORD: usize = 14;
+/// The places of fields in a record.
 const TABLE: usize = 2;
 const COMPARISON: usize = 3;
 const LEFT: usize = 4;
@@ -54,7 +51,7 @@ pub fn entry_count(draw: &mut Draw) -> usize {
         1 => draw.between(2, 6),
         2 => draw.between(7, 20),
         3 => draw.between(21, 100),
-        _ => draw.pick(&[180, 190, 191, 192, 192]),
+        _ => draw.pick(&[MOST_ENTRIES - 12, MOST_ENTRIES - 2, MOST_ENTRIES - 1, MOST_ENTRIES, MOST_ENTRIES]),
     }
 }
 
@@ -142,7 +139,7 @@ impl Tree<'_> {
 
 /// The bytes of a card with these entries.
 fn written(sizes: &[Size], entries: &[Entry]) -> Vec<u8> {
-    let mut bytes = Vec::with_capacity(3 + sizes.len() + 15 * entries.len());
+    let mut bytes = Vec::with_capacity(card_bytes(sizes.len(), entries.len()));
     bytes.extend_from_slice(&(entries.len() as u16).to_le_bytes());
     bytes.push(sizes.len() as u8);
     bytes.extend(sizes.iter().map(|size| size.columns as u8));
@@ -171,7 +168,7 @@ impl Sheet {
     }
 
     fn record_at(&self, entry: usize) -> usize {
-        3 + self.tables + self.count + RECORD * entry
+        3 + self.tables + self.count + RECORD_BYTES * entry
     }
 
     fn kind(&self, entry: usize) -> u8 {
@@ -220,7 +217,7 @@ pub fn damaged(draw: &mut Draw, bytes: Vec<u8>) -> Vec<u8> {
         6 => unused_byte(draw, &mut sheet),
         7 => bad_count(draw, &mut sheet),
         8 => sheet.bytes[2] = draw.pick(&[0, 9, 255, tables as u8 + 1, tables as u8 - 1]),
-        9 => sheet.bytes[3 + draw.below(tables)] = draw.pick(&[0, 0, 17, 17, 255, 1]),
+        9 => sheet.bytes[3 + draw.below(tables)] = draw.pick(&[0, 0, MOST_COLUMNS as u8 + 1, MOST_COLUMNS as u8 + 1, 255, 1]),
         10 => bad_length(draw, &mut sheet),
         _ => {
             let place = draw.below(sheet.bytes.len());
@@ -277,7 +274,8 @@ fn bad_column(draw: &mut Draw, sheet: &mut Sheet) {
     let around = sheet.columns_around(entry);
     let level = draw.below(around.len());
     let columns = i32::from(around[level]);
-    let bad = draw.pick(&[0, 0, columns + 1, columns + 1, columns + 1, 17, -1, 256, 257, 65537, 0x0100_0001, i32::MIN + 1]);
+    let bad =
+        draw.pick(&[0, 0, columns + 1, columns + 1, columns + 1, MOST_COLUMNS as i32 + 1, -1, 256, 257, 65537, 0x0100_0001, i32::MIN + 1]);
     sheet.bytes[at] = level as u8;
     sheet.bytes[at + 1..at + 5].copy_from_slice(&bad.to_le_bytes());
 }
@@ -308,9 +306,9 @@ fn bad_length(draw: &mut Draw, sheet: &mut Sheet) {
     let length = sheet.bytes.len();
     match draw.below(5) {
         0 => sheet.bytes.push(draw.pick(&[0, 0, 1])),
-        1 => sheet.bytes.extend(vec![0; draw.pick(&[14, 15])]),
+        1 => sheet.bytes.extend(vec![0; draw.pick(&[RECORD_BYTES, ENTRY_BYTES])]),
         2 => sheet.bytes.truncate(length - 1),
-        3 => sheet.bytes.truncate(length - draw.pick(&[14, 15])),
+        3 => sheet.bytes.truncate(length - draw.pick(&[RECORD_BYTES, ENTRY_BYTES])),
         _ => sheet.bytes.truncate(draw.below(length)),
     }
 }

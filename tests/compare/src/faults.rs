@@ -1,14 +1,9 @@
 //! Drawing of texts that are no rules, or nearly none: damaged ones, ones near a limit, ones with two faults, tokens and bytes at random.
 
 use crate::draw::Draw;
-use crate::rules::{self, Bounds, Token, MOST_OPEN, SIGNS};
+use crate::limits::{MOST_OPEN, MOST_PARTS, MOST_TEXT_BYTES};
+use crate::rules::{self, Bounds, Token, SIGNS};
 use crate::tables::Size;
-
-/// The longest text.
-const MOST_BYTES: usize = 4096;
-
-/// The most parts.
-const MOST_PARTS: usize = 64;
 
 const WORDS: [&str; 12] = ["AND", "OR", "NOT", "EXISTS", "IN", "SOME", "ALL", "IS", "NULL", "SELECT", "FROM", "WHERE"];
 const LOOSE: [&str; 16] = ["(", ")", ".", "(", ")", ".", "m", "m", "v", "k", "1", "1", "2", "0", "-1", "3"];
@@ -52,12 +47,12 @@ const EXAMPLES: [&str; 18] = [
     "m.2=ALL(SELECT v.1 FROM 2 v WHERE v.1 IS NULL)",
 ];
 
-/// A text of the paper's own.
+/// A text of the paper's own, or its nearest neighbour.
 pub fn example(draw: &mut Draw) -> Vec<u8> {
     match draw.below(EXAMPLES.len() + 3) {
-        0 => vec![b' '; MOST_BYTES + 1],
+        0 => vec![b' '; MOST_TEXT_BYTES + 1],
         1 => vec![b'('; MOST_OPEN + 1],
-        2 => ["1 = 1"; 33].join(" OR ").into_bytes(),
+        2 => ["1 = 1"; MOST_PARTS / 2 + 1].join(" OR ").into_bytes(),
         place => EXAMPLES[place - 3].into(),
     }
 }
@@ -84,7 +79,7 @@ pub fn random_bytes(draw: &mut Draw) -> Vec<u8> {
     let length = match draw.weighted(&[80, 15, 5]) {
         0 => draw.below(14),
         1 => draw.below(100),
-        _ => draw.between(MOST_BYTES - 4, MOST_BYTES + 4),
+        _ => draw.between(MOST_TEXT_BYTES - 4, MOST_TEXT_BYTES + 4),
     };
     if draw.percent(40) {
         return draw.bytes(length);
@@ -164,7 +159,7 @@ pub fn near_limit(draw: &mut Draw, sizes: &[Size], bounds: Bounds) -> Vec<u8> {
         3 => many_brackets(draw, sizes, bounds),
         4 => {
             let tokens = rules::rule(draw, sizes, parts, bounds);
-            let length = draw.between(MOST_BYTES - 1, MOST_BYTES + 2);
+            let length = draw.between(MOST_TEXT_BYTES - 1, MOST_TEXT_BYTES + 2);
             rules::stretched(draw, &tokens, length)
         }
         5 => {
@@ -198,7 +193,7 @@ fn vast(draw: &mut Draw) -> Vec<u8> {
         ("1", "=1", ""),
         ("1=", "0 ", ""),
     ]);
-    let most = (MOST_BYTES - first.len() - last.len()) / again.len();
+    let most = (MOST_TEXT_BYTES - first.len() - last.len()) / again.len();
     let times = if draw.percent(50) { most + draw.below(2) } else { draw.between(0, most) };
     format!("{first}{}{last}", again.repeat(times)).into_bytes()
 }
@@ -323,7 +318,7 @@ pub fn several_faults(draw: &mut Draw, sizes: &[Size], bounds: Bounds) -> Vec<u8
         }
     }
     if long {
-        let length = draw.between(MOST_BYTES, MOST_BYTES + 2);
+        let length = draw.between(MOST_TEXT_BYTES, MOST_TEXT_BYTES + 2);
         return rules::stretched(draw, &tokens, length);
     }
     rules::spaced(draw, &tokens)

@@ -1,6 +1,7 @@
 //! One input: a call with its bytes, its row and the length of its lent buffer; and the mixture that inputs are drawn from.
 
 use crate::draw::Draw;
+use crate::limits::{card_bytes, MOST_ENTRIES, MOST_PARTS, MOST_ROWS, MOST_TABLES, MOST_TEXT_BYTES};
 use crate::rules::{self, Bounds};
 use crate::tables::{self, Size};
 use crate::{cards, faults};
@@ -14,6 +15,9 @@ pub enum Call {
     Run,
     List,
 }
+
+/// The bytes of the longest sound card.
+const MOST_CARD_BYTES: usize = card_bytes(MOST_TABLES, MOST_ENTRIES);
 
 pub const CALLS: [Call; 6] = [Call::Read, Call::Judge, Call::Card, Call::Check, Call::Run, Call::List];
 
@@ -35,7 +39,7 @@ pub struct Input {
 /// Input number `number` of a seed. The calls take turns.
 pub fn input(seed: u64, number: u64) -> Input {
     let mut draw = Draw::new(seed, number);
-    let call = CALLS[(number % 6) as usize];
+    let call = CALLS[number as usize % CALLS.len()];
     let (shift, salt) = (draw.below(8), draw.word() as u8);
     let mut input = Input { call, text: Vec::new(), tables: Vec::new(), card: Vec::new(), row: 0, lent: 0, shift, salt };
     match call {
@@ -103,7 +107,7 @@ fn right_text(draw: &mut Draw, sizes: &[Size], bounds: Bounds) -> Vec<u8> {
     let parts = part_count(draw, sizes);
     let tokens = rules::rule(draw, sizes, parts, bounds);
     if draw.below(200) == 0 {
-        let length = draw.between(3000, 4096);
+        let length = draw.between(3000, MOST_TEXT_BYTES);
         return rules::stretched(draw, &tokens, length);
     }
     rules::spaced(draw, &tokens)
@@ -185,10 +189,9 @@ fn rule_card(draw: &mut Draw, sizes: &[Size], bounds: Bounds) -> Option<Vec<u8>>
     let tokens = rules::rule(draw, sizes, parts, bounds);
     let text = rules::spaced(draw, &tokens);
     let empty: Vec<Size> = sizes.iter().map(|size| Size { rows: 0, ..*size }).collect();
-    let mut card = vec![0; 3 + sizes.len() + 15 * 192];
+    let mut card = [0; MOST_CARD_BYTES];
     let length = reference::card(&text, &tables::head(&empty), &mut card).ok()?;
-    card.truncate(length);
-    Some(card)
+    Some(card[..length].to_vec())
 }
 
 /// A card that is mostly not sound.
@@ -229,8 +232,8 @@ fn row(draw: &mut Draw, tables: &[u8]) -> usize {
 /// Elements to lend: about as many as the answer takes, or none, or more than any answer takes, or more than a byte or two can count.
 fn lent(draw: &mut Draw, input: &Input) -> usize {
     let (most, huge) = match input.call {
-        Call::Read => (64, 256),
-        Call::Card => (3000, 65536),
+        Call::Read => (MOST_PARTS, 256),
+        Call::Card => (MOST_CARD_BYTES, 65536),
         _ => (rows_of_first(&input.tables), 65536),
     };
     match draw.weighted(&[180, 12, 148, 59, 1]) {
@@ -248,9 +251,9 @@ fn lent(draw: &mut Draw, input: &Input) -> usize {
 /// How many elements the answer takes, if there is one: found by lending enough.
 fn needed(input: &Input) -> Option<usize> {
     let answer = match input.call {
-        Call::Read => reference::read(&input.text, &input.tables, &mut [reference::Part::default(); 64]),
-        Call::Card => reference::card(&input.text, &input.tables, &mut [0; 3000]),
-        _ => reference::list(&input.card, &input.tables, &mut [0; 1000]),
+        Call::Read => reference::read(&input.text, &input.tables, &mut [reference::Part::default(); MOST_PARTS]),
+        Call::Card => reference::card(&input.text, &input.tables, &mut [0; MOST_CARD_BYTES]),
+        _ => reference::list(&input.card, &input.tables, &mut [0; MOST_ROWS]),
     };
     answer.ok()
 }

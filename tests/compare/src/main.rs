@@ -1,7 +1,7 @@
 //! Compares the six calls of the library with the reference, on inputs that are drawn from a seed.
 //!
 //!     compare --seed S --inputs N [--from K] [--threads 2]     compares inputs K to K + N - 1 of the seed
-//!     compare --seed S --inputs N --seconds T [--least M]      the same for at most T seconds, but at least M inputs
+//!     compare --seed S --inputs N --seconds T [--least M]      the same for T seconds at the most, or longer, until M were compared
 //!     compare --seed S --only K                                compares input K alone and prints it with both answers
 //!
 //! It ends with 0 if both sides agree on every input and every outcome that a call can have was seen, else with 1; with 2 if it is
@@ -13,6 +13,7 @@ mod cards;
 mod draw;
 mod faults;
 mod inputs;
+mod limits;
 mod outcomes;
 mod rules;
 mod tables;
@@ -97,7 +98,8 @@ fn work(order: &Order, shared: &Shared, at: &AtomicU64, started: Instant) {
     let end = order.from + order.inputs;
     while !shared.stop.load(Ordering::Relaxed) {
         let first = shared.next.fetch_add(BATCH, Ordering::Relaxed);
-        if first >= end || order.seconds.is_some_and(|seconds| started.elapsed() >= Duration::from_secs(seconds)) {
+        let time_is_over = order.seconds.is_some_and(|seconds| started.elapsed() >= Duration::from_secs(seconds));
+        if first >= end || time_is_over && first >= order.from + order.least {
             break;
         }
         for number in first..end.min(first + BATCH) {

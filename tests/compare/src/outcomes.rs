@@ -12,6 +12,9 @@ pub enum Outcome {
 /// The highest number of a refusal.
 const REFUSALS: usize = 12;
 
+/// The most sorts of answers that a call has.
+const SORTS: usize = 3;
+
 /// The sorts of answers of a call.
 fn answers(call: Call) -> &'static [&'static str] {
     match call {
@@ -46,8 +49,8 @@ pub fn possible(call: Call, outcome: Outcome) -> bool {
 /// Counts of outcomes, for each call by refusal and by sort of answer.
 #[derive(Default)]
 pub struct Tally {
-    refused: [[u64; REFUSALS + 1]; 6],
-    answered: [[u64; 3]; 6],
+    refused: [[u64; REFUSALS + 1]; CALLS.len()],
+    answered: [[u64; SORTS]; CALLS.len()],
 }
 
 impl Tally {
@@ -60,9 +63,9 @@ impl Tally {
     }
 
     pub fn add(&mut self, other: &Tally) {
-        for call in 0..6 {
+        for call in 0..CALLS.len() {
             (0..=REFUSALS).for_each(|number| self.refused[call][number] += other.refused[call][number]);
-            (0..3).for_each(|sort| self.answered[call][sort] += other.answered[call][sort]);
+            (0..SORTS).for_each(|sort| self.answered[call][sort] += other.answered[call][sort]);
         }
     }
 

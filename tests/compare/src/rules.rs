@@ -1,13 +1,11 @@
 //! Drawing of rules from the grammar, as tokens, and of the gaps between the tokens.
 
 use crate::draw::Draw;
+use crate::limits::{MOST_OPEN, MOST_PARTS};
 use crate::tables::{self, Size};
 use std::io::Write;
 
 pub const SIGNS: [&str; 6] = ["=", "<>", "<", "<=", ">", ">="];
-
-/// The most brackets that may stand open.
-pub const MOST_OPEN: usize = 32;
 
 /// One token as it is written. It holds its own bytes, so that lists of tokens are cheap to make and to change.
 #[derive(Clone, Copy)]
@@ -86,14 +84,14 @@ struct Maker<'a> {
     froms: usize,
 }
 
-/// A number of parts, mostly small, at most 64.
+/// A number of parts, mostly small, at most as many as a rule has.
 pub fn part_count(draw: &mut Draw) -> usize {
     match draw.weighted(&[25, 42, 23, 7, 3]) {
         0 => draw.between(1, 3),
         1 => draw.between(4, 8),
         2 => draw.between(9, 20),
         3 => draw.between(21, 55),
-        _ => draw.between(56, 64),
+        _ => draw.between(MOST_PARTS - 8, MOST_PARTS),
     }
 }
 

@@ -1,9 +1,7 @@
 //! Drawing of tables: right ones of every size, and damaged ones.
 
 use crate::draw::Draw;
-
-/// The most cells that a right file has over all.
-const MOST_CELLS: usize = 8192;
+use crate::limits::{MOST_CELLS, MOST_COLUMNS, MOST_ROWS, MOST_TABLES};
 
 /// Values at the ends of a range: of 32 bits, of a byte, of two bytes.
 const EDGES: [i32; 10] = [i32::MIN, i32::MIN + 1, i32::MAX, i32::MAX - 1, 127, 255, 256, -256, 65536, -65536];
@@ -35,7 +33,7 @@ fn columns(draw: &mut Draw) -> usize {
     match draw.weighted(&[85, 10, 5]) {
         0 => draw.between(1, 3),
         1 => draw.between(4, 14),
-        _ => draw.between(15, 16),
+        _ => draw.between(MOST_COLUMNS - 1, MOST_COLUMNS),
     }
 }
 
@@ -76,7 +74,7 @@ fn tall_sizes(draw: &mut Draw) -> Vec<Size> {
     let mut sizes = small_sizes(draw);
     sizes.truncate(draw.between(1, 2));
     let place = draw.below(sizes.len());
-    let rows = draw.pick(&[254, 255, 256, 257, 500, 999, 1000, 1000]);
+    let rows = draw.pick(&[254, 255, 256, 257, 500, MOST_ROWS - 1, MOST_ROWS, MOST_ROWS]);
     sizes[place] = Size { columns: draw.between(1, 3), rows };
     sizes
 }
@@ -84,7 +82,7 @@ fn tall_sizes(draw: &mut Draw) -> Vec<Size> {
 /// Eight tables of sixteen columns, or nearly.
 fn widest_sizes(draw: &mut Draw) -> Vec<Size> {
     let count = draw.between(7, 8);
-    (0..count).map(|_| Size { columns: draw.between(15, 16), rows: few_rows(draw) }).collect()
+    (0..count).map(|_| Size { columns: draw.between(MOST_COLUMNS - 1, MOST_COLUMNS), rows: few_rows(draw) }).collect()
 }
 
 /// As many cells as there may be, or one fewer.
@@ -238,11 +236,14 @@ fn beyond_a_limit(draw: &mut Draw, sizes: &[Size]) -> Vec<u8> {
     let mut sizes = sizes.to_vec();
     let place = draw.below(sizes.len());
     match draw.weighted(&[30, 30, 15, 15, 5, 5]) {
-        0 => sizes[place] = Size { columns: draw.pick(&[17, 17, 18, 255]), rows: draw.between(0, 3) },
+        0 => {
+            sizes[place] =
+                Size { columns: draw.pick(&[MOST_COLUMNS + 1, MOST_COLUMNS + 1, MOST_COLUMNS + 2, 255]), rows: draw.between(0, 3) }
+        }
         1 => sizes[place].columns = 0,
-        2 => sizes[place] = Size { columns: 1, rows: draw.pick(&[1001, 1001, 1002, 1024]) },
-        3 => sizes.resize(draw.pick(&[9, 9, 10, 16]), Size { columns: 1, rows: 1 }),
-        4 => sizes = vec![Size { columns: 16, rows: MOST_CELLS / 16 }, Size { columns: 1, rows: draw.between(1, 2) }],
+        2 => sizes[place] = Size { columns: 1, rows: draw.pick(&[MOST_ROWS + 1, MOST_ROWS + 1, MOST_ROWS + 2, 1024]) },
+        3 => sizes.resize(draw.pick(&[MOST_TABLES + 1, MOST_TABLES + 1, MOST_TABLES + 2, 16]), Size { columns: 1, rows: 1 }),
+        4 => sizes = vec![Size { columns: MOST_COLUMNS, rows: MOST_CELLS / MOST_COLUMNS }, Size { columns: 1, rows: draw.between(1, 2) }],
         _ => sizes.clear(),
     }
     file(draw, &sizes)
@@ -284,7 +285,7 @@ pub fn differing(draw: &mut Draw, sizes: &[Size]) -> Vec<Size> {
             sizes.iter_mut().zip(columns).for_each(|(size, columns)| size.columns = columns);
         }
         3 if other > 1 => sizes[place].columns = other - 1,
-        _ => sizes[place].columns = if other < 16 { other + 1 } else { 1 },
+        _ => sizes[place].columns = if other < MOST_COLUMNS { other + 1 } else { 1 },
     }
     sizes
 }
