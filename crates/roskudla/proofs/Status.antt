@@ -1,0 +1,64 @@
+-- A status of 0 means that there is an answer.
+use mathlib.Core.Path.{_≡_, refl}
+use mathlib.Core.Bool.{Bool, true, false}
+use mathlib.Core.List.{List, [], _∷_, _++_}
+use mathlib.Core.Option.{Option, none, some}
+use Prim.Native.Nat.{ℕ, _<_}
+use native.Mathlib.Omega.{arith}
+use Rattle.tables.specs.Refusals.{Refusal, _if_, firstApplying, unless, lend, lendUnless, tablesRefusals, rowRefusal}
+use Rattle.card.specs.Calls.{checkRefusals, gateRefusals, runRefusals, checkCall, runCall, listCall}
+use Rattle.rule.specs.Calls.{readingRefusals, judgeRefusals, readCall, judgeCall}
+use Rattle.translation.specs.Calls.{cardCall}
+use Rattle.roskudla.specs.Claims.{ZeroIsSuccess, StatusClaim}
+
+-- a refusal that is found has a number above 0
+abbrev Above : Option ℕ → Type 0
+Above o = (n : ℕ) → o ≡ some n → 0 < n
+
+nothing-found : Above (firstApplying [])
+unfolding firstApplying
+nothing-found n e = let z : _≡_ {A = ℕ} 0 1 = cc in absurd (omega arith)
+
+also-above : (m : ℕ) (b : Bool) (rs : List Refusal) → 0 < m → Above (firstApplying rs) → Above (firstApplying ((m if b) ∷ rs))
+unfolding firstApplying
+also-above m true rs h k n e = let z : m ≡ n = cc in omega arith
+also-above m false rs h k n e = k n e
+
+looked : {A : Type 0} (o : Option ℕ) (answer : Unit {0} → A) → Above o → ZeroIsSuccess (unless o answer)
+unfolding unless
+looked none answer h e = refl
+looked (some n) answer h e = let z = h n refl in absurd (omega arith)
+
+lent : {A : Type 0} (o : Option ℕ) (answer buffer : List A) → Above o → ZeroIsSuccess (lendUnless o answer buffer .result)
+lent none answer buffer h e = refl
+lent (some n) answer buffer h e = let z = h n refl in absurd (omega arith)
+
+-- a list of refusals, numbered from 1 on, before others
+module _ (rs : List Refusal) (above : Above (firstApplying rs)) where
+  reading-above : (text file : List ℕ) → Above (firstApplying (readingRefusals text file ++ rs))
+  unfolding readingRefusals tablesRefusals
+  reading-above text file =
+      also-above 1 _ _ (omega arith) (also-above 2 _ _ (omega arith) (also-above 3 _ _ (omega arith) (also-above 4 _ _ (omega arith)
+      (also-above 5 _ _ (omega arith) (also-above 6 _ _ (omega arith) (also-above 7 _ _ (omega arith) (also-above 8 _ _ (omega arith) above)))))))
+
+  gate-above : (card file : List ℕ) → Above (firstApplying (gateRefusals card file ++ rs))
+  unfolding gateRefusals tablesRefusals checkRefusals
+  gate-above card file = also-above 1 _ _ (omega arith) (also-above 2 _ _ (omega arith) (also-above 9 _ _ (omega arith) (also-above 10 _ _ (omega arith) above)))
+
+row-above : (file : List ℕ) (row : ℕ) → Above (firstApplying (rowRefusal file row ∷ []))
+unfolding rowRefusal
+row-above file row = also-above 11 _ [] (omega arith) nothing-found
+
+room-above : (short : Bool) → Above (firstApplying ((12 if short) ∷ []))
+room-above short = also-above 12 short [] (omega arith) nothing-found
+
+pub status-claim : StatusClaim
+unfolding readCall judgeCall cardCall checkCall runCall listCall lend judgeRefusals checkRefusals runRefusals
+status-claim = record {
+  reading = λ text file parts. lent _ _ parts (reading-above _ (room-above _) text file);
+  judging = λ text file row. looked _ _ (reading-above _ (row-above file row) text file);
+  making = λ text file card. lent _ _ card (reading-above _ (room-above _) text file);
+  checking = λ card. looked _ _ (also-above 9 _ [] (omega arith) nothing-found);
+  running = λ card file row. looked _ _ (gate-above _ (row-above file row) card file);
+  listing = λ card file rows. lent _ _ rows (gate-above _ (room-above _) card file);
+}
