@@ -254,8 +254,8 @@ def report_outcomes(counts):
 # ---- running rt
 
 def copy_repository(folder):
-    """The crates, their list and what is proved of them already; no must-fail edits."""
-    without = shutil.ignore_patterns("must-fail")
+    """The crates, their list and what is proved of them already; no must-fail edits, and nothing that cargo built."""
+    without = shutil.ignore_patterns("must-fail", "cargo*")
     shutil.copytree(REPOSITORY / "crates", folder / "crates", ignore=without)
     if (REPOSITORY / "target").exists():
         shutil.copytree(REPOSITORY / "target", folder / "target", ignore=without)
