@@ -5,36 +5,20 @@ import ctypes.util
 import pathlib
 import pickle
 import re
+import sys
 import unittest
 
 import roskudla
 from roskudla import Part, Truth, Value
 
 ROOT = pathlib.Path(__file__).resolve().parents[2]
+sys.path[:0] = [str(ROOT / "tests" / "calls"), str(ROOT / "tests" / "model")]
+
+from paper import CASE_TABLES  # noqa: E402
+from test_model import CASES, WORKED_CARD  # noqa: E402
+
 SHARED = ROOT / "target" / "shared"
-# (1, 5), (2, blank), (3, 0); 1, blank; no rows. Under the blanks stand 7 and 1, which no answer may show
-CASE_TABLES = bytes.fromhex(
-    "03 02 03 00 01 02 00 01 00 00"
-    " 01 00 00 00 05 00 00 00  02 00 00 00 07 00 00 00  03 00 00 00 00 00 00 00  01 00 00 00  01 00 00 00"
-    " 00 00  00 01  00 00  00  01")
 WORKED_TABLES = bytes.fromhex("01 03 00 00")
-WORKED_CARD = bytes.fromhex("01 00 01 03 05 01 00 00 06 00 02 00 00 00 FF 05 00 00 00")
-ALL2 = "(SELECT v.1 FROM 2 v WHERE 1 = 1)"
-ALL3 = "(SELECT v.1 FROM 3 v WHERE 1 = 1)"
-CASES = (
-    ("m.2 > 0", "TUF"),
-    ("NOT m.2 > 0", "FUT"),
-    ("m.2 > 0 OR NOT m.2 > 0", "TUT"),
-    ("m.2 IS NULL", "FTF"),
-    ("m.1 IN " + ALL2, "TUU"),
-    ("m.1 NOT IN " + ALL2, "FUU"),
-    ("m.1 <> ALL (SELECT v.1 FROM 2 v WHERE v.1 = 1)", "FTT"),
-    ("m.2 = ALL " + ALL3, "TTT"),
-    ("m.2 = SOME " + ALL3, "FFF"),
-    ("EXISTS (FROM 2 v WHERE v.1 > 1)", "FFF"),
-    ("NOT EXISTS (FROM 2 v WHERE v.1 > 1)", "TTT"),
-    ("m.1 = SOME (SELECT m.1 FROM 2 m WHERE m.1 = 1)", "TFF"),
-)
 TRUTHS = {"F": Truth.FALSE, "U": Truth.UNKNOWN, "T": Truth.TRUE}
 
 

@@ -1,4 +1,4 @@
-/* How much of its stack a thread has touched after each call is within what the header says, on rules and a card that are as deep as the limits allow. */
+/* How much of its stack a thread has touched after each call is within what the header says, on rules and a card that are as deep as the limits allow, in several ways. */
 #include "../../bench/shared.h"
 #include "expect.h"
 
@@ -89,10 +89,12 @@ int main(void) {
     rule_within("63 NOTs");
     times("EXISTS(FROM 1 a WHERE ", 3), times("NOT ", 30), times("(", 29), times("NOT ", 30), times("1=1", 1), times(")", 32);
     rule_within("three FROMs, 60 NOTs and 29 brackets");
-    times("(1=1 OR ", 31), times("1=1", 1), times(")", 31);
+    times("(1=2 OR ", 31), times("1=1", 1), times(")", 31); /* a left side that is true would end JUDGE there */
     rule_within("31 ORs, each in the one before");
     times("1=SOME(SELECT 1 FROM 1 a WHERE ", 3), times("(1=1 AND ", 29), times("1=1", 1), times(")", 32);
     rule_within("three lists around 29 ANDs");
+    times("1=SOME(SELECT 1 FROM 1 a WHERE ", 3), times("NOT ", 30), times("(", 29), times("NOT ", 30), times("1=1", 1), times(")", 32);
+    rule_within("three lists, 60 NOTs and 29 brackets");
     deepest_card();
     of_check = touched(check_card), of_run = touched(run_card), of_list = touched(list_card);
     printf("stack: the deepest card: CHECK %zu, RUN %zu, LIST %zu bytes; a thread that calls nothing: %zu\n", of_check, of_run, of_list, of_nothing);

@@ -21,7 +21,7 @@ use Rattle.rule.proofs.Accepted.{accepted-allowed}
 use Rattle.parser.proofs.Known.{known}
 use Rattle.translation.specs.Calls.{ruleBytes, cardCall}
 use Rattle.translation.specs.Demand3.{Later, publishedLength, Demand3For}
-use Rattle.translation.proofs.Demand3.{few-lists, demand-3-claim}
+use Rattle.translation.proofs.Demand3.{card-bytes-few, demand-3-claim}
 use Rattle.cells.specs.Reasons.{reasonNumber}
 use Rattle.cells.specs.declared.Reason.{Reason}
 use Rattle.gate.specs.Answers.{listedAnswer}
@@ -60,7 +60,7 @@ module _ (text file : List ℕ) (accepted : Accepted text file) where
   card-short : publishedLength file rule ≤ 2891
   card-short =
       let k = known text file rule accepted (demand-3 .is-rule) in
-      omega (arith, k .few-parts, k .sized .tables-high, few-lists rule)
+      card-bytes-few file rule (k .sized .tables-high) (k .few-parts)
 
   -- the file that the text is accepted with comes later than itself
   later : Later file file

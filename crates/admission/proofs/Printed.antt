@@ -8,12 +8,10 @@ use native.Mathlib.Nat.{le-of-suc-le-suc, not-suc-le-zero}
 use native.Mathlib.Omega.{arith}
 use lib.ListN.{length, getD, take, drop, List·getD-append}
 use lib.Seq.{take-at}
-use Rattle.tables.specs.Lists.{tabulate, put, keep}
 use Rattle.tables.specs.Tables.{columnsOf, sizeAt, rowCount, rowsWhere}
 use Rattle.tables.specs.Refusals.{Given, Lent}
-use Rattle.tables.proofs.Rows.{rows-claim}
+use Rattle.tables.proofs.Rows.{rows-few, rows-claim}
 use Rattle.tables.proofs.Sizes.{count-at}
-use Rattle.tables.proofs.Tabulated.{tabulate-length}
 use Rattle.cells.specs.Code.{Sized}
 use Rattle.cells.specs.Reasons.{reasonNumber}
 use Rattle.cells.specs.declared.Reason.{Reason}
@@ -30,19 +28,7 @@ use Rattle.admission.proofs.Lent.{lent-given, lent-refused}
 use Rattle.admission.proofs.Admitted.{admit-claim}
 use Rattle.admission.proofs.Whole.{output-refused}
 
--- ---- the rows of which a test holds are few, and each is small
-
-keep-few : (p : ℕ → Bool) (xs : List ℕ) → length (keep p xs) ≤ length xs
-keep-few p [] = omega arith
-keep-few p (x ∷ xs) = go (p x) (keep-few p xs)
-  where
-    go : (b : Bool) → length (keep p xs) ≤ length xs → length (put b x (keep p xs)) ≤ suc (length xs)
-    go true h = omega arith
-    go false h = omega arith
-
-rows-few : (file : List ℕ) (p : ℕ → Bool) → length (rowsWhere file p) ≤ rowCount file 1
-unfolding rowsWhere
-rows-few file p = omega (arith, keep-few p (tabulate (rowCount file 1) (λ r. r)), tabulate-length (rowCount file 1) (λ r. r))
+-- ---- each row of which a test holds is small
 
 member : (xs : List ℕ) (k : ℕ) → k < length xs → List·Memᴰ (getD xs k 0) xs
 member [] k h = absurd (not-suc-le-zero h)

@@ -2,10 +2,12 @@
 use mathlib.Core.Path.{_≡_}
 use mathlib.Core.Bool.{Bool, true, false}
 use mathlib.Core.List.{List}
-use Prim.Native.Nat.{ℕ}
-use Rattle.tables.specs.Refusals.{Answer, Refused, Given}
-use Rattle.card.specs.Calls.{checkCall, runCall, listCall}
-use Rattle.rule.specs.Calls.{readCall, judgeCall}
+use mathlib.Core.Option.{none}
+use Prim.Native.Nat.{ℕ, _≤_}
+use lib.ListN.{length}
+use Rattle.tables.specs.Refusals.{Answer, Refused, Given, firstApplying}
+use Rattle.card.specs.Calls.{gateRefusals, checkCall, runCall, listCall}
+use Rattle.rule.specs.Calls.{Accepted, readCall, judgeCall}
 use Rattle.rule.specs.declared.Part.{Part}
 use Rattle.translation.specs.Calls.{cardCall}
 use Rattle.roskudla_gate.specs.Exports.{statusOf}
@@ -18,6 +20,12 @@ isGiven (Refused n) = false
 -- a status of 0 means that there is one: no refusal has that number
 abbrev pub ZeroIsSuccess : {A : Type 0} → Answer A → Type 0
 ZeroIsSuccess a = statusOf a ≡ 0 → isGiven a ≡ true
+
+-- with so much room as the header names, a call that lends gives its answer where nothing else refuses it: 64 parts, 2,891 bytes of a card, 1,000 rows
+pub record RoomClaim : Type 0 where
+  pub reading : (text file : List ℕ) (parts : List Part) → Accepted text file → 64 ≤ length parts → isGiven (readCall text file parts .result) ≡ true
+  pub making : (text file card : List ℕ) → Accepted text file → 2891 ≤ length card → isGiven (cardCall text file card .result) ≡ true
+  pub listing : (card file rows : List ℕ) → firstApplying (gateRefusals card file) ≡ none → 1000 ≤ length rows → isGiven (listCall card file rows .result) ≡ true
 
 -- each call returns 0 for an answer alone
 pub record StatusClaim : Type 0 where

@@ -2,12 +2,14 @@
 use mathlib.Core.Path.{_≡_, refl, sym, ap, subst, _∙_}
 use mathlib.Core.Bool.{Bool, true, false}
 use mathlib.Core.List.{List, [], _∷_, List·Memᴰ, List·Memᴰ·head, List·Memᴰ·tail, IsChain, IsChain·nil, IsChain·singleton, IsChain·cons-cons}
-use Prim.Native.Nat.{ℕ, zero, suc, _<_, suc-le-suc}
+use Prim.Native.Nat.{ℕ, zero, suc, _<_, _≤_, suc-le-suc}
 use native.Mathlib.Nat.{le-of-suc-le-suc}
 use native.Mathlib.Omega.{arith}
+use lib.ListN.{length}
 use Rattle.tables.specs.Lists.{tabulate, put, keep}
 use Rattle.tables.specs.Tables.{rowCount, rowsWhere}
 use Rattle.tables.specs.Claims.{RowsClaim}
+use Rattle.tables.proofs.Tabulated.{tabulate-length}
 
 -- a number of the list is some f k, and the test holds of it
 record Among (p : ℕ → Bool) (n : ℕ) (f : ℕ → ℕ) (y : ℕ) : Type 0 where
@@ -51,6 +53,19 @@ module _ (p : ℕ → Bool) where
       go : (b : Bool) → IsChain _<_ (keep p (tabulate n (λ k. f (suc k)))) → IsChain _<_ (put b (f 0) (keep p (tabulate n (λ k. f (suc k)))))
       go true c = chain (f 0) (keep p (tabulate n (λ k. f (suc k)))) above c
       go false c = c
+
+-- the rows of which a test holds are at most all
+keep-few : (p : ℕ → Bool) (xs : List ℕ) → length (keep p xs) ≤ length xs
+keep-few p [] = omega arith
+keep-few p (x ∷ xs) = go (p x) (keep-few p xs)
+  where
+    go : (b : Bool) → length (keep p xs) ≤ length xs → length (put b x (keep p xs)) ≤ suc (length xs)
+    go true h = omega arith
+    go false h = omega arith
+
+pub rows-few : (file : List ℕ) (p : ℕ → Bool) → length (rowsWhere file p) ≤ rowCount file 1
+unfolding rowsWhere
+rows-few file p = omega (arith, keep-few p (tabulate (rowCount file 1) (λ r. r)), tabulate-length (rowCount file 1) (λ r. r))
 
 pub rows-claim : RowsClaim
 unfolding rowsWhere

@@ -10,7 +10,7 @@ use lib.Dec.{T, ltb, leb, le→leb}
 use lib.Ieee.Fits.{and-i}
 use lib.ListN.{length, drop}
 use Rattle.tables.specs.Bytes.{between, byteAt}
-use Rattle.tables.specs.Tables.{columnsOf, rowCount, tablesOf, rowsWhere}
+use Rattle.tables.specs.Tables.{mostTables, tableCount, columnsOf, rowCount, tablesOf, rowsWhere}
 use Rattle.tables.specs.Values.{judgedLevels, judgedRow}
 use Rattle.tables.specs.Refusals.{Given, firstApplying, lend, tablesRefusals, rowRefusal}
 use Rattle.tables.proofs.Refusals.{first-nil, first-none, first-append, lend-short, lend-long, lend-refused, unless-none}
@@ -57,6 +57,10 @@ few-entries r h =
     let n = entries (ruleCard r) in
     let most : n ≤ mostEntries = omega (arith, card-sum AsNo r, few-lists r) in
     and-i (leb 1 n) (leb n mostEntries) (le→leb 1 n (some-entries (ruleCard r))) (le→leb n mostEntries most)
+
+-- the longest card has 2,891 bytes
+pub card-bytes-few : (file : List ℕ) (r : Rule) → tableCount file ≤ mostTables → parts r ≤ mostParts → publishedLength file r ≤ 2891
+card-bytes-few file r tables few = omega (arith, few-lists r)
 
 module _ (text file : List ℕ) (accepted : Accepted text file) where
   abbrev accepted-as : AcceptedAs text file
