@@ -96,36 +96,38 @@ module _ (text : List ℕ) (i : ℕ) (h : i < length text) (g : isGap (getD text
         ∙ ap (λ (o : Option Lexed). andThen o (λ n. tokensAfter n (drop (1 + i) text))) (sym f)
         ∙ ap (Option·map (λ ts. tokenOf c ∷ ts)) (after-drop (pred (e - i)) (drop (1 + i) text) ∙ ap (tokensAfter 0) rest)
 
--- ---- what the lexer has done: n tokens are found, and place i is reached, where no gap is
-pub record LexedTo (text tokens : List ℕ) (n i : ℕ) : Type 0 where
+-- ---- what the lexer has done: n tokens are found, of the many that there is room for, and place i is reached, where no gap is
+pub record LexedTo (text tokens : List ℕ) (many n i : ℕ) : Type 0 where
   pub within : i ≤ length text
   pub fewer : n ≤ i
-  pub room : length tokens ≡ 4096
+  pub room : length tokens ≡ many
+  pub enough : length text ≤ many
   pub no-gap : i < length text → isGap (getD text i 0) ≡ false
   pub still : tokensOf text ≡ put-before (tokensIn (take n tokens)) (tokensAfter 0 (drop i text))
 
-pub lexed-none : (text tokens : List ℕ) (r : ℕ) → length tokens ≡ 4096 → r ≡ 0 + length (takeWhile isGap (drop 0 text)) → LexedTo text tokens 0 r
+pub lexed-none : (text tokens : List ℕ) (r : ℕ) → length text ≤ length tokens → r ≡ 0 + length (takeWhile isGap (drop 0 text)) → LexedTo text tokens (length tokens) 0 r
 unfolding tokensOf
-lexed-none text tokens r room w =
+lexed-none text tokens r enough w =
     let (from, upto, gap, rest) = gaps-passed text 0 r (omega arith) w in
-    record { within = upto; fewer = omega arith; room = room; no-gap = gap; still = rest ∙ sym (put-none (tokensAfter 0 (drop r text))) }
+    record { within = upto; fewer = omega arith; room = refl; enough = enough; no-gap = gap; still = rest ∙ sym (put-none (tokensAfter 0 (drop r text))) }
 
-module _ (text tokens : List ℕ) (n i : ℕ) (h : LexedTo text tokens n i) where
+module _ (text tokens : List ℕ) (many n i : ℕ) (h : LexedTo text tokens many n i) where
   -- one token more, and the gaps behind it
-  pub lexed-more : (c e r : ℕ) → i < length text → length text ≤ 4096 → some (tokenOf c, e - i) ≡ firstToken (getD text i 0) (drop (1 + i) text)
-      → r ≡ e + length (takeWhile isGap (drop e text)) → LexedTo text (set tokens n c) (n + 1) r
-  lexed-more c e r l m f w =
+  pub lexed-more : (c e r : ℕ) → i < length text → some (tokenOf c, e - i) ≡ firstToken (getD text i 0) (drop (1 + i) text)
+      → r ≡ e + length (takeWhile isGap (drop e text)) → LexedTo text (set tokens n c) many (n + 1) r
+  lexed-more c e r l f w =
       let (after, upto) = token-end text i l (h .no-gap l) c e f in
       let (from, within, gap, rest) = gaps-passed text e r upto w in
       let one : n + 1 ≡ suc n = add-one n in
       let taken : tokensIn (take (n + 1) (set tokens n c)) ≡ tokensIn (take n tokens) ++ (tokenOf c ∷ []) =
       ap (λ (k : ℕ). tokensIn (take k (set tokens n c))) one
-      ∙ ap tokensIn (take-suc-set tokens n c (omega (arith, h .room, h .fewer)))
+      ∙ ap tokensIn (take-suc-set tokens n c (omega (arith, h .room, h .fewer, h .enough)))
       ∙ map-append tokenOf (take n tokens) (c ∷ []) in
       record {
         within = within;
         fewer = omega (arith, h .fewer);
         room = length-set tokens n c ∙ h .room;
+        enough = h .enough;
         no-gap = gap;
         still =
             h .still

@@ -311,11 +311,11 @@ pub enum Tokenized {
     NoTokens,
 }
 
-// Each token's number, from the start of tokens on.
-pub fn tokenize(text: &[u8], tokens: &mut [usize; MOST_BYTES]) -> Tokenized
-    requires { ⌜ length (now text) ≤ 4096 ⌝ ∗ ⌜ length (now tokens) ≡ 4096 ⌝ }
+// Each token's number, from the start of tokens on. There is room for a token at each byte.
+pub fn tokenize(text: &[u8], tokens: &mut [usize]) -> Tokenized
+    requires { ⌜ length (now text) ≤ 4096 ⌝ ∗ ⌜ length (now text) ≤ length (now tokens) ⌝ }
     ensures are { λ r. ⌜ tokenizedAs r (now (tokens .exit)) ≡ tokensOf (now (text .entry)) ⌝ }
-    ensures size { λ r. ⌜ (length (now (tokens .exit)) ≡ 4096) × tokensFit r 4096 ⌝ }
+    ensures size { λ r. ⌜ (length (now (tokens .exit)) ≡ length (now (tokens .entry))) × tokensFit r (length (now (text .entry))) ⌝ }
 {
     let mut n: usize = 0;
     let mut i: usize = skip_gaps(text, 0);

@@ -17,7 +17,7 @@ use Rattle.cells.specs.Reasons.{reasonNumber, validityAnswer}
 use Rattle.cells.specs.Code.{Sized}
 use Rattle.cells.specs.declared.Reason.{Reason}
 use Rattle.cells.specs.declared.Validity.{Validity}
-use Rattle.cells.proofs.Valid.{tables-refuse, tables-pass}
+use Rattle.cells.proofs.Valid.{tables-refuse, tables-pass, checked-sized}
 use Rattle.rule.specs.Tokens.{tokensOf, opensFit}
 use Rattle.rule.specs.Condition.{WrittenCondition, Rule, parts, fromsDeep}
 use Rattle.rule.specs.Grammar.{Tokens}
@@ -31,16 +31,15 @@ use Rattle.grammar.specs.Code.{WholeReading, ReadsAll}
 use Rattle.grammar.specs.declared.Step.{Step}
 use Rattle.names.specs.Code.{Nameable, NamedAt, NamedTo}
 use Rattle.names.proofs.Keeping.{read-kept}
-use Rattle.parser.specs.Code.{scanRefusals, Scanning, ScannedTo, tokensRefusals, TokensParsing, TokensParsedTo, parsedAnswer, parseCall, Parsing, ParsedTo}
+use Rattle.parser.specs.Code.{scanRefusals, TextReady, tokensRefusals, TokensParsing, TokensParsedTo, parsedAnswer, parseCall, Parsing, ParsedTo}
 use Rattle.parser.proofs.Sizes.{written-count}
-use Rattle.parser.specs.declared.Scanned.{Scanned}
 use Rattle.parser.specs.declared.Parsed.{Parsed}
 use Rattle.parser.specs.declared.Parsed.the-variants.{Rule as ParsedRule, Refused as ParsedRefused}
 
 -- ---- bytes: refusals 3 and 4
 
 module _ (text : List ℕ) where
-  pub too-long : mostBytes < length text → firstApplying (scanRefusals text) ≡ some 3
+  too-long : mostBytes < length text → firstApplying (scanRefusals text) ≡ some 3
   too-long h = first-one 3 (ltb mostBytes (length text)) _ (lt-ltb mostBytes (length text) h)
 
   module _ (short : length text ≤ mostBytes) where
@@ -51,15 +50,8 @@ module _ (text : List ℕ) where
     unfolding firstApplying
     no-tokens e = rw (short-enough, e)
 
-    pub untokenized : (new : List ℕ) (r : Tokenized) → r ≡ Tokenized.NoTokens → tokenizedAs r new ≡ tokensOf text → firstApplying (scanRefusals text) ≡ some 4
-    untokenized new r e p = no-tokens (sym p ∙ ap (λ (t : Tokenized). tokenizedAs t new) e)
-
-    pub tokenized : (new : List ℕ) (r : Tokenized) (n : ℕ) → r ≡ Tokenized.Tokens n → tokenizedAs r new ≡ tokensOf text → tokensFit r 4096 → Scanning text new n
-    tokenized new r n e p f =
-        record { short = short; few = rw e at f; are-tokens = sym p ∙ ap (λ (t : Tokenized). tokenizedAs t new) e }
-
-  scan-passes : (ts : Tokens) → length text ≤ mostBytes → tokensOf text ≡ some ts → firstApplying (scanRefusals text) ≡ none
-  scan-passes ts short e = first-none 3 _ _ (short-enough short) (first-none 4 _ [] (ap isMissing e) first-nil)
+    scan-passes : (ts : Tokens) → tokensOf text ≡ some ts → firstApplying (scanRefusals text) ≡ none
+    scan-passes ts e = first-none 3 _ _ short-enough (first-none 4 _ [] (ap isMissing e) first-nil)
 
 -- ---- tokens: refusals 5 to 8
 
@@ -136,12 +128,15 @@ module _ (s file : List ℕ) where
             }
 
 -- what the lexer answered, and the grammar's reader
-module _ (text new : List ℕ) (r : Scanned) (told : ScannedTo text new r) where
-  pub scanned-as : (n : ℕ) → r ≡ Scanned.Tokens n → Scanning text new n
-  scanned-as n e = rw e at told
+module _ (text new : List ℕ) (r : Tokenized) (told : tokenizedAs r new ≡ tokensOf text) where
+  pub tokenized-as : (n : ℕ) → r ≡ Tokenized.Tokens n → tokensOf text ≡ some (tokensIn (take n new))
+  tokenized-as n e = sym told ∙ ap (λ (t : Tokenized). tokenizedAs t new) e
 
-  pub unscanned : (x : Reason) → r ≡ Scanned.NotScanned x → firstApplying (scanRefusals text) ≡ some (reasonNumber x)
-  unscanned x e = rw e at told
+  pub untokenized : r ≡ Tokenized.NoTokens → tokensOf text ≡ none
+  untokenized e = sym told ∙ ap (λ (t : Tokenized). tokenizedAs t new) e
+
+pub tokens-few : (r : Tokenized) (n most : ℕ) → r ≡ Tokenized.Tokens n → tokensFit r most → n ≤ most
+tokens-few r n most e f = rw e at f
 
 module _ (s new : List ℕ) (r : Step) (told : ReadsAll s new r) where
   pub unread : r ≡ Step.NoReading → readAll (tokensIn s) ≡ none
@@ -165,26 +160,38 @@ module _ (text file : List ℕ) where
   unfolding readingRefusals
   parse-tables r x e p = refused-first (first-found (tablesRefusals file) _ (tables-refuse file r x e p))
 
-  module _ (r : Validity) (e : r ≡ Validity.Valid) (p : validityAnswer r ≡ tablesCall file) where
-    pub parse-bytes : {n : ℕ} → firstApplying (scanRefusals text) ≡ some n → Refused n ≡ parseCall text file
+  module _ (pass : firstApplying (tablesRefusals file) ≡ none) where
+    bytes-decide : {n : ℕ} → firstApplying (scanRefusals text) ≡ some n → Refused n ≡ parseCall text file
     unfolding readingRefusals
-    parse-bytes f = refused-first (first-append (tablesRefusals file) _ (tables-pass file r e p) ∙ first-found (scanRefusals text) _ f)
+    bytes-decide f = refused-first (first-append (tablesRefusals file) _ pass ∙ first-found (scanRefusals text) _ f)
 
-    module _ (new : List ℕ) (n : ℕ) (scanned : Scanning text new n) where
-      tokens-decide : firstApplying (readingRefusals text file) ≡ firstApplying (tokensRefusals (tokensIn (take n new)) (columnsOf file))
+  -- tables that were found valid
+  module _ (r : Validity) (e : r ≡ Validity.Valid) (p : validityAnswer r ≡ tablesCall file) where
+    pub parse-long : mostBytes < length text → Refused 3 ≡ parseCall text file
+    parse-long h = bytes-decide (tables-pass file r e p) (too-long text h)
+
+    pub text-ready : length text ≤ mostBytes → TextReady text file
+    text-ready short = record { short = short; sized = checked-sized file r e p; tables-pass = tables-pass file r e p }
+
+  module _ (ready : TextReady text file) where
+    pub parse-untokenized : tokensOf text ≡ none → Refused 4 ≡ parseCall text file
+    parse-untokenized e = bytes-decide (ready .tables-pass) (no-tokens text (ready .short) e)
+
+    module _ (s : List ℕ) (are : tokensOf text ≡ some (tokensIn s)) where
+      tokens-decide : firstApplying (readingRefusals text file) ≡ firstApplying (tokensRefusals (tokensIn s) (columnsOf file))
       tokens-decide =
-          ap firstApplying (in-groups _ (scanned .are-tokens))
-          ∙ first-append (tablesRefusals file) _ (tables-pass file r e p)
-          ∙ first-append (scanRefusals text) _ (scan-passes text _ (scanned .short) (scanned .are-tokens))
+          ap firstApplying (in-groups _ are)
+          ∙ first-append (tablesRefusals file) _ (ready .tables-pass)
+          ∙ first-append (scanRefusals text) _ (scan-passes text (ready .short) _ are)
 
-      module _ (written : List ℕ) (m : ℕ) (q : TokensParsing (take n new) file written m) where
+      module _ (written : List ℕ) (m : ℕ) (q : TokensParsing s file written m) where
         accepted : Accepted text file
         unfolding firstApplying
         accepted = tokens-decide ∙ rw (q .brackets, q .reads, q .limits, q .named)
 
         is-rule : ruleOf text (columnsOf file) ≡ some (q .rule)
         unfolding ruleOf conditionOf
-        is-rule = rw (scanned .are-tokens, q .reads, q .named)
+        is-rule = rw (are, q .reads, q .named)
 
         parsing : Parsing text file written m
         parsing = record { accepted = accepted; rule = q .rule; is-rule = is-rule; count = q .count; written = q .written }
@@ -193,7 +200,7 @@ module _ (text file : List ℕ) where
         unfolding parseCall
         parse-given = ap Given (q .count ∙ sym (ap (λ (o : Option Rule). withRule o 0 parts) is-rule)) ∙ sym (unless-none _ _ accepted)
 
-      pub parse-tokens-to : (written : List ℕ) (t : Parsed) → TokensParsedTo (take n new) file written t
+      pub parse-tokens-to : (written : List ℕ) (t : Parsed) → TokensParsedTo s file written t
           → (parsedAnswer t ≡ parseCall text file) × ParsedTo text file written t
       parse-tokens-to written (ParsedRule m) q = (parse-given written m q, parsing written m q)
       parse-tokens-to written (ParsedRefused x) q = (refused-first (tokens-decide ∙ q), tt)

@@ -2,15 +2,16 @@
 use mathlib.Core.Path.{_≡_}
 use mathlib.Core.Bool.{true, not}
 use mathlib.Core.List.{List, [], _∷_}
-use mathlib.Core.Option.{some}
+use mathlib.Core.Option.{none, some}
 use Prim.Native.Nat.{ℕ, _*_, _≤_}
 use lib.Dec.{ltb}
 use lib.IntN.{pos}
 use lib.ListN.{length, take}
 use Rattle.tables.specs.Lists.{isMissing}
 use Rattle.tables.specs.Tables.{columnsOf}
-use Rattle.tables.specs.Refusals.{Refusal, _if_, firstApplying, Answer, Refused, Given, unless}
+use Rattle.tables.specs.Refusals.{Refusal, _if_, firstApplying, Answer, Refused, Given, unless, tablesRefusals}
 use Rattle.cells.specs.Reasons.{reasonNumber}
+use Rattle.cells.specs.Code.{Sized}
 use Rattle.rule.specs.Tokens.{tokensOf, opensFit}
 use Rattle.rule.specs.Condition.{WrittenCondition, Rule, parts}
 use Rattle.rule.specs.Grammar.{Tokens}
@@ -20,8 +21,6 @@ use Rattle.rule.specs.Parts.{partsOf}
 use Rattle.rule.specs.Calls.{mostBytes, fails, isThere, ruleOf, readingRefusals, Accepted, withRule}
 use Rattle.lexer.specs.Code.{tokensIn}
 use Rattle.names.specs.Code.{partsNumbers}
-use Rattle.parser.specs.declared.Scanned.{Scanned}
-use Rattle.parser.specs.declared.Scanned.the-variants.{Tokens as ScannedTokens, NotScanned}
 use Rattle.parser.specs.declared.Parsed.{Parsed}
 use Rattle.parser.specs.declared.Parsed.the-variants.{Rule as ParsedRule, Refused as ParsedRefused}
 
@@ -30,15 +29,11 @@ use Rattle.parser.specs.declared.Parsed.the-variants.{Rule as ParsedRule
 abbrev pub scanRefusals : List ℕ → List Refusal
 scanRefusals text = (3 if ltb mostBytes (length text)) ∷ (4 if isMissing (tokensOf text)) ∷ []
 
--- so many tokens, at the front of an array
-pub record Scanning (text new : List ℕ) (n : ℕ) : Type 0 where
+-- a text that is not too long, with tables that are not refused
+pub record TextReady (text file : List ℕ) : Type 0 where
   pub short : length text ≤ mostBytes
-  pub few : n ≤ 4096
-  pub are-tokens : tokensOf text ≡ some (tokensIn (take n new))
-
-abbrev pub ScannedTo : List ℕ → List ℕ → Scanned → Type 0
-ScannedTo text new (ScannedTokens n) = Scanning text new n
-ScannedTo text new (NotScanned x) = firstApplying (scanRefusals text) ≡ some (reasonNumber x)
+  pub sized : Sized file
+  pub tables-pass : firstApplying (tablesRefusals file) ≡ none
 
 abbrev pub tokensRefusals : Tokens → List ℕ → List Refusal
 tokensRefusals ts columns =

@@ -3,7 +3,7 @@ ghost use mathlib.Core.Path.{_≡_};
 ghost use Prim.Native.Nat.{_≤_};
 ghost use lib.ListN.{length};
 ghost use Rattle.cells.specs.Code.{Sized};
-ghost use Rattle.parser.specs.Code.{ScannedTo, TokensParsedTo, parsedAnswer, parseCall, ParsedTo};
+ghost use Rattle.parser.specs.Code.{TextReady, TokensParsedTo, parsedAnswer, parseCall, ParsedTo};
 use cells::Reason;
 use cells::Validity;
 use grammar::MOST_FROMS;
@@ -14,25 +14,11 @@ use lexer::MOST_BYTES;
 use lexer::Tokenized;
 use names::PART_NUMBERS;
 
-enum Scanned {
-    Tokens(usize),
-    NotScanned(Reason),
-}
+// Texts of at most so many bytes get an array of tokens that is no longer than that: setting up the one for the longest text takes longer than reading a
+// short one.
+const SHORT_TEXT: usize = 128;
 
-// The tokens of a text: refusals 3 and 4.
-fn scan(text: &[u8], tokens: &mut [usize; MOST_BYTES]) -> Scanned
-    requires { ⌜ length (now tokens) ≡ 4096 ⌝ }
-    ensures scanned { λ r. ⌜ ScannedTo (now (text .entry)) (now (tokens .exit)) r ⌝ }
-    ensures size { λ _. ⌜ length (now (tokens .exit)) ≡ 4096 ⌝ }
-{
-    if MOST_BYTES < text.len() {
-        return Scanned::NotScanned(Reason::TextLength);
-    }
-    let Tokenized::Tokens(n) = lexer::tokenize(text, tokens) else {
-        return Scanned::NotScanned(Reason::Token);
-    };
-    Scanned::Tokens(n)
-}
+const MIDDLE_TEXT: usize = 1024;
 
 // What reading gives: the number of a rule's parts, or why there is no rule.
 pub enum Parsed {
@@ -67,6 +53,24 @@ fn parse_tokens(s: &[usize], file: &[u8], parts: &mut [usize; PART_NUMBERS]) -> 
     Parsed::Rule(count)
 }
 
+// The rule of a text that is not too long, with tables that are not refused: refusals 4 to 8. There is room for its tokens.
+fn parse_text(
+    text: &[u8],
+    file: &[u8],
+    tokens: &mut [usize],
+    parts: &mut [usize; PART_NUMBERS],
+) -> Parsed
+    requires { ⌜ TextReady (now text) (now file) ⌝ ∗ ⌜ length (now text) ≤ length (now tokens) ⌝ ∗ ⌜ length (now parts) ≡ 512 ⌝ }
+    ensures answer { λ r. ⌜ parsedAnswer r ≡ parseCall (now (text .entry)) (now (file .entry)) ⌝ }
+    ensures parsed { λ r. ⌜ ParsedTo (now (text .entry)) (now (file .entry)) (now (parts .exit)) r ⌝ }
+    ensures size { λ _. ⌜ length (now (parts .exit)) ≡ 512 ⌝ }
+{
+    let Tokenized::Tokens(n) = lexer::tokenize(text, tokens) else {
+        return Parsed::Refused(Reason::Token);
+    };
+    parse_tokens(&tokens[..n], file, parts)
+}
+
 // The rule of a text, for every call that reads one: the numbers of its parts, from the start of parts on.
 pub fn parse(text: &[u8], file: &[u8], parts: &mut [usize; PART_NUMBERS]) -> Parsed
     requires { ⌜ length (now parts) ≡ 512 ⌝ }
@@ -78,9 +82,18 @@ pub fn parse(text: &[u8], file: &[u8], parts: &mut [usize; PART_NUMBERS]) -> Par
     if let Validity::Invalid(x) = valid {
         return Parsed::Refused(x);
     }
-    let mut tokens = [0usize; MOST_BYTES];
-    match scan(text, &mut tokens) {
-        Scanned::Tokens(n) => parse_tokens(&tokens[..n], file, parts),
-        Scanned::NotScanned(x) => Parsed::Refused(x),
+    let long = text.len();
+    if MOST_BYTES < long {
+        return Parsed::Refused(Reason::TextLength);
     }
+    if long <= SHORT_TEXT {
+        let mut tokens = [0usize; SHORT_TEXT];
+        return parse_text(text, file, &mut tokens, parts);
+    }
+    if long <= MIDDLE_TEXT {
+        let mut tokens = [0usize; MIDDLE_TEXT];
+        return parse_text(text, file, &mut tokens, parts);
+    }
+    let mut tokens = [0usize; MOST_BYTES];
+    parse_text(text, file, &mut tokens, parts)
 }

@@ -9,7 +9,7 @@ use Rattle.lexer.proofs.tokenize.Statement.{statement}
 use Rattle.lexer.proofs.tokenize.Tie as tie
 
 abbrev Inv-loop : tie.InvT-loop
-Inv-loop text tokens₀ n₀ i₀ tokens n i = LexedTo text tokens n i
+Inv-loop text tokens₀ n₀ i₀ tokens n i = LexedTo text tokens (length tokens₀) n i
 
 abbrev μ-loop : tie.MeasureT-loop
 μ-loop text tokens₀ n₀ i₀ tokens n i = length text - i
@@ -18,7 +18,7 @@ skip-gaps-requires : tie.Need-skip-gaps-requires Inv-loop μ-loop
 skip-gaps-requires c κs = search needs
 
 loop-holds : tie.Need-loop-holds Inv-loop μ-loop
-loop-holds c = lexed-none (c .before .before .args .text .now) (c .before .before .args .tokens .now) (c .skip-gaps .result) (c .before .before .pre .1) (c .skip-gaps .ensures)
+loop-holds c = lexed-none (c .before .before .before .args .text .now) (c .before .before .before .args .tokens .now) (c .skip-gaps .result) (c .before .before .before .pre .1) (c .skip-gaps .ensures)
 
 first-token-requires : tie.Need-first-token-requires Inv-loop μ-loop
 first-token-requires c κs = search needs
@@ -29,20 +29,23 @@ enum-known-code c = search needs
 enum-told : tie.Need-enum-told Inv-loop μ-loop
 enum-told c = search needs
 
+same-length : tie.Need-same-length Inv-loop μ-loop
+same-length c = c .before .before .before .before .loop .inv .room
+
 returns : tie.Need-returns Inv-loop μ-loop
 returns c =
     let loop = c .before .before .before .before .loop in
-    let start = c .before .before .before .before .before .before .before in
+    let start = c .before .before .before .before .before .before .before .before in
     let none-first = ap (lexedAs (loop .i)) (sym (c .enum-told .given .1)) ∙ c .before .before .first-token .ensures in (
-      lexed-stop (start .args .text .now) (loop .tokens) (loop .n) (loop .i) (loop .inv) (c .before .before .before .loop-test .taken) none-first,
+      lexed-stop (start .args .text .now) (loop .tokens) _ (loop .n) (loop .i) (loop .inv) (c .before .before .before .loop-test .taken) none-first,
       (loop .inv .room, tt),
     )
 
 mul-tokens : tie.Need-mul-tokens Inv-loop μ-loop
 mul-tokens c = omega arith
 
-element-write-tokens : tie.Need-element-write-tokens Inv-loop μ-loop
-element-write-tokens c = omega arith
+slice-write-tokens : tie.Need-slice-write-tokens Inv-loop μ-loop
+slice-write-tokens c = omega arith
 
 add-n : tie.Need-add-n Inv-loop μ-loop
 add-n c = omega arith
@@ -50,35 +53,38 @@ add-n c = omega arith
 skip-gaps-requires-2 : tie.Need-skip-gaps-requires-2 Inv-loop μ-loop
 skip-gaps-requires-2 c κs =
     let loop = c .before .before .before .before .before .loop in
-    let start = c .before .before .before .before .before .before .before .before in
+    let start = c .before .before .before .before .before .before .before .before .before in
     let given = c .before .code .given in
     let first = ap (lexedAs (loop .i)) (sym (given .1)) ∙ c .before .before .before .first-token .ensures in
-    let ends = token-ends (start .args .text .now) (loop .tokens) (loop .n) (loop .i) (loop .inv) (given .0 .0) (given .0 .1 .0) (c .before .before .before .before .loop-test .taken) first in
+    let ends = token-ends (start .args .text .now) (loop .tokens) _ (loop .n) (loop .i) (loop .inv) (given .0 .0) (given .0 .1 .0) (c .before .before .before .before .loop-test .taken) first in
     (ends .1, start .pre .0)
 
 loop-less : tie.Need-loop-less Inv-loop μ-loop
 loop-less c =
     let loop = c .before .before .before .before .before .before .loop in
-    let start = c .before .before .before .before .before .before .before .before .before in
+    let start = c .before .before .before .before .before .before .before .before .before .before in
     let given = c .before .before .code .given in
     let first = ap (lexedAs (loop .i)) (sym (given .1)) ∙ c .before .before .before .before .first-token .ensures in
-    let ends = token-ends (start .args .text .now) (loop .tokens) (loop .n) (loop .i) (loop .inv) (given .0 .0) (given .0 .1 .0) (c .before .before .before .before .before .loop-test .taken) first in
+    let ends = token-ends (start .args .text .now) (loop .tokens) _ (loop .n) (loop .i) (loop .inv) (given .0 .0) (given .0 .1 .0) (c .before .before .before .before .before .loop-test .taken) first in
     omega (arith, ends .0, ends .1, c .skip-gaps2 .ensures)
 
 loop-again : tie.Need-loop-again Inv-loop μ-loop
 loop-again c =
     let loop = c .before .before .before .before .before .before .loop in
-    let start = c .before .before .before .before .before .before .before .before .before in
+    let start = c .before .before .before .before .before .before .before .before .before .before in
     let given = c .before .before .code .given in
     let first = ap (lexedAs (loop .i)) (sym (given .1)) ∙ c .before .before .before .before .first-token .ensures in
-    lexed-more (start .args .text .now) (loop .tokens) (loop .n) (loop .i) (loop .inv) (given .0 .0) (given .0 .1 .0) (c .skip-gaps2 .result)
-    (c .before .before .before .before .before .loop-test .taken) (start .pre .0) first (c .skip-gaps2 .ensures)
+    lexed-more (start .args .text .now) (loop .tokens) _ (loop .n) (loop .i) (loop .inv) (given .0 .0) (given .0 .1 .0) (c .skip-gaps2 .result)
+    (c .before .before .before .before .before .loop-test .taken) first (c .skip-gaps2 .ensures)
+
+same-length-2 : tie.Need-same-length-2 Inv-loop μ-loop
+same-length-2 c = c .before .loop .inv .room
 
 returns-2 : tie.Need-returns-2 Inv-loop μ-loop
 returns-2 c =
     let loop = c .before .loop in
-    let start = c .before .before .before .before in (
-      lexed-all (start .args .text .now) (loop .tokens) (loop .n) (loop .i) (loop .inv) (omega arith),
+    let start = c .before .before .before .before .before in (
+      lexed-all (start .args .text .now) (loop .tokens) _ (loop .n) (loop .i) (loop .inv) (omega arith),
       (loop .inv .room, omega arith),
     )
 
@@ -93,11 +99,13 @@ tokenize-spec =
     first-token-requires
     enum-known-code
     enum-told
+    same-length
     returns
     mul-tokens
-    element-write-tokens
+    slice-write-tokens
     add-n
     skip-gaps-requires-2
     loop-less
     loop-again
+    same-length-2
     returns-2)
