@@ -7,12 +7,11 @@ use Prim.Native.Nat.{ℕ, zero, suc, _+_, _*_, _-_, _≤_, _<_}
 use native.Mathlib.Omega.{arith}
 use borrow.Author.Tests.{lt-ltb, le-ltb}
 use lib.IntN.{ℤ, pos, negsuc, negℤ}
-use lib.ListN.{length, take}
+use lib.ListN.{length}
 use Rattle.tables.specs.Bytes.{between, inRange}
 use Rattle.tables.proofs.Tests.{between-yes, between-no}
 use Rattle.rule.specs.Tokens.{Number, takeWhile, spelled, numberFrom}
 use Rattle.lexer.specs.Code.{tokenOf, inBase}
-use Rattle.lexer.proofs.Runs.{run-take}
 
 in-ten : (n : ℕ) (ds : List ℕ) → inBase 10 48 n ds ≡ spelled n ds
 in-ten n [] = refl
@@ -49,9 +48,9 @@ module _ (sign : ℕ → ℤ) (before : ℕ) (l : List ℕ) (i e : ℕ) (h : e -
   unfolding numberFrom
   number-length f = rw (← h, between-no 1 10 (e - i) f)
 
-  module _ (n : ℕ) (v : n ≡ inBase 10 48 0 (take (e - i) l)) (low : 1 ≤ e - i) (high : e - i ≤ 10) where
+  module _ (n : ℕ) (v : n ≡ inBase 10 48 0 (takeWhile (between 48 57) l)) (low : 1 ≤ e - i) (high : e - i ≤ 10) where
     digits-spell : spelled 0 (takeWhile (between 48 57) l) ≡ n
-    digits-spell = sym (v ∙ ap (inBase 10 48 0) (ap (λ (k : ℕ). take k l) h ∙ run-take (between 48 57) l) ∙ in-ten 0 (takeWhile (between 48 57) l))
+    digits-spell = sym (v ∙ in-ten 0 (takeWhile (between 48 57) l))
 
     pub number-out : inRange (sign n) ≡ false → none ≡ numberFrom sign before (takeWhile (between 48 57) l)
     unfolding numberFrom

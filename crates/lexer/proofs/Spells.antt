@@ -1,17 +1,18 @@
 -- What a run of digits spells in a base, digit by digit.
 use mathlib.Core.Path.{_≡_, refl, sym, ap, subst, _∙_}
-use mathlib.Core.List.{List}
+use mathlib.Core.Bool.{true, false}
+use mathlib.Core.List.{List, [], _∷_, _++_}
 use Prim.Native.Nat.{ℕ, zero, suc, _+_, _*_, _-_, _≤_, _<_}
 use native.Mathlib.Nat.{le-refl, mul-le-mul, mul-suc}
-use native.Mathlib.Numerals.{add-one}
 use native.Mathlib.Omega.{arith}
-use lib.ListN.{length, take, drop, getD}
-use lib.Seq.{drop-cons, getD-drop}
+use lib.ListN.{length, take, drop, getD, length-drop}
+use lib.Seq.{take-suc, getD-drop}
 use Rattle.tables.specs.Bytes.{between}
-use Rattle.tables.proofs.Tests.{bounds, is-so}
+use Rattle.tables.proofs.Tests.{between-yes}
 use Rattle.rule.specs.Tokens.{takeWhile}
-use Rattle.lexer.proofs.Runs.{run-class}
-use Rattle.lexer.specs.Code.{inBase, power, Spelled}
+use Rattle.lexer.proofs.Runs.{run-take, Passed, passed-none, passed-more, run-within}
+use Rattle.lexer.specs.Code.{inBase, power, Spellable, RunAt}
+use Rattle.lexer.specs.declared.Run.{Run}
 
 power-more : (base j d : ℕ) → 1 ≤ base → power base j ≤ power base (j + d)
 power-more base j zero h = let e : j + 0 ≡ j = omega arith in rw e (le-refl (power base j))
@@ -21,71 +22,72 @@ power-more base j (suc d) h =
     rw e (omega (arith, m, power-more base j d h))
 
 -- a power is at most a later one
-pub power-up : (base j k : ℕ) → 1 ≤ base → j ≤ k → power base j ≤ power base k
+power-up : (base j k : ℕ) → 1 ≤ base → j ≤ k → power base j ≤ power base k
 power-up base j k h l = let e : j + (k - j) ≡ k = omega arith in subst (λ (n : ℕ). power base j ≤ power base n) e (power-more base j (k - j) h)
 
--- n is spelled so far, and the digits from k up to e follow
-pub record SpelledTo (text : List ℕ) (i e base zero′ n k : ℕ) : Type 0 where
-  pub from : i ≤ k
-  pub upto : k ≤ e
-  pub below : n < power base (k - i)
-  pub still : inBase base zero′ n (take (e - k) (drop k text)) ≡ inBase base zero′ 0 (take (e - i) (drop i text))
+-- digits after others
+pub in-base-append : (base zero′ n : ℕ) (a b : List ℕ) → inBase base zero′ n (a ++ b) ≡ inBase base zero′ (inBase base zero′ n a) b
+in-base-append base zero′ n [] b = refl
+in-base-append base zero′ n (x ∷ a) b = in-base-append base zero′ (base * n + (x - zero′)) a b
 
-pub spelled-none : (text : List ℕ) (i e base zero′ : ℕ) → i ≤ e → SpelledTo text i e base zero′ 0 i
-spelled-none text i e base zero′ h =
+-- the run from i on has come to e, and n is spelled so far
+pub record SpelledTo (text : List ℕ) (i low high base zero′ most n e : ℕ) : Type 0 where
+  pub passed : Passed (between low high) text i e
+  pub so-far : e - i ≤ most → (n < power base (e - i)) × (n ≡ inBase base zero′ 0 (take (e - i) (drop i text)))
+
+pub spelled-none : (text : List ℕ) (i low high base zero′ most : ℕ) → i ≤ length text → SpelledTo text i low high base zero′ most 0 i
+spelled-none text i low high base zero′ most h =
     let z : i - i ≡ 0 = omega arith in
-    record { from = omega arith; upto = h; below = rw z (omega arith); still = refl }
+    record { passed = passed-none _ text i h; so-far = λ _. (rw z (omega arith), rw z refl) }
 
-pub spelled-all : (text : List ℕ) (i e base zero′ n k : ℕ) → SpelledTo text i e base zero′ n k → e ≤ k → n ≡ inBase base zero′ 0 (take (e - i) (drop i text))
-spelled-all text i e base zero′ n k h l =
-    let z : e - k ≡ 0 = omega (arith, h .upto) in rw z at (h .still)
+module _ (text : List ℕ) (i low high base zero′ most n e b : ℕ) (s : Spellable low high base zero′ most) (h : SpelledTo text i low high base zero′ most n e)
+    (l : e < length text) (w : b ≡ getD text e 0) (p : low ≤ b) (q : b ≤ high) where
+  passed-one : Passed (between low high) text i (e + 1)
+  passed-one = passed-more _ text i e b (h .passed) l w (between-yes low high b p q)
 
-module _ (text : List ℕ) (i e base zero′ n k b : ℕ) (s : Spelled text i e base zero′) (h : SpelledTo text i e base zero′ n k) (l : k < e) (w : b ≡ getD text k 0) where
+  -- a byte behind those that are spelled
+  pub spelled-past : most ≤ e - i → SpelledTo text i low high base zero′ most n (e + 1)
+  spelled-past m = record { passed = passed-one; so-far = λ k. absurd (omega (arith, h .passed .from)) }
+
   pub digit-low : zero′ ≤ b
-  digit-low = omega (arith, s .low k (h .from) l)
-
-  digit-high : b < base + zero′
-  digit-high = omega (arith, s .high k (h .from) l)
+  digit-low = omega (arith, s .digits-low)
 
   -- one digit more
-  next-below : base * n + (b - zero′) < power base (suc (k - i))
-  next-below =
-      let m = mul-le-mul {n₁ = base} {m₁ = suc n} {n₂ = base} {m₂ = power base (k - i)} (omega arith) (h .below) in
-      omega (arith, m, mul-suc base n, digit-low, digit-high)
+  module _ (m : e - i < most) where
+    next-below : base * n + (b - zero′) < power base (suc (e - i))
+    next-below =
+        let f = mul-le-mul {n₁ = base} {m₁ = suc n} {n₂ = base} {m₂ = power base (e - i)} (omega arith) (h .so-far (omega arith) .0) in
+        omega (arith, f, mul-suc base n, digit-low, s .digits-high)
 
-  pub room : base * n + (b - zero′) < 1000000000000000
-  room =
-      omega (arith, next-below, digit-low, digit-high, s .fits, power-up base (suc (k - i)) (e - i) (omega (arith, digit-low, digit-high)) (omega (arith, h .from)))
+    pub room : base * n + (b - zero′) < 18446744073709551616
+    room =
+        omega (arith, next-below, s .fits, power-up base (suc (e - i)) most (omega (arith, digit-low, s .digits-high)) m)
 
-  pub spelled-more : SpelledTo text i e base zero′ (base * n + (b - zero′)) (k + 1)
-  spelled-more =
-      let z : k + 1 - i ≡ suc (k - i) = omega (arith, h .from) in
-      let y : e - k ≡ suc (e - (k + 1)) = omega arith in
-      let d = drop-cons text k 0 (omega (arith, s .within)) in
-      record {
-        from = omega (arith, h .from);
-        upto = omega arith;
-        below = rw z next-below;
-        still = rw (w, d, y, add-one k) refl ∙ h .still;
-      }
+    next-digit : take (suc (e - i)) (drop i text) ≡ take (e - i) (drop i text) ++ (b ∷ [])
+    next-digit =
+        let there : getD (drop i text) (e - i) 0 ≡ b = getD-drop i text (e - i) 0 ∙ ap (λ (k : ℕ). getD text k 0) (omega (arith, h .passed .from)) ∙ sym w in
+        take-suc (drop i text) (e - i) 0 (omega (arith, length-drop i text, h .passed .from)) ∙ ap (λ (x : ℕ). take (e - i) (drop i text) ++ (x ∷ [])) there
 
--- ---- a run of one class
+    pub spelled-more : SpelledTo text i low high base zero′ most (base * n + (b - zero′)) (e + 1)
+    spelled-more =
+        let z : e + 1 - i ≡ suc (e - i) = omega (arith, h .passed .from) in
+        let is = h .so-far (omega arith) .1 in
+        record {
+          passed = passed-one;
+          so-far =
+              λ _. (
+                rw z next-below,
+                rw (z, next-digit, in-base-append base zero′ 0 (take (e - i) (drop i text)) (b ∷ [])) (ap (λ (k : ℕ). base * k + (b - zero′)) is),
+              );
+        }
 
--- the bytes of a run of at most `most` digits can be spelled
-pub run-spelled : (text : List ℕ) (i e base zero′ low high most : ℕ) → i ≤ e → e ≤ length text → e - i ≡ length (takeWhile (between low high) (drop i text))
-    → zero′ ≤ low → high < base + zero′ → 1 ≤ base → e - i ≤ most → power base most ≤ 1000000000000000 → Spelled text i e base zero′
-run-spelled text i e base zero′ low high most h l w p q r m s =
+-- the run ends here
+pub run-found : (text : List ℕ) (i low high base zero′ most n e : ℕ) → i ≤ length text → SpelledTo text i low high base zero′ most n e
+    → e ≡ i + length (takeWhile (between low high) (drop i text)) → RunAt text i low high base zero′ most (record { end = e; number = n })
+run-found text i low high base zero′ most n e l h w =
+    let (from, upto, long) = run-within (between low high) text i e l w in
     record {
-      rising = h;
-      within = l;
-      low = λ k a b. omega (arith, p, class k a b .0);
-      high = λ k a b. omega (arith, q, class k a b .1);
-      fits = omega (arith, s, power-up base (e - i) most r m);
+      ends = w;
+      spells =
+          λ m. h .so-far m .1 ∙ ap (inBase base zero′ 0) (ap (λ (k : ℕ). take k (drop i text)) long ∙ run-take (between low high) (drop i text));
     }
-  where
-    class : (k : ℕ) → i ≤ k → k < e → (low ≤ getD text k 0) × (getD text k 0 ≤ high)
-    class k a b =
-        let z : i + (k - i) ≡ k = omega arith in
-        let there : getD (drop i text) (k - i) 0 ≡ getD text k 0 = getD-drop i text (k - i) 0 ∙ ap (λ (j : ℕ). getD text j 0) z in
-        let so = run-class (between low high) (drop i text) (k - i) (omega (arith, w, a, b)) in
-        bounds low high (getD text k 0) (is-so (between low high (getD text k 0)) (ap (between low high) (sym there) ∙ so))

@@ -14,8 +14,8 @@ use Rattle.tables.specs.Bytes.{between}
 use Rattle.tables.proofs.Tests.{both, bounds, between-yes, is-so, is-true, refuted}
 use Rattle.tables.proofs.Sizes.{same-is, same-refl}
 use Rattle.rule.specs.Tokens.{Token, Fixed, Compares, Letter, Number, Spelling, Lexed, bytes, takeWhile, words, wordIn}
-use Rattle.lexer.proofs.Runs.{run-take}
-use Rattle.lexer.specs.Code.{tokenOf, codeOf, inBase, wordCode}
+use Rattle.lexer.proofs.Spells.{in-base-append}
+use Rattle.lexer.specs.Code.{tokenOf, codeOf, inBase, mostCapitals, wordCode}
 
 abbrev value : ℕ → List ℕ → ℕ
 value n l = inBase 256 0 n l
@@ -28,10 +28,6 @@ Digits l = T (all (between 1 255) l)
 value-up : (n : ℕ) (l : List ℕ) → n ≤ value n l
 value-up n [] = omega arith
 value-up n (b ∷ bs) = omega (arith, value-up (256 * n + (b - 0)) bs)
-
-value-append : (n : ℕ) (a b : List ℕ) → value n (a ++ b) ≡ value (value n a) b
-value-append n [] b = refl
-value-append n (x ∷ a) b = value-append (256 * n + (x - 0)) a b
 
 -- runs of one length that spell the same are the same
 same-value : (a b : List ℕ) (n m : ℕ) → Digits a → Digits b → length a ≡ length b → value n a ≡ value m b → (n ≡ m) × (a ≡ b)
@@ -66,7 +62,7 @@ value-of-longer a b da db h e =
     let whole = take-append-drop k b in
     let (df, dr) = digits-append (take k b) (drop k b) (subst Digits (sym whole) db) in
     let long : length a ≡ length (drop k b) = omega (arith, length-drop k b) in
-    let (p, q) = same-value a (drop k b) 0 (value 0 (take k b)) da dr long (e ∙ ap (value 0) (sym whole) ∙ value-append 0 (take k b) (drop k b)) in
+    let (p, q) = same-value a (drop k b) 0 (value 0 (take k b)) da dr long (e ∙ ap (value 0) (sym whole) ∙ in-base-append 256 0 0 (take k b) (drop k b)) in
     q ∙ ap (λ (l : List ℕ). l ++ drop k b) (sym (no-value (take k b) df (sym p))) ∙ whole
 
 value-one : (a b : List ℕ) → Digits a → Digits b → value 0 a ≡ value 0 b → a ≡ b
@@ -94,7 +90,7 @@ word-token (Letter x) = false
 word-token (Number n) = false
 
 abbrev fits-word : Spelling → Bool
-fits-word s = word-token (s .token) && (all (between 1 255) (s .text) && leb (length (s .text)) 6)
+fits-word s = word-token (s .token) && (all (between 1 255) (s .text) && leb (length (s .text)) mostCapitals)
 
 every-word-fits : T (all fits-word words)
 unfolding words bytes
@@ -107,11 +103,11 @@ word-code-back (Compares op) h = absurd h
 word-code-back (Letter x) h = absurd h
 word-code-back (Number n) h = absurd h
 
-first-word : (s : Spelling) (ss : List Spelling) → T (all fits-word (s ∷ ss)) → T (word-token (s .token)) × Digits (s .text) × (length (s .text) ≤ 6) × T (all fits-word ss)
+first-word : (s : Spelling) (ss : List Spelling) → T (all fits-word (s ∷ ss)) → T (word-token (s .token)) × Digits (s .text) × (length (s .text) ≤ mostCapitals) × T (all fits-word ss)
 first-word s ss h =
     let (p, rest) = both (fits-word s) (all fits-word ss) h in
-    let (t, q) = both (word-token (s .token)) (all (between 1 255) (s .text) && leb (length (s .text)) 6) p in
-    let (d, l) = both (all (between 1 255) (s .text)) (leb (length (s .text)) 6) q in (t, d, leb→le (length (s .text)) 6 l, rest)
+    let (t, q) = both (word-token (s .token)) (all (between 1 255) (s .text) && leb (length (s .text)) mostCapitals) p in
+    let (d, l) = both (all (between 1 255) (s .text)) (leb (length (s .text)) mostCapitals) q in (t, d, leb→le (length (s .text)) mostCapitals l, rest)
 
 -- the word with a number; 0: none
 abbrev numbered-word : ℕ → ℕ → Option Lexed
@@ -131,7 +127,7 @@ word-by-value (s ∷ ss) w f d =
     go true e is low r = rw (e, ne-eqb (codeOf (s .token)) 0 (λ z. omega (arith, z, low)), is)
     go false e is low r = rw (e) r
 
-too-long : (ss : List Spelling) (w : List ℕ) → T (all fits-word ss) → 6 < length w → none ≡ wordIn ss w
+too-long : (ss : List Spelling) (w : List ℕ) → T (all fits-word ss) → mostCapitals < length w → none ≡ wordIn ss w
 unfolding wordIn
 too-long [] w f h = refl
 too-long (s ∷ ss) w f h =
@@ -153,15 +149,13 @@ digits-run (b ∷ bs) = go (between 65 90 b) refl (digits-run bs)
     go false e d = tt
 
 module _ (l : List ℕ) (i e : ℕ) (h : e - i ≡ length (takeWhile (between 65 90) l)) where
-  pub word-long : 6 < e - i → none ≡ wordIn words (takeWhile (between 65 90) l)
+  pub word-long : mostCapitals < e - i → none ≡ wordIn words (takeWhile (between 65 90) l)
   word-long m = too-long words (takeWhile (between 65 90) l) every-word-fits (omega (arith, h))
 
-  module _ (n c : ℕ) (v : n ≡ inBase 256 0 0 (take (e - i) l)) (w : c ≡ wordCode words n) where
-    code-is : c ≡ wordCode words (value 0 (takeWhile (between 65 90) l))
-    code-is = w ∙ ap (wordCode words) (v ∙ ap (value 0) (ap (λ (k : ℕ). take k l) h ∙ run-take (between 65 90) l))
-
+  module _ (n c : ℕ) (v : n ≡ inBase 256 0 0 (takeWhile (between 65 90) l)) (w : c ≡ wordCode words n) where
     by-value : wordIn words (takeWhile (between 65 90) l) ≡ numbered-word c (e - i)
-    by-value = word-by-value words (takeWhile (between 65 90) l) every-word-fits (digits-run l) ∙ sym (ap₂ numbered-word code-is h)
+    by-value =
+        word-by-value words (takeWhile (between 65 90) l) every-word-fits (digits-run l) ∙ sym (ap₂ numbered-word (w ∙ ap (wordCode words) v) h)
 
     pub word-none : c ≡ 0 → none ≡ wordIn words (takeWhile (between 65 90) l)
     word-none z = sym (by-value ∙ rw (eq-eqb c 0 z) refl)

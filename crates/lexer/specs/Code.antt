@@ -1,18 +1,20 @@
 -- What the functions of src/ promise one another and their callers, in the terms of the code: a token as a number. The contract of a public call
 -- cites nothing of this file.
+use mathlib.Core.Path.{_≡_}
 use mathlib.Core.Bool.{cond}
 use mathlib.Core.List.{List, [], _∷_, map}
 use mathlib.Core.Option.{Option, none, some}
 use Prim.Native.Nat.{ℕ, zero, suc, _+_, _*_, _-_, _<_, _≤_}
 use lib.Dec.{eqb, ltb}
-use lib.ListN.{length, take}
-use Rattle.tables.specs.Bytes.{byteAt}
+use lib.ListN.{length, take, drop}
+use Rattle.tables.specs.Bytes.{between}
 use Rattle.tables.specs.Values.{comparisonNumber, comparisonOf}
 use Rattle.cells.specs.Code.{fromExcess, toExcess}
-use Rattle.rule.specs.Tokens.{Token, Fixed, Compares, Letter, Number, Spelling, Lexed}
+use Rattle.rule.specs.Tokens.{Token, Fixed, Compares, Letter, Number, Spelling, Lexed, takeWhile}
 use Rattle.rule.specs.Grammar.{Tokens}
 use Rattle.lexer.specs.declared.Lexeme.{Lexeme}
 use Rattle.lexer.specs.declared.Lexeme.the-variants.{Token as LexedToken, NoToken}
+use Rattle.lexer.specs.declared.Run.{Run}
 use Rattle.lexer.specs.declared.Tokenized.{Tokenized}
 use Rattle.lexer.specs.declared.Tokenized.the-variants.{Tokens as Tokenized-tokens, NoTokens}
 
@@ -46,13 +48,20 @@ abbrev pub power : ℕ → ℕ → ℕ
 power base zero = 1
 power base (suc k) = base * power base k
 
--- the bytes from i up to e are digits of the base, and not too many for 64 bits
-pub record Spelled (text : List ℕ) (i e base zero′ : ℕ) : Type 0 where
-  pub rising : i ≤ e
-  pub within : e ≤ length text
-  pub low : (k : ℕ) → i ≤ k → k < e → zero′ ≤ byteAt text k
-  pub high : (k : ℕ) → i ≤ k → k < e → byteAt text k < base + zero′
-  pub fits : power base (e - i) ≤ 1000000000000000
+-- the bytes from low to high are digits of the base, and so many of them make up at most a number of 64 bits
+pub record Spellable (low high base zero′ most : ℕ) : Type 0 where
+  pub digits-low : zero′ ≤ low
+  pub digits-high : high < base + zero′
+  pub fits : power base most ≤ 18446744073709551616
+
+-- the run of these bytes that starts at place i: the place after it, and what it spells, unless it is too long
+pub record RunAt (text : List ℕ) (i low high base zero′ most : ℕ) (r : Run) : Type 0 where
+  pub ends : r .end ≡ i + length (takeWhile (between low high) (drop i text))
+  pub spells : r .end - i ≤ most → r .number ≡ inBase base zero′ 0 (takeWhile (between low high) (drop i text))
+
+-- how many capitals are looked at as a word: no word is longer, and the bytes of so many make up a number of 64 bits
+abbrev pub mostCapitals : ℕ
+mostCapitals = 8
 
 -- the word whose bytes are the digits of a number in base 256; 0 if there is none
 unfoldable pub wordCode : List Spelling → ℕ → ℕ

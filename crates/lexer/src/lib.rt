@@ -2,10 +2,10 @@
 ghost use mathlib.Core.Path.{_≡_};
 ghost use Prim.Native.Nat.{_+_, _*_, _-_, _<_, _≤_};
 ghost use lib.IntN.{pos, negℤ};
-ghost use lib.ListN.{length, take, drop};
+ghost use lib.ListN.{length, drop};
 ghost use Rattle.tables.specs.Bytes.{between, byteAt};
 ghost use Rattle.rule.specs.Tokens.{isGap, takeWhile, words, wordIn, signs, signIn, numberFrom, firstToken, tokensOf, opensFit};
-ghost use Rattle.lexer.specs.Code.{inBase, Spelled, wordCode, lexedAs, lessFrom, greaterFrom, tokensIn, tokenizedAs, tokensFit};
+ghost use Rattle.lexer.specs.Code.{Spellable, RunAt, wordCode, lexedAs, lessFrom, greaterFrom, tokensIn, tokenizedAs, tokensFit};
 use cells::EXCESS;
 use cells::byte;
 
@@ -16,8 +16,8 @@ const MOST_DIGITS: usize = 10;
 
 const MOST_OPEN: usize = 32;
 
-// The longest word.
-const MOST_CAPITALS: usize = 6;
+// How many capitals are looked at as a word: as many as make up a number of 64 bits.
+const MOST_CAPITALS: usize = 8;
 
 // A token as a number: the words, brackets and the point from 1 on; a comparison is COMPARES and its number 1 to 6; a letter is its byte; a number is
 // NUMBER and the number plus 2 ^ 31.
@@ -79,37 +79,42 @@ fn skip_gaps(text: &[u8], i: usize) -> usize
     e
 }
 
-// The place after the run of bytes from low to high that starts at i.
-fn run_end(text: &[u8], i: usize, low: usize, high: usize) -> usize
-    requires { ⌜ i ≤ length (now text) ⌝ ∗ ⌜ length (now text) ≤ 4096 ⌝ }
-    ensures { λ r. ⌜ r ≡ i + length (takeWhile (between low high) (drop i (now (text .entry)))) ⌝ }
+// A run of bytes: the place after it, and the number that its bytes spell.
+pub struct Run {
+    pub end: usize,
+    pub number: usize,
+}
+
+// The run of bytes from low to high that starts at i, and what it spells in a base, where zero is the byte of the digit 0. The bytes are looked at once;
+// those past the first `most` are passed alone, since no word and no number is so long.
+fn spell_run(
+    text: &[u8],
+    i: usize,
+    low: usize,
+    high: usize,
+    base: usize,
+    zero: usize,
+    most: usize,
+) -> Run
+    requires { ⌜ i ≤ length (now text) ⌝ ∗ ⌜ length (now text) ≤ 4096 ⌝ ∗ ⌜ Spellable low high base zero most ⌝ }
+    ensures { λ r. ⌜ RunAt (now (text .entry)) i low high base zero most r ⌝ }
 {
+    let mut n: usize = 0;
     let mut e: usize = i;
     while e < text.len() {
         let b = byte(text, e);
         if b < low {
-            return e;
+            return Run { end: e, number: n };
         }
         if high < b {
-            return e;
+            return Run { end: e, number: n };
+        }
+        if e - i < most {
+            n = base * n + (b - zero);
         }
         e += 1;
     }
-    e
-}
-
-// The number that the bytes from i up to e spell in a base, where zero is the byte of the digit 0.
-fn spell(text: &[u8], i: usize, e: usize, base: usize, zero: usize) -> usize
-    requires { ⌜ Spelled (now text) i e base zero ⌝ }
-    ensures { λ r. ⌜ r ≡ inBase base zero 0 (take (e - i) (drop i (now (text .entry)))) ⌝ }
-{
-    let mut n: usize = 0;
-    let mut k: usize = i;
-    while k < e {
-        n = base * n + (byte(text, k) - zero);
-        k += 1;
-    }
-    n
+    Run { end: e, number: n }
 }
 
 // The word whose bytes, as digits of a number in base 256, make up this run; 0 if there is none.
@@ -133,60 +138,61 @@ fn word_code(run: usize) -> usize
     }
 }
 
-// The word from i up to e, which are capitals.
-fn word(text: &[u8], i: usize, e: usize) -> Lexeme
-    requires { ⌜ (i ≤ e) × (e ≤ length (now text)) ⌝ ∗ ⌜ length (now text) ≤ 4096 ⌝ ∗ ⌜ e - i ≡ length (takeWhile (between 65 90) (drop i (now text))) ⌝ }
+// The word of the capitals from i on.
+fn word(text: &[u8], i: usize) -> Lexeme
+    requires { ⌜ i ≤ length (now text) ⌝ ∗ ⌜ length (now text) ≤ 4096 ⌝ }
     ensures { λ r. ⌜ lexedAs i r ≡ wordIn words (takeWhile (between 65 90) (drop i (now (text .entry)))) ⌝ }
 {
-    if MOST_CAPITALS < e - i {
+    let run = spell_run(text, i, 65, 90, 256, 0, MOST_CAPITALS);
+    if MOST_CAPITALS < run.end - i {
         return Lexeme::NoToken;
     }
-    let code = word_code(spell(text, i, e, 256, 0));
+    let code = word_code(run.number);
     if code == 0 {
         return Lexeme::NoToken;
     }
-    Lexeme::Token { code, end: e }
+    Lexeme::Token { code, end: run.end }
 }
 
-// The number whose digits are those from i up to e.
-fn number(text: &[u8], i: usize, e: usize) -> Lexeme
-    requires { ⌜ (i ≤ e) × (e ≤ length (now text)) ⌝ ∗ ⌜ length (now text) ≤ 4096 ⌝ ∗ ⌜ e - i ≡ length (takeWhile (between 48 57) (drop i (now text))) ⌝ }
+// The number of the digits from i on.
+fn number(text: &[u8], i: usize) -> Lexeme
+    requires { ⌜ i ≤ length (now text) ⌝ ∗ ⌜ length (now text) ≤ 4096 ⌝ }
     ensures { λ r. ⌜ lexedAs i r ≡ numberFrom pos 0 (takeWhile (between 48 57) (drop i (now (text .entry)))) ⌝ }
 {
-    if e == i {
+    let run = spell_run(text, i, 48, 57, 10, 48, MOST_DIGITS);
+    if run.end == i {
         return Lexeme::NoToken;
     }
-    if MOST_DIGITS < e - i {
+    if MOST_DIGITS < run.end - i {
         return Lexeme::NoToken;
     }
-    let n = spell(text, i, e, 10, 48);
-    if 2147483647 < n {
+    if 2147483647 < run.number {
         return Lexeme::NoToken;
     }
     Lexeme::Token {
-        code: NUMBER + EXCESS + n,
-        end: e,
+        code: NUMBER + EXCESS + run.number,
+        end: run.end,
     }
 }
 
 // The same with the minus before i.
-fn negative(text: &[u8], i: usize, e: usize) -> Lexeme
-    requires { ⌜ (0 < i) × (i ≤ e) × (e ≤ length (now text)) ⌝ ∗ ⌜ length (now text) ≤ 4096 ⌝ ∗ ⌜ e - i ≡ length (takeWhile (between 48 57) (drop i (now text))) ⌝ }
+fn negative(text: &[u8], i: usize) -> Lexeme
+    requires { ⌜ (0 < i) × (i ≤ length (now text)) ⌝ ∗ ⌜ length (now text) ≤ 4096 ⌝ }
     ensures { λ r. ⌜ lexedAs (i - 1) r ≡ numberFrom (λ n. negℤ (pos n)) 1 (takeWhile (between 48 57) (drop i (now (text .entry)))) ⌝ }
 {
-    if e == i {
+    let run = spell_run(text, i, 48, 57, 10, 48, MOST_DIGITS);
+    if run.end == i {
         return Lexeme::NoToken;
     }
-    if MOST_DIGITS < e - i {
+    if MOST_DIGITS < run.end - i {
         return Lexeme::NoToken;
     }
-    let n = spell(text, i, e, 10, 48);
-    if 2147483648 < n {
+    if 2147483648 < run.number {
         return Lexeme::NoToken;
     }
     Lexeme::Token {
-        code: NUMBER + EXCESS - n,
-        end: e,
+        code: NUMBER + EXCESS - run.number,
+        end: run.end,
     }
 }
 
@@ -277,21 +283,18 @@ fn first_token(text: &[u8], i: usize) -> Lexeme
     let b = byte(text, i);
     if b < 48 {
         if b == 45 {
-            let e = run_end(text, i + 1, 48, 57);
-            return negative(text, i + 1, e);
+            return negative(text, i + 1);
         }
         return sign(text, i);
     }
     if b < 58 {
-        let e = run_end(text, i, 48, 57);
-        return number(text, i, e);
+        return number(text, i);
     }
     if b < 65 {
         return sign(text, i);
     }
     if b < 91 {
-        let e = run_end(text, i, 65, 90);
-        return word(text, i, e);
+        return word(text, i);
     }
     if b < 97 {
         return Lexeme::NoToken;

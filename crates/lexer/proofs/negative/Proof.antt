@@ -1,48 +1,60 @@
+use mathlib.Core.Path.{_≡_}
+use Prim.Native.Nat.{_-_}
 use native.Mathlib.Omega.{arith}
 use lib.IntN.{pos, negℤ}
-use lib.ListN.{drop}
-use Rattle.lexer.proofs.Spells.{run-spelled}
+use lib.ListN.{length, drop}
+use Rattle.tables.specs.Bytes.{between}
+use Rattle.rule.specs.Tokens.{takeWhile}
 use Rattle.lexer.proofs.Numbers.{number-length, number-out, number-found, code-below, range-below, range-out}
 use borrow.Author.Needs.{needs}
 use Rattle.lexer.proofs.negative.Statement.{statement}
 use Rattle.lexer.proofs.negative.Tie as tie
 
+spell-run-requires : tie.Need-spell-run-requires
+spell-run-requires c κs = search needs
+
 returns : tie.Need-returns
 returns c =
-    let start = c .before .before in
-    number-length (λ n. negℤ (pos n)) 1 (drop (start .args .i) (start .args .text .now)) (start .args .i) (start .args .e) (start .pre .1 .1) (λ low high. omega arith)
+    let start = c .before .before .before .before in
+    let run = c .before .before .spell-run in
+    let l = drop (start .args .i) (start .args .text .now) in
+    let long : run .result .end - start .args .i ≡ length (takeWhile (between 48 57) l) = omega (arith, run .ensures .ends) in
+    number-length (λ n. negℤ (pos n)) 1 l _ _ long (λ low high. omega arith)
 
 sub-if2 : tie.Need-sub-if2
 sub-if2 c = search needs
 
 returns-2 : tie.Need-returns-2
 returns-2 c =
-    let start = c .before .before .before in
-    number-length (λ n. negℤ (pos n)) 1 (drop (start .args .i) (start .args .text .now)) (start .args .i) (start .args .e) (start .pre .1 .1) (λ low high. omega arith)
-
-spell-requires : tie.Need-spell-requires
-spell-requires c κs =
-    let start = c .before .before .before in
-    run-spelled (start .args .text .now) (start .args .i) (start .args .e) 10 48 48 57 10 (start .pre .0 .1) (start .pre .0 .2)
-    (start .pre .1 .1) (omega arith) (omega arith) (omega arith) (omega arith) (omega arith)
+    let start = c .before .before .before .before .before .before in
+    let run = c .before .before .before .before .spell-run in
+    let l = drop (start .args .i) (start .args .text .now) in
+    let long : run .result .end - start .args .i ≡ length (takeWhile (between 48 57) l) = omega (arith, run .ensures .ends) in
+    number-length (λ n. negℤ (pos n)) 1 l _ _ long (λ low high. omega arith)
 
 returns-3 : tie.Need-returns-3
 returns-3 c =
-    let start = c .before .before .before .before .before in
-    number-out (λ n. negℤ (pos n)) 1 (drop (start .args .i) (start .args .text .now)) (start .args .i) (start .args .e) (start .pre .1 .1) (c .before .spell .result) (c .before .spell .ensures) (omega arith) (omega arith) (range-out _ (c .if3 .taken))
+    let start = c .before .before .before .before .before .before .before .before in
+    let run = c .before .before .before .before .before .before .spell-run in
+    let l = drop (start .args .i) (start .args .text .now) in
+    let long : run .result .end - start .args .i ≡ length (takeWhile (between 48 57) l) = omega (arith, run .ensures .ends) in
+    number-out (λ n. negℤ (pos n)) 1 l _ _ long _ (run .ensures .spells (c .before .before .if2 .left)) (omega arith) (omega arith) (range-out _ (c .if3 .taken))
 
-add-t6 : tie.Need-add-t6
-add-t6 c = search needs
+add-t5 : tie.Need-add-t5
+add-t5 c = search needs
 
-sub-t7 : tie.Need-sub-t7
-sub-t7 c = search needs
+sub-t6 : tie.Need-sub-t6
+sub-t6 c = search needs
 
 returns-4 : tie.Need-returns-4
 returns-4 c =
-    let start = c .before .before .before .before .before in
-    number-found (λ n. negℤ (pos n)) 1 (drop (start .args .i) (start .args .text .now)) (start .args .i) (start .args .e) (start .pre .1 .1) (c .before .spell .result) (c .before .spell .ensures) (omega arith) (omega arith)
-    _ _ (range-below (c .before .spell .result) (omega arith)) (code-below (c .before .spell .result) (omega arith)) (omega arith)
+    let start = c .before .before .before .before .before .before .before .before .before in
+    let run = c .before .before .before .before .before .before .before .spell-run in
+    let l = drop (start .args .i) (start .args .text .now) in
+    let long : run .result .end - start .args .i ≡ length (takeWhile (between 48 57) l) = omega (arith, run .ensures .ends) in
+    number-found (λ n. negℤ (pos n)) 1 l _ _ long _ (run .ensures .spells (c .before .before .before .if2 .left)) (omega arith) (omega arith) _ _ (range-below (run .result .number) (omega arith)) (code-below (run .result .number) (omega arith)) (omega arith)
 
 pub negative-spec : {M : Type 1} → statement M
 negative-spec =
-    tie.close (tie.spec returns sub-if2 returns-2 spell-requires returns-3 add-t6 sub-t7 returns-4)
+    tie.close
+    (tie.spec spell-run-requires returns sub-if2 returns-2 returns-3 add-t5 sub-t6 returns-4)
