@@ -1,0 +1,804 @@
+"""docs/RULES.md against the reference model and the library as built: each example is read from the manual and tried on both.
+
+The manual is plain Markdown. What this program finds in it:
+
+- a fenced block `tables`: the tables that the examples of its section are tried with; a section without one has those of the first section
+- a fenced block `rule`: a rule, with the values that the next line of text gives it: "Rows 0 to 4: T F U F T"
+- a fenced block `grammar`: the forms of the grammar, a line each
+- a table with a column "Rule": an example in each line, and what is tried of it in the other columns (RULE_COLUMNS); `text_of` says how an example is written
+- tables of other sorts, by the heading of their first column (`sorts` of Manual)
+
+A fenced block, a table, a column or an example of any other sort is a fault, and so is a section with fewer examples than AT_LEAST says.
+Exit status 0 when everything that the manual says of its examples is so on the model and on the library. The last line has the counts.
+"""
+import collections
+import itertools
+import pathlib
+import random
+import re
+import string
+import sys
+import typing
+
+ROOT = pathlib.Path(__file__).resolve().parents[2]
+sys.path[:0] = [str(ROOT / "tests" / "calls")]
+
+import compare  # noqa: E402
+import end_to_end  # noqa: E402
+import library  # noqa: E402
+import paper  # noqa: E402
+
+import cases  # noqa: E402  (library adds the model's folder to the path)
+import generate  # noqa: E402
+import model  # noqa: E402
+
+NAME = "docs/RULES.md"
+SEED = 20261116
+DERIVED_TEXTS = 1500
+TRUTHS = {"T": model.TRUE, "U": model.UNKNOWN, "F": model.FALSE}
+TESTS = {"T": "1 = 1", "U": "m.1 = 1", "F": "1 = 2"}  # with these values where m.1 is blank
+READING_REFUSALS = range(1, 9)
+
+# how many examples of each sort a section has to have; every section stands here
+AT_LEAST = {
+    "Start": {"values": 3},
+    "How a rule is written": {"tokens": 23, "answers": 6, "grammar": 1, "readings": 9, "limits": 7, "parts": 4},
+    "Blanks": {"values": 16, "cases": 12, "connectives": 21, "lists": 42},
+    "NOT IN with a blank in the list": {"values": 8},
+    "Refusals": {"refusals": 12, "answers": 43, "written instead": 8},
+    "Rules ready to use": {"ready rules": 4, "values": 7},
+}
+WHOLE = "the manual as a whole"
+
+
+class Fault(Exception):
+    """The manual says what is not so, or says it in a way that cannot be tried."""
+
+
+def number_from(written):
+    """A number as the manual writes it: in figures, with commas and a long minus, or as a word."""
+    words = "zero one two three four five six seven eight nine ten eleven twelve".split()
+    if written in words:
+        return words.index(written)
+    try:
+        return int(written.replace(",", "").replace("−", "-"))
+    except ValueError:
+        raise Fault(f"no number: {written}") from None
+
+
+# ---- who answers
+
+def refusal_in(answer):
+    """The number of a refusal, or None."""
+    return answer.number if isinstance(answer, model.Refused) else None
+
+
+class Model:
+    """The reference model."""
+    name = "the model"
+
+    def refusal(self, text, file):
+        """The number that reading refuses with, or None."""
+        return refusal_in(self.parts(text, file))
+
+    def parts(self, text, file):
+        """READ's parts."""
+        return model.read(text, file, model.MOST_PARTS)
+
+    def values(self, text, file):
+        """JUDGE on each row of table 1."""
+        return [model.judge(text, file, row) for row in range(cases.row_count(file))]
+
+    def beyond_reading(self):
+        """The refusals of document 01's examples for 9 to 12: a card of two bytes, 3 columns against 2, row 3 of three, 18 bytes for the worked card."""
+        return [refusal_in(answer) for answer in (
+            model.check(b"\0\0"),
+            model.list_rows(paper.WORKED_CARD, TWO_COLUMNS, 3),
+            model.judge(paper.WORKED_TEXT, THREE_ROWS, 3),
+            model.card(paper.WORKED_TEXT, THREE_ROWS, 18))]
+
+
+TWO_COLUMNS = generate.tables_file([(2, [[0, 0]] * 3)])
+THREE_ROWS = generate.tables_file([(3, [[0, 0, 0]] * 3)])
+
+
+class Library:
+    """The library as built."""
+    name = "the library"
+
+    def __init__(self):
+        self.rules, self.gate = library.Rules(library.load("roskudla")), library.Gate(library.load("roskudla_gate"))
+
+    def refusal(self, text, file):
+        """The number that READ and CARD refuse with, or None; without room they refuse an accepted rule with 12."""
+        read, card = (refusal_in(call(text, file, ())[0]) for call in (self.rules.read, self.rules.card))
+        compare.same((text, "READ and CARD"), read, card)
+        return None if read == 12 else read
+
+    def parts(self, text, file):
+        count, after = self.rules.read(text, file, cases.lent("READ", model.MOST_PARTS))
+        return count if isinstance(count, model.Refused) else list(after[:count])
+
+    def values(self, text, file):
+        """JUDGE on each row of table 1; the card that CARD makes has to be sound, and RUN and LIST have to admit the rows where JUDGE says true."""
+        values = [self.rules.judge(text, file, row) for row in range(cases.row_count(file))]
+        if self.refusal(text, file) is None:
+            rule = end_to_end.Rule(self.rules, self.gate, text, file)
+            rule.run(file, values)
+            rule.list_rows(file, values)
+        return values
+
+    def beyond_reading(self):
+        return [refusal_in(answer) for answer in (
+            self.gate.check(b"\0\0"),
+            self.gate.list_rows(paper.WORKED_CARD, TWO_COLUMNS, (0,) * 3)[0],
+            self.rules.judge(paper.WORKED_TEXT, THREE_ROWS, 3),
+            self.rules.card(paper.WORKED_TEXT, THREE_ROWS, (0,) * 18)[0])]
+
+
+# ---- the manual as blocks
+
+class Heading(typing.NamedTuple):
+    line: int
+    depth: int
+    title: str
+
+
+class Fence(typing.NamedTuple):
+    """A fenced block: what stands behind its first fence, and its lines."""
+    line: int
+    info: str
+    lines: list
+
+
+class Table(typing.NamedTuple):
+    """A table: its headings, and for each row its line number and its cells by heading."""
+    line: int
+    headings: list
+    rows: list
+
+
+class Text(typing.NamedTuple):
+    line: int
+    text: str
+
+
+def cells_of(line):
+    """The cells of a table's line."""
+    return [cell.strip() for cell in line.strip().strip("|").split("|")]
+
+
+def table_of(start, lines):
+    """The table of some lines, the first of which has this number."""
+    headings = cells_of(lines[0])
+    if len(lines) < 3 or set(lines[1]) - set("|-") or len(set(headings)) < len(headings):
+        raise Fault(f"line {start}: no table")
+    rows = []
+    for number, line in enumerate(lines[2:], start + 2):
+        cells = cells_of(line)
+        if len(cells) != len(headings):
+            raise Fault(f"line {number}: {len(cells)} cells under {len(headings)} headings")
+        rows.append((number, dict(zip(headings, cells))))
+    return Table(start, headings, rows)
+
+
+def blocks_of(lines):
+    """Headings, fenced blocks, tables and lines of text, in their order."""
+    place = 0
+    while place < len(lines):
+        start, line = place, lines[place]
+        place += 1
+        if line.startswith("```"):
+            if "```" not in lines[place:]:
+                raise Fault(f"line {start + 1}: a fenced block without an end")
+            place = lines.index("```", place)
+            yield Fence(start + 1, line[3:], lines[start + 1:place])
+            place += 1
+        elif line.startswith("|"):
+            while place < len(lines) and lines[place].startswith("|"):
+                place += 1
+            yield table_of(start + 1, lines[start:place])
+        elif line.startswith("#"):
+            depth = len(line) - len(line.lstrip("#"))
+            yield Heading(start + 1, depth, line[depth:].strip())
+        elif line:
+            yield Text(start + 1, line)
+
+
+# ---- examples as they are written
+
+CODE = "`([^`]+)`"
+BLANK_BYTES = {"space": b" ", "line feed": b"\n", "tab": b"\t", "carriage return": b"\r"}
+
+
+def text_of(cell):
+    """The text that a cell describes: pieces with "then" between them, each in backticks, perhaps so many times, or so many spaces and the like.
+
+    There is a space between two pieces in backticks, and between two times the same.
+    """
+    if cell == "the empty text":
+        return b""
+    text, after_code = b"", False
+    for piece in cell.split(", then "):
+        blanks = re.fullmatch(r"([\d,]+) (space|line feed|tab|carriage return)s?", piece)
+        code = re.fullmatch(f"{CODE}(?: ([\\d,]+) times(?: with {CODE} between)?)?", piece)
+        if blanks:
+            text += BLANK_BYTES[blanks[2]] * number_from(blanks[1])
+        elif code:
+            between = f" {code[3]} " if code[3] else " "
+            text += (b" " if after_code else b"") + between.join([code[1]] * number_from(code[2] or "1")).encode()
+        else:
+            raise Fault(f"no example of a text: {cell}")
+        after_code = bool(code)
+    return text
+
+
+def answer_from(cell):
+    """The refusal's number, or None for an accepted rule."""
+    if cell == "accepted":
+        return None
+    refused = re.fullmatch(r"refused (\d+)", cell)
+    if not refused:
+        raise Fault(f"neither accepted nor refused: {cell}")
+    return int(refused[1])
+
+
+def truth_from(cell):
+    """The truth value that a letter stands for."""
+    if cell not in TRUTHS:
+        raise Fault(f"not T, U or F: {cell}")
+    return TRUTHS[cell]
+
+
+def cell_from(written):
+    """A cell of a table: a number, or None for a blank."""
+    return None if written == "blank" else number_from(written)
+
+
+def table_from(line, number):
+    """The columns and rows of a line like "Table 2, passes, 2 columns (member, day): (1, 5), (2, blank)"."""
+    form = re.fullmatch(r"Table (\d+)(?:, [a-z ]+)?, (\d+) columns?(?: \(([^()]+)\))?: (no rows|\([^()]+\)(?:, \([^()]+\))*)", line)
+    if not form or int(form[1]) != number:
+        raise Fault(f"not the tables in their order: {line}")
+    columns = int(form[2])
+    rows = [[cell_from(cell) for cell in row.split(", ")] for row in re.findall(r"\(([^()]+)\)", form[4])]
+    if any(len(row) != columns for row in rows) or form[3] and len(form[3].split(", ")) != columns:
+        raise Fault(f"not {columns} columns: {line}")
+    return columns, rows
+
+
+def tables_from(fence):
+    """The tables file that a block describes: a line for each table, which goes on where the next line is indented."""
+    lines = re.sub(r"\n +", " ", "\n".join(fence.lines)).split("\n")
+    return generate.tables_file([table_from(line, number) for number, line in enumerate(lines, 1)])
+
+
+def code_in(cell):
+    """What stands in backticks in a cell."""
+    return re.findall(CODE, cell)
+
+
+# ---- what is measured against the limits
+
+def condition_in(text):
+    """The condition that a text reads as, whatever its size."""
+    return model.condition_of(model.tokens_of(text))
+
+
+def part_count(condition):
+    """How many parts a condition has."""
+    return 1 + sum(part_count(inner) for inner in model.inner_conditions(condition))
+
+
+def from_depth(condition):
+    """How many FROMs stand around one another."""
+    inner = max((from_depth(one) for one in model.inner_conditions(condition)), default=0)
+    return inner + isinstance(condition, (model.Exists, model.Listed))
+
+
+def most_open(text):
+    """The most ( less ) up to a token."""
+    steps = [{model.OPENING: 1, model.CLOSING: -1}.get(token, 0) for token in model.tokens_of(text)]
+    return max(itertools.accumulate(steps))
+
+
+def written_numbers(text):
+    """The numbers of a text, as they are written."""
+    return [number.decode() for number in re.findall(rb"-?[0-9]+", text)]
+
+
+# what each limit of the manual's table is about, and the step from the last accepted text to the first refused one
+MEASURES = {
+    "bytes": (len, 1),
+    "digits": (lambda text: max(len(number.lstrip("-")) for number in written_numbers(text)), 1),
+    "largest number": (lambda text: max(int(number) for number in written_numbers(text)), 1),
+    "smallest number": (lambda text: min(int(number) for number in written_numbers(text)), -1),
+    "more `(` than `)`": (most_open, 1),
+    "parts": (lambda text: part_count(condition_in(text)), 1),
+    "FROMs": (lambda text: from_depth(condition_in(text)), 1),
+}
+# those that sentences of the manual state too, where a text has at most so many, or is refused with over so many
+IN_SENTENCES = ("bytes", "digits", "more `(` than `)`", "parts", "FROMs")
+RANGE_SENTENCE = r"(−[\d,]+) to ([\d,]+)"
+TABLES_SENTENCE = r"There are (\d+) to (\d+) tables, with (\d+) to (\d+) columns and (\d+) to ([\d,]+) rows each, and at most ([\d,]+) cells in all\."
+
+
+def sizes_with_cells(count):
+    """Two tables with so many cells."""
+    return [(16, count // 16), (1, count % 16)]
+
+
+# tables that have so many of each
+SIZES = {
+    "tables": lambda count: [(1, 0)] * count,
+    "columns": lambda count: [(count, 0)],
+    "rows": lambda count: [(1, count)],
+    "cells": sizes_with_cells,
+}
+
+# ---- tokens
+
+# words of SQL that a rule might be thought to have
+SQL_WORDS = (
+    "ANY BETWEEN LIKE TRUE FALSE UNKNOWN DECLINED DISTINCT UNIQUE OVERLAPS MATCH UNION EXCEPT INTERSECT GROUP BY HAVING ORDER ASC DESC COUNT SUM MIN MAX "
+    "AVG CASE WHEN THEN ELSE END CAST COALESCE NULLIF VALUES TABLE JOIN ON USING AS CROSS INNER OUTER LEFT RIGHT FULL NATURAL LIMIT DATE CURRENT XOR").split()
+
+
+def changed_words(word):
+    """A word with a letter left out, doubled or changed."""
+    for place, letter in enumerate(word):
+        yield word[:place] + word[place + 1:]
+        yield word[:place] + letter + word[place:]
+        yield from (word[:place] + other + word[place + 1:] for other in string.ascii_uppercase)
+
+
+def runs_to_try(words):
+    """Every run of up to three capitals; the words, changed and in pairs; words of SQL."""
+    runs = {"".join(run) for length in (1, 2, 3) for run in itertools.product(string.ascii_uppercase, repeat=length)}
+    for word in itertools.chain(words, model.WORDS):
+        runs.update(changed_words(word))
+    return runs | {a + b for a in words for b in words} | set(words) | set(model.WORDS) | set(SQL_WORDS)
+
+
+# ---- the grammar
+
+class Grammar:
+    """The forms of a block `grammar`. A symbol of a form is a name with forms of its own, a sort of token, or a token."""
+
+    def __init__(self, lines, comparisons):
+        self.forms = collections.defaultdict(list)
+        self.sorts = {"number": ("1", "2", "-1", "0"), "letter": ("m", "v"), "comparison": comparisons}
+        name = None
+        for line in lines:
+            form = re.fullmatch(r"(?:([a-z]+):)? +(\S.*)", line)
+            if not form or not (form[1] or name):
+                raise Fault(f"no form of the grammar: {line}")
+            name = form[1] or name
+            self.forms[name].append(form[2].split())
+        self.heights = {}
+        while len(self.heights) < len(self.forms):
+            before = len(self.heights)
+            self.heights |= {name: 1 + min(self.known(forms)) for name, forms in self.forms.items() if name not in self.heights and self.known(forms)}
+            if len(self.heights) == before:
+                raise Fault("the grammar has a name that never ends")
+
+    def known(self, forms):
+        """The heights of those forms whose names all have a height."""
+        return [self.height(form) for form in forms if all(symbol not in self.forms or symbol in self.heights for symbol in form)]
+
+    def height(self, form):
+        """How deep the names in a form go, at least."""
+        return max(self.heights.get(symbol, 0) for symbol in form)
+
+    def derived(self, draw, symbol, deepest):
+        """Tokens that a symbol stands for, drawn."""
+        if symbol in self.sorts:
+            return [draw.choice(self.sorts[symbol])]
+        if symbol not in self.forms:
+            return [symbol]
+        fitting = [form for form in self.forms[symbol] if self.height(form) < deepest] or [min(self.forms[symbol], key=self.height)]
+        return [token for inner in draw.choice(fitting) for token in self.derived(draw, inner, deepest - 1)]
+
+    def fits(self, symbol, token):
+        """Whether a symbol that is no name stands for a token."""
+        if symbol == "number":
+            return token.lstrip("-").isdigit()
+        if symbol == "letter":
+            return len(token) == 1 and token.islower()
+        return token in self.sorts.get(symbol, (symbol,))
+
+    def holds(self, tokens):
+        """Whether the whole of some tokens is a condition: Earley's recognizer, which takes forms that begin with their own name as they are."""
+        states = [set() for _ in range(len(tokens) + 1)]
+
+        def add(place, state):
+            if state not in states[place]:
+                states[place].add(state)
+                waiting.append(state)
+
+        for place in range(len(tokens) + 1):
+            waiting = list(states[place])
+            if place == 0:
+                for form in self.forms["condition"]:
+                    add(0, ("condition", tuple(form), 0, 0))
+            while waiting:
+                name, form, done, start = waiting.pop()
+                if done == len(form):
+                    for other in [state for state in states[start] if state[2] < len(state[1]) and state[1][state[2]] == name]:
+                        add(place, (other[0], other[1], other[2] + 1, other[3]))
+                elif form[done] in self.forms:
+                    for inner in self.forms[form[done]]:
+                        add(place, (form[done], tuple(inner), 0, place))
+                elif place < len(tokens) and self.fits(form[done], tokens[place]):
+                    states[place + 1].add((name, form, done + 1, start))
+        return any(name == "condition" and done == len(form) and start == 0 for name, form, done, start in states[-1])
+
+
+def damaged(draw, tokens):
+    """Tokens with one left out, put in, changed or exchanged for its neighbour."""
+    changed, place = list(tokens), draw.randrange(len(tokens))
+    loose = generate.LOOSE_TOKENS
+    sort = draw.randrange(4)
+    if sort == 0:
+        del changed[place]
+    elif sort == 1:
+        changed.insert(place, draw.choice(loose))
+    elif sort == 2:
+        changed[place] = draw.choice(loose)
+    else:
+        changed[place - 1:place + 1] = reversed(changed[place - 1:place + 1])
+    return changed
+
+
+# ---- trying what the manual says
+
+ROW_HEADING = re.compile(r"row (\d+)")
+FILE_HEADING = "Tables file, in hexadecimal"
+# the columns of a table with a column "Rule": what is tried, and what is explanation
+RULE_COLUMNS = ("Rule", "Case", "Answer", "Parts", "Is read as", "Not as", "Write instead", FILE_HEADING)  # and "row 0", "row 1", ..
+EXPLANATIONS = ("In words", "Why", "Why, and what to do")
+
+
+class Manual:
+    """The manual, tried block by block; `faults` has what is not so, `counts` how many examples of each sort were tried in each section."""
+
+    def __init__(self, text, judges):
+        self.text, self.judges = text, judges
+        self.faults, self.counts = [], collections.defaultdict(collections.Counter)
+        self.section, self.sections = WHOLE, []
+        self.file, self.first_file, self.rule = b"", b"", None
+        self.letters, self.comparisons = set(), ()
+        self.most, self.refused, self.fronts = {}, set(), set()
+        self.sorts = {
+            "Token": self.try_tokens, "Limit": self.try_limits, "In front": self.try_connectives,
+            "Values in the list": self.try_lists, "Refusal": self.try_refusals}
+
+    def fault(self, line, what):
+        self.faults.append(f"{NAME}:{line}: {what}")
+
+    def tried(self, line, sort, example, *arguments):
+        """Tries an example, and counts it."""
+        self.counts[self.section][sort] += 1
+        try:
+            example(*arguments)
+        except (Fault, compare.Disagreement, library.OutsideWritten) as error:
+            self.fault(line, str(error))
+        except (LookupError, TypeError, ValueError, model.Refusal) as error:
+            self.fault(line, f"cannot be tried: {error!r}")
+
+    def each(self, what, answer, wanted):
+        """Both judges have to give the wanted answer; `answer` gets a judge."""
+        for judge in self.judges:
+            got = answer(judge)
+            if got != wanted:
+                raise Fault(f"{compare.shown(what)}: {judge.name} says {compare.shown(got)}, the manual {compare.shown(wanted)}")
+
+    def answers(self, text, file, refusal):
+        """A text is refused with this number, or accepted where it is None."""
+        self.each(text, lambda judge: judge.refusal(text, file), refusal)
+
+    def values(self, text, file, letters):
+        """A rule has the values of these letters on the rows of table 1."""
+        self.each(text, lambda judge: judge.values(text, file), [truth_from(letter) for letter in letters])
+
+    # ---- blocks
+
+    def try_all(self):
+        """Tries all blocks, and then what is about the manual as a whole."""
+        for block in blocks_of(self.text.split("\n")):
+            self.try_block(block)
+        self.section = WHOLE
+        self.tried(1, "sentences", self.try_sentences)
+        self.tried(1, "sentences", self.try_tables_sentence)
+        for target in re.findall(r"\]\(([^)]+)\)", self.text):
+            self.tried(1, "links", self.try_link, target)
+        self.demand()
+
+    def try_block(self, block):
+        if self.rule is not None:
+            text, self.rule = self.rule, None
+            self.tried(block.line, "ready rules", self.try_ready_rule, text, block)
+        elif isinstance(block, Heading) and block.depth == 2:
+            self.section, self.file = block.title, self.first_file
+            self.sections.append(block.title)
+        elif isinstance(block, Fence):
+            self.try_fence(block)
+        elif isinstance(block, Table):
+            self.try_table(block)
+
+    def try_fence(self, fence):
+        if fence.info == "tables":
+            self.tried(fence.line, "tables", self.take_tables, fence)
+        elif fence.info == "rule":
+            self.rule = "\n".join(fence.lines).encode()
+        elif fence.info == "grammar":
+            self.tried(fence.line, "grammar", self.try_grammar, fence.lines)
+        else:
+            self.fault(fence.line, f"a fenced block of no known sort: {fence.info}")
+
+    def take_tables(self, fence):
+        """The tables of what follows; they have to be accepted."""
+        self.file = tables_from(fence)
+        self.first_file = self.first_file or self.file
+        self.answers(b"1 = 1", self.file, None)
+
+    def try_table(self, table):
+        if "Rule" in table.headings:
+            self.try_rules(table)
+        elif table.headings[0] in self.sorts:
+            for line, cells in table.rows:
+                self.sorts[table.headings[0]](line, cells)
+        else:
+            self.fault(table.line, f"a table of no known sort: {table.headings}")
+
+    # ---- rules
+
+    def try_ready_rule(self, text, block):
+        """The values of a rule, as the line behind it gives them."""
+        form = re.fullmatch(r"Rows 0 to (\d+): ([TUF](?: [TUF])*)", block.text) if isinstance(block, Text) else None
+        if not form:
+            raise Fault("these are no values for the rule before them")
+        letters = form[2].split()
+        compare.same("the last row", int(form[1]), len(letters) - 1)
+        self.values(text, self.file, letters)
+
+    def try_rules(self, table):
+        """A table with a column "Rule": values on rows, or an answer, or a number of parts, or a reading; more than one of these where there are several."""
+        rows = [heading for heading in table.headings if ROW_HEADING.fullmatch(heading)]
+        unknown = [heading for heading in table.headings if heading not in RULE_COLUMNS + EXPLANATIONS and heading not in rows]
+        if unknown or rows != [f"row {number}" for number in range(len(rows))]:
+            self.fault(table.line, f"columns of no known sort: {unknown or rows}")
+        if not (rows or {"Answer", "Parts", "Is read as"} & set(table.headings)):
+            self.fault(table.line, "nothing is said of these rules")
+        for line, cells in table.rows:
+            if rows:
+                self.tried(line, "values", self.try_values, cells, [cells[row] for row in rows])
+            if "Case" in cells:
+                self.tried(line, "cases", self.try_case, cells)
+            if "Answer" in cells:
+                self.tried(line, "answers", self.try_answer, cells)
+            if "Parts" in cells:
+                self.tried(line, "parts", self.try_parts, cells)
+            if "Is read as" in cells:
+                self.tried(line, "readings", self.try_reading, cells)
+            if "Write instead" in cells:
+                self.tried(line, "written instead", self.try_instead, cells)
+
+    def try_values(self, cells, letters):
+        self.values(text_of(cells["Rule"]), self.file, letters)
+
+    def try_case(self, cells):
+        """The proved case with this number: the manual has to have its rule; its values are tried besides."""
+        case = paper.CASES[int(cells["Case"]) - 1]
+        compare.same(f"the rule of case {cells['Case']}", text_of(cells["Rule"]), case.text)
+        compare.same("the number of the case", int(cells["Case"]), self.counts[self.section]["cases"])
+        compare.same("the tables of the cases", model.tables_of(self.file), model.tables_of(paper.CASE_TABLES))
+
+    def try_answer(self, cells):
+        refusal, written = answer_from(cells["Answer"]), cells.get(FILE_HEADING, "the tables above")
+        file = self.file if written == "the tables above" else bytes.fromhex(*code_in(written))
+        text = text_of(cells["Rule"])
+        self.answers(text, file, refusal)
+        self.refused.add(refusal)
+        for number, name in re.findall(r"(\d+) (more|parts)", cells.get("Why, and what to do", "")):
+            compare.same(f"what is said of {text}: {name}", int(number), MEASURES["more `(` than `)`" if name == "more" else name][0](text))
+
+    def try_instead(self, cells):
+        self.answers(text_of(cells["Write instead"]), self.file, None)
+
+    def try_parts(self, cells):
+        text = text_of(cells["Rule"])
+        self.answers(text, self.file, None)
+        self.each(text, lambda judge: len(judge.parts(text, self.file)), int(cells["Parts"]))
+
+    def try_reading(self, cells):
+        """Two rules with the same parts, and one with others."""
+        text, same, other = (text_of(cells[heading]) for heading in ("Rule", "Is read as", "Not as"))
+        for one in (text, same, other):
+            self.answers(one, self.file, None)
+        for judge in self.judges:
+            parts = judge.parts(text, self.file)
+            if parts != judge.parts(same, self.file):
+                raise Fault(f"{judge.name} reads {text} in another way than {same}")
+            if parts == judge.parts(other, self.file):
+                raise Fault(f"{judge.name} reads {text} in the same way as {other}")
+
+    # ---- tables of other sorts
+
+    def try_tokens(self, line, cells):
+        """A line of the tokens; what is in it is tried one by one, and everything else that might be of its sort."""
+        sort, tokens = cells["Token"], code_in(cells["Written"])
+        examples = {"word": self.try_words, "letter": self.try_letters, "comparison": self.try_comparisons, "bracket or point": self.try_signs}
+        if sort in examples:
+            self.tried(line, "tokens", examples[sort], tokens)
+            self.counts[self.section]["tokens"] += len(tokens) - 1
+        elif sort != "number":
+            self.fault(line, f"no sort of token: {sort}")
+
+    def is_token(self, text):
+        """Whether a text without a condition is made of tokens: it is refused with 6, and else with 4."""
+        answers = {judge.refusal(text, self.file) for judge in self.judges}
+        if not answers <= {4, 6} or len(answers) > 1:
+            raise Fault(f"{text} is refused with {answers}")
+        return answers == {6}
+
+    def try_words(self, words):
+        found = {run for run in runs_to_try(words) if self.is_token(run.encode())}
+        compare.same("the words", sorted(words), sorted(found))
+
+    def try_letters(self, ends):
+        """From one letter to another; they are tried with the signs."""
+        first, last = (ord(end) for end in ends)
+        self.letters = set(range(first, last + 1))
+
+    def try_comparisons(self, comparisons):
+        """Of all single signs and pairs of them, those between two numbers that make a test."""
+        signs = [chr(byte) for byte in range(33, 127) if not chr(byte).isalnum() and chr(byte) != "-"]
+        runs = signs + [first + second for first in signs for second in signs]
+        for judge in self.judges:
+            found = {run for run in runs if judge.refusal(f"1{run}1".encode(), self.file) is None}
+            compare.same(f"the comparisons by {judge.name}", sorted(comparisons), sorted(found))
+        self.comparisons = tuple(comparisons)
+
+    def try_signs(self, signs):
+        """Each byte by itself: a letter, a digit, a sign of one byte, a space or a line feed, and nothing else."""
+        one_byte = signs + [sign for sign in self.comparisons if len(sign) == 1]
+        wanted = self.letters | set(b"0123456789 \n") | {ord(sign) for sign in one_byte}
+        compare.same("the bytes of tokens", sorted(wanted), [byte for byte in range(256) if self.is_token(bytes([byte]))])
+
+    def try_limits(self, line, cells):
+        self.tried(line, "limits", self.try_limit, cells)
+
+    def try_limit(self, cells):
+        """A limit from both sides, with texts that are as large as the manual says."""
+        name, most = cells["Limit"], number_from(cells["Most"])
+        if name not in MEASURES:
+            raise Fault(f"no limit: {name}")
+        measure, step = MEASURES[name]
+        self.most[name] = most
+        within, beyond = text_of(cells["Accepted"]), text_of(cells["One more"])
+        compare.same(f"{name} of what is accepted", measure(within), most)
+        compare.same(f"{name} of what is refused", measure(beyond), most + step)
+        self.answers(within, self.file, None)
+        self.answers(beyond, self.file, answer_from(cells["Answer to that"]))
+
+    def try_connectives(self, line, cells):
+        """What a heading makes of the value in front, with tests that have their values on a row whose column is blank."""
+        file = generate.tables_file([(1, [[None]])])
+        front = TESTS.get(cells["In front"], "")
+        forms = {"`NOT`": f"NOT {front}"}
+        for word, behind in itertools.product(("AND", "OR"), TESTS):
+            forms[f"`{word}` {behind}"] = f"{front} {word} {TESTS[behind]}"
+        for heading, text in forms.items():
+            self.tried(line, "connectives", self.values, text.encode(), file, [cells.get(heading)])
+        self.fronts.add(cells["In front"])
+
+    def try_lists(self, line, cells):
+        """The test that a heading begins, with a list of these values, on a row whose column is blank."""
+        written = cells["Values in the list"]
+        values = [] if written == "none" else [cell_from(value) for value in written.split(", ")]
+        file = generate.tables_file([(1, [[None]]), (1, [[value] for value in values])])
+        for heading, letter in itertools.islice(cells.items(), 1, None):
+            begun = "".join(code_in(heading))
+            text = "EXISTS (FROM 2 v WHERE 1 = 1)" if begun == "EXISTS" else f"{begun} (SELECT v.1 FROM 2 v WHERE 1 = 1)"
+            self.tried(line, "lists", self.values, text.encode(), file, [letter])
+
+    def try_refusals(self, line, cells):
+        self.tried(line, "refusals", self.try_refusal, cells)
+
+    def try_refusal(self, cells):
+        """A line of the refusals, which stand in their order, each with what to do; those beyond reading are tried on document 01's examples."""
+        number = int(cells["Refusal"])
+        compare.same("the number of the refusal", number, self.counts[self.section]["refusals"])
+        if not cells["When"] or not cells["What to do"]:
+            raise Fault("it is not said when, or what to do")
+        if number not in READING_REFUSALS:
+            self.each(f"example of {number}", lambda judge: judge.beyond_reading()[number - 9], number)
+
+    def try_grammar(self, lines):
+        """Drawn conditions of the manual's grammar are conditions, those of the tests' own generator are in the manual's grammar, and of damaged ones
+        exactly those that are not in it are refused with 6."""
+        grammar, draw = Grammar(lines, self.comparisons), random.Random(SEED)
+        maker = generate.RuleMaker(draw, [2, 1, 1])
+        seen = collections.Counter()
+        for _ in range(DERIVED_TEXTS):
+            own, made = grammar.derived(draw, "condition", draw.randint(4, 12)), maker.rule(draw.choice([1, 2, 3, 4]))
+            for sort, tokens in (("own", own), ("made", made), ("damaged", damaged(draw, own)), ("damaged", damaged(draw, made))):
+                if len(tokens) > 60:
+                    continue
+                text = " ".join(tokens).encode()
+                in_grammar = grammar.holds(tokens)
+                for judge in self.judges:
+                    refusal = judge.refusal(text, self.file)
+                    if refusal in (4, 5) or (refusal == 6) == in_grammar:
+                        raise Fault(f"{text}: {judge.name} says {refusal}, and by the manual it is {'a' if in_grammar else 'no'} condition")
+                seen[sort, in_grammar] += 1
+        compare.same("conditions that the manual's own grammar does not hold", seen["own", False], 0)
+        compare.same("conditions that the manual's grammar does not hold", seen["made", False], 0)
+        compare.demand("the grammar", seen, {"own": (True,), "made": (True,), "damaged": (True, False)})
+
+    # ---- the manual as a whole
+
+    def try_sentences(self):
+        """Where a sentence or a table says at most or over so many, it is the number of the table of limits."""
+        compare.same("the limits", sorted(self.most), sorted(MEASURES))
+        whole = self.text.replace("\n", " ")
+        for name, word in itertools.product(IN_SENTENCES, ("at most", "over")):
+            found = re.findall(f"{word} (\\S+) {re.escape(name)}", whole)
+            if not found or {number_from(number) for number in found} != {self.most[name]}:
+                raise Fault(f"{word} {found} {name}, and by the table of limits {self.most[name]}")
+        ends = [tuple(number_from(end) for end in pair) for pair in re.findall(RANGE_SENTENCE, whole)]
+        compare.same("the range of numbers", set(ends), {(self.most["smallest number"], self.most["largest number"])})
+
+    def try_tables_sentence(self):
+        """The limits of tables, from both sides."""
+        found = re.findall(TABLES_SENTENCE, self.text)
+        compare.same("sentences on the limits of tables", len(found), 1)
+        numbers = [number_from(number) for number in found[0]]
+        for name, least, most in (("tables", *numbers[:2]), ("columns", *numbers[2:4]), ("rows", *numbers[4:6]), ("cells", 0, numbers[6])):
+            for count in {least - 1, least, most, most + 1} - {-1}:
+                self.answers(b"1 = 1", cases.zero_tables(SIZES[name](count)), None if least <= count <= most else 1)
+
+    def try_link(self, target):
+        """A link to a file that is there, or to a heading of the manual."""
+        headings = re.findall(r"^#+ (.*)$", self.text, re.MULTILINE)
+        anchors = {"#" + re.sub(r"[^a-z0-9 -]", "", heading.lower()).replace(" ", "-") for heading in headings}
+        if target not in anchors and not (ROOT / NAME).parent.joinpath(target).is_file():
+            raise Fault(f"a link to {target}, which is not there")
+
+    def demand(self):
+        """The sections are those of AT_LEAST with their examples, every refusal of reading has an example, and every truth value a line."""
+        if self.sections != list(AT_LEAST):
+            self.fault(1, f"the sections are {self.sections}, and should be {list(AT_LEAST)}")
+        for section, wanted in AT_LEAST.items():
+            for sort, least in wanted.items():
+                if self.counts[section][sort] < least:
+                    self.fault(1, f"section {section}: {self.counts[section][sort]} {sort}, and there should be {least}")
+        if not self.refused >= set(READING_REFUSALS):
+            self.fault(1, f"no example of refusals {sorted(set(READING_REFUSALS) - self.refused)}")
+        if self.fronts != set(TESTS):
+            self.fault(1, f"of the truth values, {sorted(self.fronts)} alone stand in front of AND, OR and NOT")
+
+
+def faults_of(text, judges):
+    """What is not so in the text of a manual, and how many examples of each sort were tried."""
+    manual = Manual(text, judges)
+    try:
+        manual.try_all()
+    except Fault as fault:
+        manual.fault(1, str(fault))
+    return manual.faults, sum(manual.counts.values(), collections.Counter())
+
+
+def main():
+    judges = (Model(), Library())
+    faults, counts = faults_of((ROOT / NAME).read_text(), judges)
+    for fault in faults:
+        print(fault)
+    tried = ", ".join(f"{sort} {count}" for sort, count in counts.items())
+    print(f"{NAME}: {counts.total()} examples on {' and '.join(judge.name for judge in judges)}, {len(faults)} faults ({tried})")
+    sys.exit(1 if faults else 0)
+
+
+if __name__ == "__main__":
+    main()
