@@ -1,136 +1,256 @@
-"""RUN and LIST of the library against the same in plain C (plain.c), on the same bytes: the best of several turns and of several ways to link, and their
-ratio. READ of the library alone: how its time grows with the text, and how much stack it takes.
+"""Prints how long the calls take as built, beside an independent Rust implementation (reference/), SQLite and PostgreSQL, as tables in Markdown.
 
-A call is timed whole: both look at the tables and check the card each time, and for RUN of one row that is most of the time. So RUN is also compared with
-plain C that scans the marks as the library does, to the end and many at a time.
+Every time is the best of many. All lines but the longest RUNs are measured in several rounds, so that what else the machine does for a while spoils none of
+them. Every answer is compared with the library's; a difference ends the run with an error.
 """
+import argparse
+import contextlib
+import os
 import pathlib
-import random
+import re
 import subprocess
 import sys
 import tempfile
+from functools import partial
+
+import cases
+import engines
+import goals
+import programs
+import shown
 
 ROOT = pathlib.Path(__file__).resolve().parents[1]
-sys.path.insert(0, str(ROOT / "tests" / "model"))
+sys.path += [str(ROOT / "bindings" / "python"), str(ROOT / "tests" / "model")]
 
 import generate  # noqa: E402
-import model  # noqa: E402
+import roskudla  # noqa: E402
 
-GATE = "roskudla_gate"
-READER = "roskudla"
-SEED = 7
-PADDINGS = (0, 16, 32, 48)
-
-
-def filled(draw, columns, rows, highest, blanks):
-    """A table of numbers up to `highest`, with a share of blanks."""
-    return columns, [[None if draw.random() < blanks else draw.randint(1, highest) for _ in range(columns)] for _ in range(rows)]
+ROUNDS = 4
+ENGINES = ("SQLite", "PostgreSQL")
+LATE = float("inf")  # the time of a query that takes longer than it may
+COMPUTED_FROM, COMPUTED_FOR = 200, 1000  # rows of the longest RUN: measured, and computed from that
 
 
-def cases():
-    """Name, rule, tables and the row that RUN is asked for."""
-    draw = random.Random(SEED)
-    eight = " AND ".join(f"m.{column} {sign} {number}" for column, sign, number in zip(
-        range(1, 9), (">", "<", ">=", "<=", "<>", ">", "<", "<>"), (5, 99, 3, 97, 50, 2, 98, 7)))
-    thousand = filled(draw, 2, 1000, 4000, .1)
-    levels = " AND EXISTS (FROM 3 w WHERE w.1 = v.1 AND EXISTS (FROM 4 x WHERE x.1 > w.1 AND x.1 = m.1))"
-    return (
-        ("flat, 1,000 rows", "m.1 > 2000", [thousand], 500),
-        ("eight conditions, 512 rows", eight, [filled(draw, 16, 512, 100, .1)], 300),
-        ("EXISTS, 1,000 x 1,000", "EXISTS (FROM 2 v WHERE v.1 = m.1)", [thousand, filled(draw, 2, 1000, 4000, .1)], 500),
-        ("NOT IN, 1,000 x 1,000", "m.1 NOT IN (SELECT v.1 FROM 2 v WHERE v.2 > 3990)", [thousand, filled(draw, 2, 1000, 4000, .1)], 500),
-        ("three levels, 60 each", "EXISTS (FROM 2 v WHERE v.1 < m.1" + levels + ")", [filled(draw, 2, 60, 100, .1) for _ in range(4)], 30),
-    )
+class Line:
+    """A line of a table: its best times by side, from sources that each give some of them."""
+
+    def __init__(self, title, *sources):
+        self.title, self.sources, self.times = title, sources, {}
+
+    def take(self):
+        """Measures once more."""
+        for source in self.sources:
+            for side, time in source().items():
+                self.times[side] = min(time, self.times.get(side, time))
 
 
-def built(folder, crate, name, *words):
-    """A program of this folder, linked with a crate's archive, from its sources and other words for gcc."""
-    paths = [str(ROOT / "bench" / word) if word.endswith(".c") else word for word in words]
-    archive = str(ROOT / "target" / "staticlib" / f"lib{crate}.a")
-    subprocess.run(["gcc", "-O3", "-march=x86-64", "-std=c11", "-Wall", "-Wextra", "-pthread", "-o", str(folder / name), *paths, archive], check=True)
-    return folder / name
+class Bench:
+    """The sides: the library and the Rust implementation, by their programs, and the engines."""
+
+    def __init__(self, timed, sql_engines):
+        self.programs, self.engines = timed, sql_engines
+        self.library = roskudla.Calls(ROOT / "target" / "shared" / "libroskudla.so")
+
+    def card(self, case):
+        return self.library.card(case.rule.encode(), generate.tables_file(case.tables))
+
+    def call(self, call, case, most=None):
+        """The times of LIST, RUN or JUDGE by the library and the Rust implementation."""
+        source = case.rule.encode() if call == "judge" else self.card(case)
+        return self.programs.times(call, source, generate.tables_file(case.tables), case.row, most)
+
+    def text(self, call, text):
+        """The times of READ or CARD by the same two. Another refusal than the one that is told of the text is an error."""
+        source, file = text.text.encode(), generate.tables_file(cases.TEXT_TABLES)
+        try:
+            self.library.read(source, file)
+            refusal = None
+        except roskudla.Refused as refused:
+            refusal = refused.number
+        if refusal != text.refusal:
+            raise programs.Different(f"the library refuses with {refusal} and not {text.refusal}: {text.title}")
+        return self.programs.times(call, source, file)
+
+    def wanted(self, call, case):
+        """What an engine's query has to give, by the library's answer."""
+        card, file = self.card(case), generate.tables_file(case.tables)
+        return list(self.library.list_rows(card, file)) if call == "list" else [1] * self.library.run(card, file, case.row)
+
+    def query(self, call, case, indexes=()):
+        """The times of LIST or RUN by the engines. An answer that is not the library's is an error."""
+        wanted = self.wanted(call, case)
+        query = engines.list_query(case) if call == "list" else engines.run_query(case)
+        times = {}
+        for engine in self.engines:
+            try:
+                times[engine.name], got = engine.ask(case.tables, query, indexes)
+            except engines.Timeout:
+                times[engine.name] = LATE
+                continue
+            if got != wanted:
+                raise programs.Different(f"{engine.name} and the library differ on {sorted(set(got) ^ set(wanted))[:9]}: {query}")
+        return times
 
 
-def printed(program, folder, card, file, *words):
-    """The numbers that a program prints for a card and a tables file."""
-    (folder / "card").write_bytes(card)
-    (folder / "tables").write_bytes(file)
-    done = subprocess.run([str(program), str(folder / "card"), str(folder / "tables"), *words], check=True, capture_output=True, text=True)
-    return [float(word) for word in done.stdout.split()]
+# ---- What is measured
+
+class Sheet:
+    """The lines of all tables. The longest RUNs are added when the rounds are over."""
+
+    def __init__(self, bench):
+        self.cases, self.texts = cases.compared(), list(cases.texts())
+        self.list, self.run = (
+            [Line(case.title, partial(bench.call, call, case), partial(bench.query, call, case)) for case in self.cases] for call in ("list", "run"))
+        self.judge = [Line(case.title, partial(bench.call, "judge", case)) for case in self.cases]
+        self.read, self.card = ([Line(text.title, partial(bench.text, call, text)) for text in self.texts] for call in ("read", "card"))
+        self.growth = {
+            growth: [Line(f"{growth.title}, {rows:,} rows", partial(bench.call, "list", growth.case(rows))) for rows in growth.row_counts]
+            for growth in cases.GROWING}
+        self.indexed = [Line(call.upper(), partial(bench.query, call, cases.exists(cases.MOST_ROWS), [(2, 1)])) for call in ("list", "run")]
+        self.longest = []
+
+    def named(self):
+        """The lines that are compared with the Rust implementation, by the call that they are of."""
+        grown = [line for lines in self.growth.values() for line in lines]
+        return {
+            "LIST": self.list, "RUN": self.run, "READ": self.read, "CARD": self.card, "JUDGE": self.judge, "LIST, growth": grown, "RUN, longest": self.longest}
+
+    def take(self):
+        """Measures all lines once more, but for the longest RUNs."""
+        for line in [line for lines in self.named().values() for line in lines] + self.indexed:
+            line.take()
 
 
-def deepest_card():
-    """The card whose entries stand deepest: three row entries around 94 pairs."""
-    leaf = model.blank_entry(8, model.TaggedValue(model.CONSTANT_TAG, 1))
-    entry = leaf
-    for _ in range(94):
-        entry = model.pair_entry(1, leaf, entry)
-    for _ in range(3):
-        entry = model.row_entry(3, 1, entry)
-    return model.card_bytes(entry, [1])
+# ---- Tables
+
+def time_cell(time):
+    return f"over {engines.TIMEOUT_SECONDS} s" if time == LATE else shown.time(time)
 
 
-def timers(folder, name, *words):
-    """The timing program, linked so that its code lies in several ways."""
-    return [built(folder, GATE, f"{name}_{padding}", "time.c", "plain.c", f"-DPADDING={padding}", *words) for padding in PADDINGS]
+def with_ratios(times, sides):
+    """The library's time, and that of each of the sides with the ratio."""
+    library = times["library"]
+    return [shown.time(library)] + [cell for side in sides for cell in (time_cell(times.get(side)), shown.ratio(library, times.get(side)))]
 
 
-def best_times(programs, folder, card, file, row):
-    """The best of each of the four times over these programs: RUN by the library and by plain C, and LIST by both."""
-    return [min(times) for times in zip(*(printed(program, folder, card, file, str(row)) for program in programs))]
+def compared_table(lines, sides):
+    headings = ["rule", "library"] + [heading for side in sides for heading in (side, f"library / {side}")]
+    return shown.table(headings, [[line.title, *with_ratios(line.times, sides)] for line in lines])
 
 
-def show_times(folder):
-    plain, whole_scan = timers(folder, "time"), timers(folder, "scan", "-DWHOLE_SCAN")
-    print(f"{'rule':28} {'RUN ns':>9} {'C ns':>9} {'ratio':>6} {'C, scan':>9} {'ratio':>6}   {'LIST ns':>10} {'C ns':>10} {'ratio':>6}")
-    for title, rule, tables, row in cases():
-        file = generate.tables_file(tables)
-        card = model.card(rule.encode(), file, 10000)
-        run, run_c, listed, listed_c = best_times(plain, folder, card, file, row)
-        again, run_scan, _, _ = best_times(whole_scan, folder, card, file, row)
-        print(f"{title:28} {run:9.0f} {run_c:9.0f} {run / run_c:6.2f} {run_scan:9.0f} {again / run_scan:6.2f}   "
-              f"{listed:10.0f} {listed_c:10.0f} {listed / listed_c:6.2f}")
+def texts_table(sheet):
+    rows = []
+    for text, read, card in zip(sheet.texts, sheet.read, sheet.card):
+        title = text.title if text.refusal is None else f"{text.title} (refusal {text.refusal})"
+        rows.append([title, f"{len(text.text):,}", *with_ratios(read.times, ["Rust"]), *with_ratios(card.times, ["Rust"])])
+    return shown.table(["text", "bytes", "READ", "Rust", "READ / Rust", "CARD", "Rust", "CARD / Rust"], rows)
 
 
-def show_stack(folder):
-    program = built(folder, GATE, "stack", "stack.c")
-    check, run, listed, nothing = printed(program, folder, deepest_card(), generate.tables_file([(1, [[1], [2]])]))
-    print(f"stack touched on the deepest card, in bytes: CHECK {check:.0f}, RUN {run:.0f}, LIST {listed:.0f}; a thread that calls nothing, {nothing:.0f}")
+def growth_table(sheet):
+    rows = []
+    for growth, lines in sheet.growth.items():
+        for count, line in zip(growth.row_counts, lines):
+            each = shown.time(line.times["library"] / count ** growth.power)
+            rows.append([growth.title, f"{count:,}", *with_ratios(line.times, ["Rust"]), f"{each} a {growth.unit}"])
+    return shown.table(["rule", "rows of each table", "library", "Rust", "library / Rust", "library, divided"], rows)
 
 
-def texts():
-    """Name and text for READ: short, long, and with as many brackets and NOTs as fit, at several lengths."""
-    nested = "(" * 32 + "m.1=1" + ")" * 32
-    yield "short", "m.2 < 5"
-    yield "NOT IN", "m.1 NOT IN (SELECT v.1 FROM 1 v WHERE v.2 > 3990)"
-    yield "64 parts", "NOT " + " OR ".join(["m.1 <> -1"] * 32)
-    yield "64 parts, each in another", "NOT " * 63 + "m.1=1"
-    yield "three FROMs", "EXISTS (FROM 1 v WHERE m.1 IN (SELECT w.1 FROM 1 w WHERE w.2 = ALL (SELECT x.2 FROM 1 x WHERE x.1 > v.1)))"
-    for count in (125, 250, 500):
-        yield f"{count} tests joined", " OR ".join(["1=1"] * count)
-    for count in (14, 28, 56):
-        yield f"{count} tests, 32 brackets each", " OR ".join([nested] * count)
-    for count in (255, 511, 1023):
-        yield f"{count} NOTs", "NOT " * count + "1=1"
+def indexed_table(sheet):
+    place = [case.title for case in sheet.cases].index(cases.exists(cases.MOST_ROWS).title)
+    rows = [[line.title, *with_ratios(line.times | {"library": lines[place].times["library"]}, ENGINES)]
+            for line, lines in zip(sheet.indexed, (sheet.list, sheet.run))]
+    return shown.table(["call", "library"] + [heading for side in ENGINES for heading in (side, f"library / {side}")], rows)
 
 
-def show_reading(folder):
-    program = built(folder, READER, "read", "read.c")
-    file = generate.tables_file([(2, [])])
-    print(f"{'text':28} {'bytes':>6} {'READ ns':>9} {'ns a byte':>9} {'stack':>7} {'answer':>7}")
-    for title, text in texts():
-        time, stack, status = printed(program, folder, text.encode(), file)
-        print(f"{title:28} {len(text):6} {time:9.0f} {time / len(text):9.2f} {stack:7.0f} {status:7.0f}")
+# ---- The longest RUN
+
+LONGEST = (  # what makes the case, the rows of its table, whether the engines are asked too
+    (cases.one_comparison, 1000, True), (cases.all_levels, 200, True), (cases.most_work, 100, False), (cases.most_work, COMPUTED_FROM, False))
+
+
+def longest_line(bench, case, asks, most=None):
+    """The line of a long RUN, measured by each program twice, or by so many of them once, and by the engines if they are asked."""
+    call = partial(bench.call, "run", case, most)
+    line = Line(case.title, call, *([] if most else [call]), *([partial(bench.query, "run", case)] if asks else []))
+    line.take()
+    return line
+
+
+def computed_line(line):
+    """The line of the very longest RUN, from one with fewer rows: it grows with their cube."""
+    more = (COMPUTED_FOR / COMPUTED_FROM) ** 3
+    other = Line(f"{cases.most_work(COMPUTED_FOR).title}: computed from {COMPUTED_FROM} rows, not measured")
+    other.times = {side: more * line.times[side] for side in programs.SIDES}
+    return other
+
+
+def longest_table(bench, sheet, whole):
+    """The longest RUNs, of which the sheet keeps the measured lines. The very longest is measured with `whole` and computed otherwise."""
+    sheet.longest = [longest_line(bench, make(rows), asks) for make, rows, asks in LONGEST]
+    if whole:
+        sheet.longest.append(longest_line(bench, cases.most_work(COMPUTED_FOR), False, most=1))
+    lines = sheet.longest + ([] if whole else [computed_line(sheet.longest[-1])])
+    rows = []
+    for line, count in zip(lines, [count for _, count, _ in LONGEST] + [COMPUTED_FOR]):
+        each = shown.time(line.times["library"] / count ** 3)
+        rows.append([line.title, *with_ratios(line.times, ["Rust"]), each, *(time_cell(line.times.get(name)) for name in ENGINES)])
+    return shown.table(["rule", "library", "Rust", "library / Rust", "library, for each three rows", *ENGINES], rows)
+
+
+# ---- The run
+
+def machine(sql_engines):
+    """The kind of machine, and the versions of what is compared."""
+    fields = dict(re.findall(r"^([a-z _]+?)\s*: (.*)$", pathlib.Path("/proc/cpuinfo").read_text(), re.MULTILINE))
+    processor = f"{fields['model name']} (family {fields['cpu family']}, model {fields['model']})"
+    rust = subprocess.run(["rustc", "--version"], check=True, capture_output=True, text=True).stdout.split()[1]
+    versions = [f"Rust {rust}"] + [f"{engine.name} {engine.version()}" for engine in sql_engines]
+    return f"{os.cpu_count()} cores, {processor}, Linux; {', '.join(versions)}"
+
+
+def show(sheet):
+    print("### LIST\n\n" + compared_table(sheet.list, programs.SIDES[1:] + ENGINES))
+    print("### RUN of one row\n\n" + compared_table(sheet.run, programs.SIDES[1:] + ENGINES))
+    print("### The engines with an index on `v.1`\n\n" + indexed_table(sheet))
+    print("### READ and CARD\n\n" + texts_table(sheet))
+    print("### JUDGE of one row\n\n" + compared_table(sheet.judge, programs.SIDES[1:]))
+    print("### Growth of LIST\n\n" + growth_table(sheet))
+
+
+def say(what):
+    print(f"bench: {what}", file=sys.stderr, flush=True)
+
+
+def measure(quick, whole):
+    with contextlib.ExitStack() as afterwards:
+        folder = pathlib.Path(afterwards.enter_context(tempfile.TemporaryDirectory()))
+        sql_engines = [engines.Sqlite(folder)] + ([] if quick else [afterwards.enter_context(engines.postgres())])
+        bench = Bench(programs.Programs(folder, programs.PADDINGS[:1 if quick else None]), sql_engines)
+        print(f"Machine: {machine(sql_engines)}. Load at the start: {os.getloadavg()[0]:.1f}.\n", flush=True)
+        sheet = Sheet(bench)
+        rounds = 1 if quick else ROUNDS
+        for number in range(rounds):
+            say(f"round {number + 1} of {rounds}, load {os.getloadavg()[0]:.1f}")
+            sheet.take()
+        show(sheet)
+        if not quick:
+            say("the longest RUNs")
+            print("### The longest RUN\n\n" + longest_table(bench, sheet, whole))
+        print("### Goals\n\n" + goals.summary(sheet))
 
 
 def main():
-    for crate in (GATE, READER):
-        subprocess.run(["rt", "staticlib", crate], cwd=ROOT, check=True, stdout=subprocess.DEVNULL)
-    with tempfile.TemporaryDirectory() as name:
-        show_times(pathlib.Path(name))
-        show_stack(pathlib.Path(name))
-        show_reading(pathlib.Path(name))
+    parser = argparse.ArgumentParser(prog="bench/run", description="Measures the calls and prints tables in Markdown.")
+    parser.add_argument("--quick", action="store_true", help="one round, no PostgreSQL, not the longest RUNs")
+    parser.add_argument("--worst", action="store_true", help="measure the longest RUN whole, which takes a quarter of an hour and more")
+    words = parser.parse_args()
+    try:
+        measure(words.quick, words.worst)
+    except (programs.Different, engines.EngineError, engines.ServerError) as error:
+        say(error)
+        return 1
+    return 0
 
 
 if __name__ == "__main__":
-    main()
+    sys.exit(main())
