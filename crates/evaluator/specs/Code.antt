@@ -13,7 +13,7 @@ use Rattle.cells.specs.declared.Seen.{Seen}
 use Rattle.values.specs.Code.{Readable}
 use Rattle.rule.specs.Condition.{Test, Rule, parts, fromsDeep}
 use Rattle.rule.specs.Names.{ValueFits, TestFits, Fits}
-use Rattle.rule.specs.Parts.{AtomHead, ListedHead, partOf}
+use Rattle.rule.specs.Parts.{AtomHead, ListedHead, listKind, partOf}
 use Rattle.rule.specs.Meaning.{test3, compare3, isTrue, meaning, truthNumber}
 use Rattle.parser.specs.Parts.{PartAt, Stands}
 
@@ -27,10 +27,6 @@ unlessUnknown row value = cond (eqb row 1) 1 value
 abbrev pub emptyOver : Quantifier → ℕ
 emptyOver Some = 0
 emptyOver All = 2
-
-abbrev pub listKind : Quantifier → ℕ
-listKind Some = 8
-listKind All = 9
 
 -- empty is the value over no rows of a list of this kind
 pub record OverNone (kind empty : ℕ) : Type 0 where

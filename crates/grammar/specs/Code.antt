@@ -12,6 +12,7 @@ use Rattle.tables.specs.Values.{comparisonNumber, comparisonOf, And, Or, Quanti
 use Rattle.cells.specs.Code.{fromExcess, toExcess}
 use Rattle.rule.specs.Tokens.{Close}
 use Rattle.rule.specs.Condition.{Compare, IsNull, IsNotNull, Atom, Join, Not, Exists, Listed, WrittenValue, Plain, Named, Over, WrittenCondition, parts, fromsDeep}
+use Rattle.rule.specs.Parts.{listKind}
 use Rattle.rule.specs.Grammar.{Tokens}
 use Rattle.rule.specs.Reader.{expect, readValue, readFrom, Opening, Bracket, closed, Start, Whole, Around, startList, startValue, start, Goal, condition, factor, test, Found, reading, readAll}
 use Rattle.lexer.specs.Code.{tokensIn}
@@ -51,10 +52,6 @@ plainNoteNumbers kind = leftNumbers kind 0 0
 abbrev pub notNumbers : ℕ → List ℕ
 notNumbers zero = []
 notNumbers (suc k) = notNumbers k ++ plainNoteNumbers 3
-
-abbrev pub listKind : Quantifier → ℕ
-listKind Some = 8
-listKind All = 9
 
 -- the parts of a condition as they are written, each after its inner parts
 unfoldable pub noted : WrittenCondition → List ℕ

@@ -12,7 +12,8 @@ use lib.Seq.{length-take-le, take-at, take-take, getD-take, getD-append-add}
 use Rattle.tables.specs.Values.{Comparison, comparisonNumber, Connective, And, Or, Quantifier, Some, All}
 use Rattle.cells.specs.Code.{toExcess}
 use Rattle.rule.specs.Condition.{Test, Compare, IsNull, IsNotNull, Atom, Join, Not, Exists, Listed, WrittenValue, Plain, Named, Over, WrittenCondition, parts, fromsDeep}
-use Rattle.grammar.specs.Code.{writtenNumbers, writtenOf, listKind, noted}
+use Rattle.rule.specs.Parts.{listKind}
+use Rattle.grammar.specs.Code.{writtenNumbers, writtenOf, noted}
 use Rattle.names.specs.Code.{ValueKept, Kept, kindAt, Placeable}
 
 -- ---- the front of a list, taken apart

@@ -15,9 +15,9 @@ use Rattle.tables.proofs.Sizes.{columns-count}
 use Rattle.cells.specs.Code.{fromExcess, toExcess}
 use Rattle.rule.specs.Condition.{Compare, Atom, Join, Not, Exists, Listed, WrittenValue, Over, WrittenCondition, Rule, parts, fromsDeep}
 use Rattle.rule.specs.Names.{Scope, outermost, bound, existing, valueIn, testIn, ruleIn}
-use Rattle.rule.specs.Parts.{Head, AtomHead, JoinHead, NotHead, ExistsHead, ListedHead, partOf, partsFrom, partsOf}
+use Rattle.rule.specs.Parts.{listKind, Head, AtomHead, JoinHead, NotHead, ExistsHead, ListedHead, partOf, partsFrom, partsOf}
 use Rattle.rule.specs.declared.Part.{Part}
-use Rattle.grammar.specs.Code.{writtenOf, listKind, noted}
+use Rattle.grammar.specs.Code.{writtenOf, noted}
 use Rattle.rule.proofs.Parts.{parts-length}
 use Rattle.names.specs.Code.{partNumbers, partsNumbers, plainPartNumbers, valueNumbers, existingAs, scopeIn, binding, ScopeFits, resolvedAs, leftWritten, rightWritten, bothNumbers, bothAs, ValueKept, Kept, kindAt, Placeable, PlacedAt, PlacedAs, Nameable, NamedAt}
 use Rattle.names.specs.declared.Resolved.{Resolved}
