@@ -23,7 +23,7 @@ use Rattle.tables.proofs.Tabulated.{tabulate-length, all-each, all-of, all-no}
 use Rattle.card.specs.Card.{AsNo, AsYes, CompareLeaf, BlankLeaf, NotBlankLeaf}
 use Rattle.card.specs.Layout.{recordSize, tablePlace, comparisonPlace, leftPlace, rightPlace, Head, LeafHead, PairHead, RowHead, cardLength, entryCount, tablesIn, columnsIn, kindAt, recordAt, endAt, valueOf, valueFrom, zeros, headFrom}
 use Rattle.card.specs.Sound.{laid, mostEntries, columnsFit, sound}
-use Rattle.decoder.specs.Code.{Laid, recordFrom, fieldsFit, knownKind, numberIn, numberFrom, fieldsOf, fieldOf, Roomy, Decoded, kindIn, endIn, headIn}
+use Rattle.decoder.specs.Code.{Laid, recordFrom, fieldsFit, knownKind, numberIn, numberFrom, fieldsOf, fieldOf, Decoded, kindIn, endIn, headIn}
 use Rattle.values.specs.Code.{valueIn}
 use Rattle.card.proofs.Places.{in-range, bits-small, signed-bits}
 
@@ -100,14 +100,6 @@ module _ (card : List ℕ) where
 
   pub sound-not-laid : laid card ≡ false → sound card ≡ false
   sound-not-laid e = refuted (sound card) (λ t. subst T e (sound-says t))
-
--- the short array has room for a short card, and the long one for every card
-module _ (card d : List ℕ) where
-  pub room-short : length card ≤ 251 → length d ≡ 128 → Roomy card d
-  room-short short size laid-out = omega arith
-
-  pub room-long : length d ≡ 1536 → Roomy card d
-  room-long size laid-out = omega arith
 
 -- ---- a record
 
