@@ -6,7 +6,7 @@ use Prim.Native.Nat.{ℕ, zero, suc, _+_, _-_, _*_, _/_, _%_, _≤_, _<_}
 use native.Mathlib.Nat.{le-of-suc-le-suc, not-suc-le-zero}
 use native.Mathlib.Numerals.{add-one}
 use native.Mathlib.Omega.{arith}
-use borrow.Author.Tests.{le-leb, lt-leb}
+use borrow.Author.Tests.{le-leb, leb-true}
 use lib.Dec.{T, leb, eqb, leb→le, eqb→eq}
 use lib.Ieee.Fits.{and-l, and-r}
 use lib.ListN.{length, getD, take, set, length-set}
@@ -108,11 +108,27 @@ marksTo file k = all (λ k. leb (markOf file k) highestMark) (tabulate k (λ k. 
 pub marks-more : (file : List ℕ) (k mark : ℕ) (fits : Bool) → mark ≡ markOf file k → fits ≡ marksTo file k → (fits && leb mark highestMark) ≡ marksTo file (k + 1)
 marks-more file k mark fits p q = rw (add-one k) (ap₂ (λ (t : Bool) (m : ℕ). t && leb m highestMark) q p ∙ sym (all-more (λ k. leb (markOf file k) highestMark) k (λ k. k)))
 
-pub marks-high : (file : List ℕ) (k mark : ℕ) (fits : Bool) → mark ≡ markOf file k → highestMark < mark → fits ≡ marksTo file k → false ≡ marksTo file (k + 1)
-marks-high file k mark fits p h q = sym (and-false fits) ∙ ap (λ (t : Bool). fits && t) (sym (lt-leb mark highestMark h)) ∙ marks-more file k mark fits p q
+-- of two numbers the higher one decides
+higher-last : (a b : ℕ) → a ≤ b → leb b highestMark ≡ (leb a highestMark && leb b highestMark)
+higher-last a b h = go (leb b highestMark) refl
+  where
+    go : (t : Bool) → leb b highestMark ≡ t → t ≡ (leb a highestMark && t)
+    go true e = rw (le-leb a highestMark (omega (arith, leb-true b highestMark e)))
+    go false e = sym (and-false (leb a highestMark))
 
-pub marks-low : (file : List ℕ) (k mark : ℕ) (fits : Bool) → mark ≡ markOf file k → mark ≤ highestMark → fits ≡ marksTo file k → fits ≡ marksTo file (k + 1)
-marks-low file k mark fits p h q = sym (and-true fits) ∙ ap (λ (t : Bool). fits && t) (sym (le-leb mark highestMark h)) ∙ marks-more file k mark fits p q
+higher-first : (a b : ℕ) → b ≤ a → leb a highestMark ≡ (leb a highestMark && leb b highestMark)
+higher-first a b h = go (leb a highestMark) refl
+  where
+    go : (t : Bool) → leb a highestMark ≡ t → t ≡ (t && leb b highestMark)
+    go true e = rw (le-leb b highestMark (omega (arith, leb-true a highestMark e)))
+    go false e = refl
+
+module _ (file : List ℕ) (k mark highest : ℕ) (is : mark ≡ markOf file k) (decides : leb highest highestMark ≡ marksTo file k) where
+  pub marks-higher : highest < mark → leb mark highestMark ≡ marksTo file (k + 1)
+  marks-higher h = higher-last highest mark (omega arith) ∙ marks-more file k mark _ is decides
+
+  pub marks-lower : mark ≤ highest → leb highest highestMark ≡ marksTo file (k + 1)
+  marks-lower h = higher-first highest mark h ∙ marks-more file k mark _ is decides
 
 pub marks-end : (file : List ℕ) (k cells : ℕ) (fits : Bool) → cells ≡ cellCount file → k ≤ cells → cells ≤ k → fits ≡ marksTo file k → fits ≡ marksFit file
 unfolding marksFit

@@ -4,12 +4,12 @@
 ghost use mathlib.Core.Path.{_≡_};
 ghost use mathlib.Core.Bool.{true};
 ghost use Prim.Native.Nat.{_+_, _*_, _<_, _≤_};
-ghost use lib.ListN.{length, take};
+ghost use lib.ListN.{take};
 ghost use Rattle.tables.specs.Values.{valueFits};
 ghost use Rattle.card.specs.Layout.{columnsIn};
 ghost use Rattle.card.specs.Sound.{sound};
 ghost use Rattle.card.specs.Calls.{checkCall};
-ghost use Rattle.decoder.specs.Code.{Decoded, kindIn};
+ghost use Rattle.decoder.specs.Code.{Roomy, Decoded, kindIn};
 ghost use Rattle.checker.specs.Answers.{checkedAnswer};
 ghost use Rattle.checker.specs.Code.{Checks, LevelsIn, Checkable};
 ghost use Rattle.values.specs.Code.{valueIn};
@@ -19,12 +19,14 @@ use cells::byte;
 use cells::read16;
 use decoder::DECODED;
 use decoder::END;
+use decoder::FEW_DECODED;
 use decoder::FIELDS;
 use decoder::LEFT_NUMBER;
 use decoder::LEFT_TAG;
 use decoder::NEXT_END;
 use decoder::RIGHT_NUMBER;
 use decoder::RIGHT_TAG;
+use decoder::SHORT_CARD;
 use decoder::TABLE;
 use decoder::decode;
 use decoder::laid_out;
@@ -52,7 +54,7 @@ fn value_fits(card: &[u8], w: &[usize; LEVELS], depth: usize, tag: usize, n: usi
 // The entry s, up to e, where it has no inner entries: whether it fits.
 fn check_leaf(
     card: &[u8],
-    d: &[usize; DECODED],
+    d: &[usize],
     s: usize,
     e: usize,
     w: &[usize; LEVELS],
@@ -92,7 +94,7 @@ fn check_leaf(
 // The entries from s up to e: whether they are one entry with its inner ones, which fits the card's tables and these levels.
 fn check_entry(
     card: &[u8],
-    d: &[usize; DECODED],
+    d: &[usize],
     s: usize,
     e: usize,
     w: &[usize; LEVELS],
@@ -113,7 +115,7 @@ fn check_entry(
 // The same where s has two inner entries.
 fn check_pair(
     card: &[u8],
-    d: &[usize; DECODED],
+    d: &[usize],
     s: usize,
     e: usize,
     w: &[usize; LEVELS],
@@ -145,7 +147,7 @@ fn check_pair(
 // The same where s ranges over the rows of a table.
 fn check_rows(
     card: &[u8],
-    d: &[usize; DECODED],
+    d: &[usize],
     s: usize,
     e: usize,
     w: &[usize; LEVELS],
@@ -176,8 +178,8 @@ fn check_rows(
 }
 
 // Whether a card is sound; if so, d has its entries.
-pub fn is_sound(card: &[u8], d: &mut [usize; DECODED]) -> bool
-    requires { ⌜ length (now d) ≡ 1536 ⌝ }
+pub fn is_sound(card: &[u8], d: &mut [usize]) -> bool
+    requires { ⌜ Roomy (now card) (now d) ⌝ }
     ensures is { λ r. ⌜ r ≡ sound (now (card .entry)) ⌝ }
     ensures decoded { λ r. ⌜ (r ≡ true → Decoded (now (card .entry)) (now (d .exit))) ⌝ }
 {
@@ -196,14 +198,26 @@ pub enum Checked {
     Bad(Reason),
 }
 
-// CHECK: a card alone, sound or refused.
-pub fn check(card: &[u8]) -> Checked
+// CHECK, with room in d for the card's entries.
+fn check_with(card: &[u8], d: &mut [usize]) -> Checked
+    requires { ⌜ Roomy (now card) (now d) ⌝ }
     ensures { λ r. ⌜ checkedAnswer r ≡ checkCall (now (card .entry)) ⌝ }
 {
-    let mut d = [0usize; DECODED];
-    let sound = is_sound(card, &mut d);
+    let sound = is_sound(card, d);
     if sound {
         return Checked::Good;
     }
     Checked::Bad(Reason::Unsound)
+}
+
+// CHECK: a card alone, sound or refused.
+pub fn check(card: &[u8]) -> Checked
+    ensures { λ r. ⌜ checkedAnswer r ≡ checkCall (now (card .entry)) ⌝ }
+{
+    if card.len() <= SHORT_CARD {
+        let mut d = [0usize; FEW_DECODED];
+        return check_with(card, &mut d);
+    }
+    let mut d = [0usize; DECODED];
+    check_with(card, &mut d)
 }

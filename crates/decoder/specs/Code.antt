@@ -75,9 +75,14 @@ fieldsOf card i =
 unfoldable pub fieldOf : List ℕ → ℕ → ℕ
 fieldOf card q = getD (fieldsOf card (q / 8)) (q % 8) 0
 
--- the array d has them for the entries of a card
-abbrev pub Decoded : List ℕ → List ℕ → Type 0
-Decoded card d = Holds d (8 * entryCount card) (fieldOf card)
+-- if a card is laid out, the array d has room for them
+abbrev pub Roomy : List ℕ → List ℕ → Type 0
+Roomy card d = Laid card → 8 * entryCount card ≤ length d
+
+-- d has them
+pub record Decoded (card d : List ℕ) : Type 0 where
+  pub room : 8 * entryCount card ≤ length d
+  pub fields : Holds d (8 * entryCount card) (fieldOf card)
 
 -- ---- the entries of an array
 

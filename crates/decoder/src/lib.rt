@@ -8,13 +8,14 @@ ghost use Rattle.tables.specs.Bytes.{between};
 ghost use Rattle.tables.specs.Tables.{mostColumns};
 ghost use Rattle.card.specs.Layout.{tablesIn, columnsIn, zeros};
 ghost use Rattle.card.specs.Sound.{laid};
-ghost use Rattle.decoder.specs.Code.{Laid, recordFrom, RecordIn, fieldsFit, knownKind, numberFrom, Decoded};
+ghost use Rattle.decoder.specs.Code.{Laid, recordFrom, RecordIn, fieldsFit, knownKind, numberFrom, Roomy, Decoded};
 use card::COMPARISON_PLACE;
 use card::LEFT_PLACE;
 use card::MOST_ENTRIES;
 use card::RECORD_SIZE;
 use card::RIGHT_PLACE;
 use card::TABLE_PLACE;
+use cells::MOST_TABLES;
 use cells::byte;
 use cells::read_excess;
 use cells::read16;
@@ -25,6 +26,15 @@ use values::CONSTANT;
 pub const FIELDS: usize = 8;
 
 pub const DECODED: usize = FIELDS * MOST_ENTRIES;
+
+// A card with no more entries than these is decoded into a short array: to set the numbers of an array for all entries to 0 takes longer than to run
+// such a card.
+pub const FEW_ENTRIES: usize = 16;
+
+// The numbers of so many entries, and the bytes of the longest card that has no more.
+pub const FEW_DECODED: usize = FIELDS * FEW_ENTRIES;
+
+pub const SHORT_CARD: usize = 3 + MOST_TABLES + (1 + RECORD_SIZE) * FEW_ENTRIES;
 
 // The order of an entry's numbers: its kind first, then these; and where the next entry's end stands.
 pub const END: usize = 1;
@@ -80,7 +90,7 @@ pub fn laid_out(card: &[u8]) -> bool
     if t < 1 {
         return false;
     }
-    if cells::MOST_TABLES < t {
+    if MOST_TABLES < t {
         return false;
     }
     if card.len() != 3 + t + (1 + RECORD_SIZE) * n {
@@ -160,8 +170,8 @@ fn number_at(card: &[u8], r: usize, i: usize) -> usize
 }
 
 // The entries of a card as numbers, eight for each: kind, end, table, comparison, and two values of a tag and a number each.
-pub fn decode(card: &[u8], d: &mut [usize; DECODED])
-    requires { ⌜ Laid (now card) ⌝ ∗ ⌜ length (now d) ≡ 1536 ⌝ }
+pub fn decode(card: &[u8], d: &mut [usize])
+    requires { ⌜ Laid (now card) ⌝ ∗ ⌜ Roomy (now card) (now d) ⌝ }
     ensures { λ _. ⌜ Decoded (now (card .entry)) (now (d .exit)) ⌝ }
 {
     let n = read16(card, 0);

@@ -11,7 +11,6 @@ ghost use Rattle.runner.specs.Code.{LeafReady, LeafAnswers, Runnable, An
 use cells::PLACES;
 use cells::Seen;
 use decoder::COMPARISON;
-use decoder::DECODED;
 use decoder::FIELDS;
 use decoder::LEFT_NUMBER;
 use decoder::LEFT_TAG;
@@ -33,13 +32,7 @@ fn cells_hold(unknown: bool, op: usize, x: Seen, y: Seen) -> bool
 }
 
 // What an entry without inner entries answers.
-fn run_leaf(
-    d: &[usize; DECODED],
-    g: &[usize; PLACES],
-    file: &[u8],
-    s: usize,
-    w: &[usize; LEVELS],
-) -> bool
+fn run_leaf(d: &[usize], g: &[usize; PLACES], file: &[u8], s: usize, w: &[usize; LEVELS]) -> bool
     requires { ⌜ LeafReady (now d) (now g) (now file) (now w) s ⌝ }
     ensures { λ r. ⌜ LeafAnswers (now (d .entry)) (now (g .entry)) (now (file .entry)) (now (w .entry)) s r ⌝ }
 {
@@ -70,7 +63,7 @@ fn run_leaf(
 // What the entry s answers, which asks for some row of its table, or for every row, where its inner entry has no inner entries of its own: no call
 // is made for each row. q is the answer where no row decides.
 fn run_leaf_rows(
-    d: &[usize; DECODED],
+    d: &[usize],
     g: &[usize; PLACES],
     file: &[u8],
     s: usize,
@@ -100,7 +93,7 @@ fn run_leaf_rows(
 
 // What the entry s, with the inner ones up to e, answers.
 pub fn run_entry(
-    d: &[usize; DECODED],
+    d: &[usize],
     g: &[usize; PLACES],
     file: &[u8],
     s: usize,
@@ -119,7 +112,7 @@ pub fn run_entry(
 
 // The same where s has inner entries.
 fn run_inner(
-    d: &[usize; DECODED],
+    d: &[usize],
     g: &[usize; PLACES],
     file: &[u8],
     s: usize,
@@ -155,7 +148,7 @@ fn run_inner(
 
 // The same where s asks for some row of its table, or for every row.
 fn run_rows(
-    d: &[usize; DECODED],
+    d: &[usize],
     g: &[usize; PLACES],
     file: &[u8],
     s: usize,
