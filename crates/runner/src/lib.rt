@@ -60,8 +60,8 @@ fn run_leaf(d: &[usize], g: &[usize; PLACES], file: &[u8], s: usize, w: &[usize;
     !x.blank
 }
 
-// What the entry s answers, which asks for some row of its table, or for every row, where its inner entry has no inner entries of its own: no call
-// is made for each row. q is the answer where no row decides.
+// What the entry s answers, which asks for some row of its table, or for every row, where its inner entry has no inner entries of its own: no
+// recursive call is made for each row. q is the answer where no row decides.
 fn run_leaf_rows(
     d: &[usize],
     g: &[usize; PLACES],
