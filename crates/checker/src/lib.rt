@@ -13,7 +13,15 @@ ghost use Rattle.decoder.specs.Code.{Roomy, Decoded, kindIn};
 ghost use Rattle.checker.specs.Answers.{checkedAnswer};
 ghost use Rattle.checker.specs.Code.{Checks, LevelsIn, Checkable};
 ghost use Rattle.values.specs.Code.{valueIn};
+use card::AND_ENTRY;
+use card::BLANK;
+use card::COMPARISON_OR_NO;
+use card::COMPARISON_OR_YES;
+use card::EVERY_ROW;
 use card::MOST_ROW_ENTRIES;
+use card::NOT_BLANK;
+use card::OR_ENTRY;
+use card::SOME_ROW;
 use cells::Reason;
 use cells::byte;
 use cells::read16;
@@ -79,7 +87,7 @@ fn check_leaf(
     if !left {
         return false;
     }
-    if 6 < d[FIELDS * s] {
+    if COMPARISON_OR_YES < d[FIELDS * s] {
         return true;
     }
     value_fits(
@@ -105,9 +113,11 @@ fn check_entry(
 {
     let k = d[FIELDS * s];
     match k {
-        1 | 2 => check_pair(card, d, s, e, w, depth),
-        3 | 4 => check_rows(card, d, s, e, w, depth),
-        5 | 6 | 7 | 8 => check_leaf(card, d, s, e, w, depth),
+        AND_ENTRY | OR_ENTRY => check_pair(card, d, s, e, w, depth),
+        SOME_ROW | EVERY_ROW => check_rows(card, d, s, e, w, depth),
+        COMPARISON_OR_NO | COMPARISON_OR_YES | BLANK | NOT_BLANK => {
+            check_leaf(card, d, s, e, w, depth)
+        }
         _ => false,
     }
 }

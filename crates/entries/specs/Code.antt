@@ -9,7 +9,8 @@ use Rattle.tables.specs.Lists.{placed}
 use Rattle.tables.specs.Bytes.{bytes32}
 use Rattle.tables.specs.Values.{Value, Comparison, comparisonNumber}
 use Rattle.card.specs.Card.{Interpretation, AsNo, AsYes, Leaf, CompareLeaf, BlankLeaf, NotBlankLeaf, Card, LeafEntry, entries}
-use Rattle.card.specs.Layout.{valueBytes, kindBytes, recordsFrom}
+use Rattle.card.specs.Layout.{recordSize, valueBytes, kindBytes, recordsFrom}
+use Rattle.card.specs.Sound.{mostEntries}
 use Rattle.rule.specs.Condition.{Rule, parts, fromsDeep}
 use Rattle.rule.specs.Names.{Fits}
 use Rattle.translation.specs.Translation.{otherLeaf, negated, cardOf}
@@ -34,15 +35,15 @@ cardAs true unknown r = negated (cardOf (interpretationOf unknown) r)
 
 -- there is room for so many entries from number k on
 pub record Room (kinds records : List ℕ) (k n : ℕ) : Type 0 where
-  pub kinds-size : length kinds ≡ 192
-  pub kinds-fit : k + n ≤ 192
-  pub records-fit : 14 * (k + n) ≤ length records
+  pub kinds-size : length kinds ≡ mostEntries
+  pub kinds-fit : k + n ≤ mostEntries
+  pub records-fit : recordSize * (k + n) ≤ length records
 
 -- the entries of a card are written
 pub record Wrote (k : ℕ) (c : Card) (kinds records kinds′ records′ : List ℕ) (r : ℕ) : Type 0 where
   pub next : r ≡ k + entries c
   pub kinds-are : kinds′ ≡ placed kinds k (kindBytes c)
-  pub records-are : records′ ≡ placed records (14 * k) (recordsFrom k c)
+  pub records-are : records′ ≡ placed records (recordSize * k) (recordsFrom k c)
 
 -- the value of two numbers of a part, from number i on, as a card has it
 abbrev pub valueBytesIn : List ℕ → ℕ → List ℕ

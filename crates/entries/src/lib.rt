@@ -18,6 +18,14 @@ use names::PART_RIGHT_NUMBER;
 use names::PART_RIGHT_TAG;
 use names::PART_TABLE;
 use records::LeafNumbers;
+use rule::ALL_PART;
+use rule::AND_PART;
+use rule::COMPARISON_PART;
+use rule::EXISTS_PART;
+use rule::NOT_NULL_PART;
+use rule::NOT_PART;
+use rule::NULL_PART;
+use rule::OR_PART;
 
 // The comparison of part s, a list's too, as entry k.
 fn write_comparison(
@@ -83,12 +91,12 @@ pub fn write_part(
 {
     let kind = p[PART_FIELDS * s];
     match kind {
-        1 | 2 => write_pair(p, s, negate, unknown, kinds, records, k),
+        AND_PART | OR_PART => write_pair(p, s, negate, unknown, kinds, records, k),
         // NOT has no entry: what is under it is negated, in the other interpretation.
-        3 => write_part(p, s + 1, !negate, !unknown, kinds, records, k),
-        4 => write_comparison(p, s, negate, unknown, kinds, records, k),
-        5 | 6 => write_null(p, s, negate, kinds, records, k),
-        7 => write_exists(p, s, negate, unknown, kinds, records, k),
+        NOT_PART => write_part(p, s + 1, !negate, !unknown, kinds, records, k),
+        COMPARISON_PART => write_comparison(p, s, negate, unknown, kinds, records, k),
+        NULL_PART | NOT_NULL_PART => write_null(p, s, negate, kinds, records, k),
+        EXISTS_PART => write_exists(p, s, negate, unknown, kinds, records, k),
         _ => write_list(p, s, negate, unknown, kinds, records, k),
     }
 }
@@ -150,10 +158,16 @@ fn write_list(
     requires { ⌜ Writable (now p) s negate unknown (now kinds) (now records) k ⌝ ∗ ⌜ 8 ≤ getD (now p) (8 * s) 0 ⌝ }
     ensures { λ r. ⌜ WroteTo (now (p .entry)) s negate unknown (now (kinds .entry)) (now (records .entry)) (now (kinds .exit)) (now (records .exit)) k r ⌝ }
 {
-    let every = (p[PART_FIELDS * s] == 9) != negate;
+    let every = (p[PART_FIELDS * s] == ALL_PART) != negate;
     let table = p[PART_FIELDS * s + PART_TABLE];
     records::put_plain(kinds, records, k, records::row_kind(every), table);
-    records::put_plain(kinds, records, k + 1, records::pair_kind(1, every), 0);
+    records::put_plain(
+        kinds,
+        records,
+        k + 1,
+        records::pair_kind(AND_PART, every),
+        0,
+    );
     let last = write_part(p, s + 1, every, false, kinds, records, k + 2);
     let end = write_comparison(p, s, negate, unknown, kinds, records, last);
     records::put16(records, RECORD_SIZE * (k + 1), end);

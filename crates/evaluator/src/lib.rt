@@ -20,6 +20,14 @@ use names::PART_NUMBERS;
 use names::PART_RIGHT_NUMBER;
 use names::PART_RIGHT_TAG;
 use names::PART_TABLE;
+use rule::ALL_PART;
+use rule::AND_PART;
+use rule::EXISTS_PART;
+use rule::NOT_NULL_PART;
+use rule::NOT_PART;
+use rule::NULL_PART;
+use rule::OR_PART;
+use rule::SOME_PART;
 use values::LEVELS;
 
 const FALSE: usize = 0;
@@ -85,10 +93,10 @@ fn evaluate_test(
         p[PART_FIELDS * s + PART_LEFT_TAG],
         p[PART_FIELDS * s + PART_LEFT_NUMBER],
     );
-    if kind == 5 {
+    if kind == NULL_PART {
         return truth_of(x.blank);
     }
-    if kind == 6 {
+    if kind == NOT_NULL_PART {
         return truth_of(!x.blank);
     }
     let y = values::look(
@@ -115,15 +123,15 @@ pub fn evaluate_part(
 {
     let kind = p[PART_FIELDS * s];
     match kind {
-        1 => evaluate_and(p, g, file, s, w, depth),
-        2 => evaluate_or(p, g, file, s, w, depth),
-        3 => {
+        AND_PART => evaluate_and(p, g, file, s, w, depth),
+        OR_PART => evaluate_or(p, g, file, s, w, depth),
+        NOT_PART => {
             let inner = evaluate_part(p, g, file, s + 1, w, depth);
             TRUE - inner
         }
-        7 => evaluate_exists(p, g, file, s, w, depth),
-        8 => evaluate_list(p, g, file, s, w, depth, FALSE),
-        9 => evaluate_list(p, g, file, s, w, depth, TRUE),
+        EXISTS_PART => evaluate_exists(p, g, file, s, w, depth),
+        SOME_PART => evaluate_list(p, g, file, s, w, depth, FALSE),
+        ALL_PART => evaluate_list(p, g, file, s, w, depth, TRUE),
         _ => evaluate_test(p, g, file, s, w),
     }
 }

@@ -9,6 +9,7 @@ use Rattle.tables.specs.Values.{judgedLevels}
 use Rattle.cells.specs.Code.{Sized}
 use Rattle.card.specs.Card.{entries}
 use Rattle.card.specs.Layout.{cardBytes, cardLength}
+use Rattle.card.specs.Sound.{mostEntries}
 use Rattle.rule.specs.Condition.{Rule, parts, fromsDeep}
 use Rattle.rule.specs.Names.{Fits}
 use Rattle.rule.specs.Parts.{partsOf}
@@ -42,7 +43,7 @@ pub record CardReady (p file : List ℕ) (n : ℕ) (out : List ℕ) : Type 0 whe
   pub written : take (8 * parts rule) p ≡ partsNumbers (partsOf rule)
   pub fits : Fits (columnsOf file) judgedLevels rule
   pub count : n ≡ entries (ruleCard rule)
-  pub most : n ≤ 192
+  pub most : n ≤ mostEntries
   pub room : cardLength (tableCount file) n ≤ length out
 
 abbrev pub CardWritten : (p file : List ℕ) (n : ℕ) (out out′ : List ℕ) → Type 0
