@@ -138,8 +138,8 @@ module _ {file notes : List ℕ} {h : ℕ} {room : List ℕ} {e : ℕ} {scope : 
   rightHere = rightWritten notes (8 * (h - 1))
 
   -- so many elements are noted from the last note on
-  pub note-room : 8 * (h - 1) + 8 ≤ 512
-  note-room = omega (arith, has-notes)
+  pub note-room : 8 * (h - 1) + 8 ≤ length notes
+  note-room = omega (arith, has-notes, q .notes-room)
 
   -- ---- NOT
 
@@ -161,7 +161,7 @@ module _ {file notes : List ℕ} {h : ℕ} {room : List ℕ} {e : ℕ} {scope : 
         record {
           sized = q .sized;
           scope-fits = q .scope-fits;
-          notes-size = q .notes-size;
+          notes-room = not-in .notes-room;
           parts-size = q .parts-size;
           few-notes = not-in .few-notes;
           few-parts = q .few-parts;
@@ -231,7 +231,7 @@ module _ {file notes : List ℕ} {h : ℕ} {room : List ℕ} {e : ℕ} {scope : 
         record {
           sized = q .sized;
           scope-fits = q .scope-fits;
-          notes-size = q .notes-size;
+          notes-room = right-in .notes-room;
           parts-size = q .parts-size;
           few-notes = right-in .few-notes;
           few-parts = q .few-parts;
@@ -268,7 +268,7 @@ module _ {file notes : List ℕ} {h : ℕ} {room : List ℕ} {e : ℕ} {scope : 
             record {
               sized = q .sized;
               scope-fits = q .scope-fits;
-              notes-size = q .notes-size;
+              notes-room = left-in .notes-room;
               parts-size = size;
               few-notes = left-in .few-notes;
               few-parts = left-few;
@@ -551,7 +551,7 @@ module _ {file notes : List ℕ} {h : ℕ} {room : List ℕ} {e : ℕ} {scope : 
             record {
               sized = q .sized;
               scope-fits = exists-fits;
-              notes-size = q .notes-size;
+              notes-room = exists-in .notes-room;
               parts-size = q .parts-size;
               few-notes = exists-in .few-notes;
               few-parts = q .few-parts;
@@ -653,7 +653,7 @@ module _ {file notes : List ℕ} {h : ℕ} {room : List ℕ} {e : ℕ} {scope : 
             record {
               sized = q .sized;
               scope-fits = list-fits (levels + 1) (omega arith);
-              notes-size = q .notes-size;
+              notes-room = list-in .notes-room;
               parts-size = q .parts-size;
               few-notes = list-in .few-notes;
               few-parts = q .few-parts;
@@ -770,7 +770,7 @@ module _ {file notes : List ℕ} {n : ℕ} (q : Nameable file notes n) (room : L
       record {
         sized = q .sized;
         scope-fits = outer-fitting;
-        notes-size = q .notes-size;
+        notes-room = q .notes-room;
         parts-size = size;
         few-notes = q .few-notes;
         few-parts = q .few-notes;

@@ -139,7 +139,7 @@ kindAt notes h = getD notes (8 * (h - 1)) 0
 pub record Placeable (file notes : List ℕ) (h : ℕ) (room : List ℕ) (e : ℕ) (scope : List ℕ) (levels : ℕ) : Type 0 where
   pub sized : Sized file
   pub scope-fits : ScopeFits file scope levels
-  pub notes-size : length notes ≡ 512
+  pub notes-room : 8 * h ≤ length notes
   pub parts-size : length room ≡ 512
   pub few-notes : h ≤ 64
   pub few-parts : e ≤ 64
@@ -173,7 +173,7 @@ PlacedTo file notes h old new e scope levels r =
 -- the first n notes are those of a condition that is within the limits
 pub record Nameable (file notes : List ℕ) (n : ℕ) : Type 0 where
   pub sized : Sized file
-  pub notes-size : length notes ≡ 512
+  pub notes-room : 8 * n ≤ length notes
   pub few-notes : n ≤ 64
   pub tree : WrittenCondition
   pub count : n ≡ parts tree

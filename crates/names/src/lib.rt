@@ -21,7 +21,6 @@ use grammar::NOTE_FIELDS;
 use grammar::NOTE_LEFT_LETTER;
 use grammar::NOTE_LEFT_NUMBER;
 use grammar::NOTE_LETTER;
-use grammar::NOTE_NUMBERS;
 use grammar::NOTE_RIGHT_LETTER;
 use grammar::NOTE_RIGHT_NUMBER;
 use grammar::NOTE_TABLE;
@@ -150,13 +149,13 @@ fn resolve(
 // The left and the right value of the part that is noted from element b on; each sees so many levels of the scope.
 fn resolve_both(
     file: &[u8],
-    notes: &[usize; NOTE_NUMBERS],
+    notes: &[usize],
     b: usize,
     scope: &[usize; SCOPE_NUMBERS],
     left_levels: usize,
     right_levels: usize,
 ) -> ResolvedBoth
-    requires { ⌜ Sized (now file) ⌝ ∗ ⌜ length (now notes) ≡ 512 ⌝ ∗ ⌜ b + 8 ≤ 512 ⌝ ∗ ⌜ ScopeFits (now file) (now scope) «right_levels» ⌝ ∗ ⌜ «left_levels» ≤ «right_levels» ⌝ }
+    requires { ⌜ Sized (now file) ⌝ ∗ ⌜ b + 8 ≤ length (now notes) ⌝ ∗ ⌜ ScopeFits (now file) (now scope) «right_levels» ⌝ ∗ ⌜ «left_levels» ≤ «right_levels» ⌝ }
     ensures { λ r. ⌜ bothAs r ≡ bothNumbers (valueIn (columnsOf (now (file .entry))) (scopeIn (now (scope .entry)) «left_levels») (leftWritten (now (notes .entry)) b)) (valueIn (columnsOf (now (file .entry))) (scopeIn (now (scope .entry)) «right_levels») (rightWritten (now (notes .entry)) b)) ⌝ }
 {
     let Resolved::Value {
@@ -246,7 +245,7 @@ fn plain_part(kind: usize, end: usize) -> Fields
 // placed first, the right ones before the left ones.
 fn place(
     file: &[u8],
-    notes: &[usize; NOTE_NUMBERS],
+    notes: &[usize],
     h: usize,
     parts: &mut [usize; PART_NUMBERS],
     e: usize,
@@ -271,7 +270,7 @@ fn place(
 // AND and OR.
 fn place_pair(
     file: &[u8],
-    notes: &[usize; NOTE_NUMBERS],
+    notes: &[usize],
     h: usize,
     parts: &mut [usize; PART_NUMBERS],
     e: usize,
@@ -297,7 +296,7 @@ fn place_pair(
 // NOT.
 fn place_not(
     file: &[u8],
-    notes: &[usize; NOTE_NUMBERS],
+    notes: &[usize],
     h: usize,
     parts: &mut [usize; PART_NUMBERS],
     e: usize,
@@ -318,7 +317,7 @@ fn place_not(
 // A comparison of two values.
 fn place_comparison(
     file: &[u8],
-    notes: &[usize; NOTE_NUMBERS],
+    notes: &[usize],
     h: usize,
     parts: &mut [usize; PART_NUMBERS],
     e: usize,
@@ -356,7 +355,7 @@ fn place_comparison(
 // IS NULL and IS NOT NULL.
 fn place_null(
     file: &[u8],
-    notes: &[usize; NOTE_NUMBERS],
+    notes: &[usize],
     h: usize,
     parts: &mut [usize; PART_NUMBERS],
     e: usize,
@@ -398,7 +397,7 @@ fn place_null(
 // EXISTS: its letter is bound one level deeper, for its WHERE.
 fn place_exists(
     file: &[u8],
-    notes: &[usize; NOTE_NUMBERS],
+    notes: &[usize],
     h: usize,
     parts: &mut [usize; PART_NUMBERS],
     e: usize,
@@ -436,7 +435,7 @@ fn place_exists(
 // SOME and ALL: the left value is looked up outside, the selected one and the WHERE inside.
 fn place_list(
     file: &[u8],
-    notes: &[usize; NOTE_NUMBERS],
+    notes: &[usize],
     h: usize,
     parts: &mut [usize; PART_NUMBERS],
     e: usize,
@@ -482,12 +481,7 @@ fn place_list(
 }
 
 // The parts of the rule whose condition is noted, n of them; or some name means nothing. Around a whole rule m is bound, to table 1.
-pub fn name_parts(
-    file: &[u8],
-    notes: &[usize; NOTE_NUMBERS],
-    n: usize,
-    parts: &mut [usize; PART_NUMBERS],
-) -> bool
+pub fn name_parts(file: &[u8], notes: &[usize], n: usize, parts: &mut [usize; PART_NUMBERS]) -> bool
     requires { ⌜ Nameable (now file) (now notes) n ⌝ ∗ ⌜ length (now parts) ≡ 512 ⌝ }
     ensures named { λ r. ⌜ NamedTo (now (file .entry)) (now (notes .entry)) n (now (parts .exit)) r ⌝ }
     ensures size { λ _. ⌜ length (now (parts .exit)) ≡ 512 ⌝ }

@@ -92,7 +92,7 @@ module _ (s file : List ℕ) where
         nameable =
             record {
               sized = sized;
-              notes-size = size;
+              notes-room = omega arith;
               few-notes = few;
               tree = w .tree;
               count = w .count;

@@ -1,13 +1,15 @@
 // The rule of a text: its parts as numbers, or the first refusal of reading that applies. READ, JUDGE and CARD go on from here.
 ghost use mathlib.Core.Path.{_≡_};
-ghost use Prim.Native.Nat.{_≤_};
-ghost use lib.ListN.{length};
+ghost use Prim.Native.Nat.{_*_, _≤_};
+ghost use lib.ListN.{length, take};
 ghost use Rattle.cells.specs.Code.{Sized};
+ghost use Rattle.names.specs.Code.{Nameable, NamedTo};
 ghost use Rattle.parser.specs.Code.{TextReady, TokensParsedTo, parsedAnswer, parseCall, ParsedTo};
 use cells::Reason;
 use cells::Validity;
 use grammar::MOST_FROMS;
 use grammar::MOST_PARTS;
+use grammar::NOTE_FIELDS;
 use grammar::NOTE_NUMBERS;
 use grammar::Step;
 use lexer::MOST_BYTES;
@@ -20,13 +22,62 @@ const SHORT_TEXT: usize = 128;
 
 const MIDDLE_TEXT: usize = 1024;
 
+// Rules of at most so many parts get an array of notes that is no longer than that: setting up the one for the most parts takes longer than reading a short
+// rule.
+const FEW_PARTS: usize = 16;
+
+const FEW_NUMBERS: usize = NOTE_FIELDS * FEW_PARTS;
+
 // What reading gives: the number of a rule's parts, or why there is no rule.
 pub enum Parsed {
     Rule(usize),
     Refused(Reason),
 }
 
-// The rule of some tokens: refusals 5 to 8. The grammar is judged to the end before the limits, and these before the names.
+// The first n numbers of from, at the start of notes.
+fn copy_numbers(from: &[usize; NOTE_NUMBERS], n: usize, notes: &mut [usize])
+    requires { ⌜ length (now from) ≡ 512 ⌝ ∗ ⌜ n ≤ 512 ⌝ ∗ ⌜ n ≤ length (now notes) ⌝ }
+    ensures copied { λ _. ⌜ take n (now (notes .exit)) ≡ take n (now (from .entry)) ⌝ }
+    ensures size { λ _. ⌜ length (now (notes .exit)) ≡ length (now (notes .entry)) ⌝ }
+{
+    let mut k: usize = 0;
+    while k < n {
+        notes[k] = from[k];
+        k += 1;
+    }
+}
+
+// The parts of the rule whose notes stand in parts, count of them. The parts are written over these, so the notes are copied first, to where there is room.
+fn name_copied(
+    file: &[u8],
+    count: usize,
+    parts: &mut [usize; PART_NUMBERS],
+    notes: &mut [usize],
+) -> bool
+    requires { ⌜ Nameable (now file) (now parts) count ⌝ ∗ ⌜ length (now parts) ≡ 512 ⌝ ∗ ⌜ 8 * count ≤ length (now notes) ⌝ }
+    ensures named { λ r. ⌜ NamedTo (now (file .entry)) (now (parts .entry)) count (now (parts .exit)) r ⌝ }
+    ensures size { λ _. ⌜ length (now (parts .exit)) ≡ 512 ⌝ }
+{
+    copy_numbers(parts, NOTE_FIELDS * count, notes);
+    names::name_parts(file, notes, count, parts)
+}
+
+// The same, with room for the notes made here.
+fn name_noted(file: &[u8], count: usize, parts: &mut [usize; PART_NUMBERS]) -> bool
+    requires { ⌜ Nameable (now file) (now parts) count ⌝ ∗ ⌜ length (now parts) ≡ 512 ⌝ }
+    ensures named { λ r. ⌜ NamedTo (now (file .entry)) (now (parts .entry)) count (now (parts .exit)) r ⌝ }
+    ensures size { λ _. ⌜ length (now (parts .exit)) ≡ 512 ⌝ }
+{
+    if count <= FEW_PARTS {
+        let mut notes = [0usize; FEW_NUMBERS];
+        return name_copied(file, count, parts, &mut notes);
+    }
+    let mut notes = [0usize; NOTE_NUMBERS];
+    name_copied(file, count, parts, &mut notes)
+}
+
+// The rule of some tokens: refusals 5 to 8. The grammar is judged to the end before the limits, and these before the names. The grammar writes its notes
+// where the parts are to stand.
 fn parse_tokens(s: &[usize], file: &[u8], parts: &mut [usize; PART_NUMBERS]) -> Parsed
     requires { ⌜ length (now s) ≤ 4096 ⌝ ∗ ⌜ Sized (now file) ⌝ ∗ ⌜ length (now parts) ≡ 512 ⌝ }
     ensures parsed { λ r. ⌜ TokensParsedTo (now (s .entry)) (now (file .entry)) (now (parts .exit)) r ⌝ }
@@ -36,8 +87,7 @@ fn parse_tokens(s: &[usize], file: &[u8], parts: &mut [usize; PART_NUMBERS]) -> 
     if !fits {
         return Parsed::Refused(Reason::Brackets);
     }
-    let mut notes = [0usize; NOTE_NUMBERS];
-    let Step::Next { at: _, count, deep } = grammar::read_tokens(s, &mut notes) else {
+    let Step::Next { at: _, count, deep } = grammar::read_tokens(s, parts) else {
         return Parsed::Refused(Reason::Grammar);
     };
     if MOST_PARTS < count {
@@ -46,7 +96,7 @@ fn parse_tokens(s: &[usize], file: &[u8], parts: &mut [usize; PART_NUMBERS]) -> 
     if MOST_FROMS < deep {
         return Parsed::Refused(Reason::Limits);
     }
-    let named = names::name_parts(file, &notes, count, parts);
+    let named = name_noted(file, count, parts);
     if !named {
         return Parsed::Refused(Reason::Names);
     }

@@ -11,8 +11,8 @@ add-resolve c = search needs
 mul-resolve : tie.Need-mul-resolve
 mul-resolve c = search needs
 
-element-copy-out-resolve : tie.Need-element-copy-out-resolve
-element-copy-out-resolve c = search needs
+shared-slice-read-resolve : tie.Need-shared-slice-read-resolve
+shared-slice-read-resolve c = search needs
 
 add-resolve-2 : tie.Need-add-resolve-2
 add-resolve-2 c = search needs
@@ -20,13 +20,13 @@ add-resolve-2 c = search needs
 mul-resolve-2 : tie.Need-mul-resolve-2
 mul-resolve-2 c = search needs
 
-element-copy-out-resolve-2 : tie.Need-element-copy-out-resolve-2
-element-copy-out-resolve-2 c = search needs
+shared-slice-read-resolve-2 : tie.Need-shared-slice-read-resolve-2
+shared-slice-read-resolve-2 c = search needs
 
 resolve-requires : tie.Need-resolve-requires
 resolve-requires c κs =
-    let o = c .before .before .before in
-    (o .pre .0, fits-fewer (o .pre .1 .1 .1 .0) (o .args .left-levels) (o .pre .1 .1 .1 .1))
+    let o = c .before .before .before .before in
+    (o .pre .0, fits-fewer (o .pre .1 .1 .0) (o .args .left-levels) (o .pre .1 .1 .1))
 
 enum-known-left-tag : tie.Need-enum-known-left-tag
 enum-known-left-tag c = search needs
@@ -36,7 +36,7 @@ enum-told c = search needs
 
 returns : tie.Need-returns
 returns c =
-    let o = c .before .before .before .before .before .before in
+    let o = c .before .before .before .before .before .before .before in
     let a = o .args in
     let the-resolve = c .before .before .resolve in
     let the-enum-told = c .enum-told in
@@ -48,8 +48,8 @@ add-resolve-3 c = search needs
 mul-resolve-3 : tie.Need-mul-resolve-3
 mul-resolve-3 c = search needs
 
-element-copy-out-resolve-3 : tie.Need-element-copy-out-resolve-3
-element-copy-out-resolve-3 c = search needs
+shared-slice-read-resolve-3 : tie.Need-shared-slice-read-resolve-3
+shared-slice-read-resolve-3 c = search needs
 
 add-resolve-4 : tie.Need-add-resolve-4
 add-resolve-4 c = search needs
@@ -57,8 +57,8 @@ add-resolve-4 c = search needs
 mul-resolve-4 : tie.Need-mul-resolve-4
 mul-resolve-4 c = search needs
 
-element-copy-out-resolve-4 : tie.Need-element-copy-out-resolve-4
-element-copy-out-resolve-4 c = search needs
+shared-slice-read-resolve-4 : tie.Need-shared-slice-read-resolve-4
+shared-slice-read-resolve-4 c = search needs
 
 resolve-requires-2 : tie.Need-resolve-requires-2
 resolve-requires-2 c κs = search needs
@@ -71,7 +71,7 @@ enum-told-2 c = search needs
 
 returns-2 : tie.Need-returns-2
 returns-2 c =
-    let o = c .before .before .before .before .before .before .before .before .before .before .before .before in
+    let o = c .before .before .before .before .before .before .before .before .before .before .before .before .before in
     let a = o .args in
     let the-resolve = c .before .before .before .before .before .before .before .before .resolve in
     let the-left-tag = c .before .before .before .before .before .before .left-tag in
@@ -81,7 +81,7 @@ returns-2 c =
 
 returns-3 : tie.Need-returns-3
 returns-3 c =
-    let o = c .before .before .before .before .before .before .before .before .before .before .before .before .before in
+    let o = c .before .before .before .before .before .before .before .before .before .before .before .before .before .before in
     let a = o .args in
     let the-resolve = c .before .before .before .before .before .before .before .before .before .resolve in
     let the-left-tag = c .before .before .before .before .before .before .before .left-tag in
@@ -95,20 +95,20 @@ resolve-both-spec =
     (tie.spec
     add-resolve
     mul-resolve
-    element-copy-out-resolve
+    shared-slice-read-resolve
     add-resolve-2
     mul-resolve-2
-    element-copy-out-resolve-2
+    shared-slice-read-resolve-2
     resolve-requires
     enum-known-left-tag
     enum-told
     returns
     add-resolve-3
     mul-resolve-3
-    element-copy-out-resolve-3
+    shared-slice-read-resolve-3
     add-resolve-4
     mul-resolve-4
-    element-copy-out-resolve-4
+    shared-slice-read-resolve-4
     resolve-requires-2
     enum-known-right-tag
     enum-told-2
