@@ -5,6 +5,9 @@
 ghost use mathlib.Core.Path.{_≡_};
 ghost use Prim.Native.Nat.{_*_, _≤_};
 ghost use lib.ListN.{getD};
+ghost use Rattle.tables.specs.Values.{And, Or, Some};
+ghost use Rattle.rule.specs.Parts.{joinKind, listKind, existsKind};
+ghost use Rattle.names.specs.Code.{partSize};
 ghost use Rattle.entries.specs.Code.{CompareReady, ComparedTo, NullReady, NulledTo, Writable, WroteTo};
 use card::MOST_ENTRIES;
 use card::RECORD_SIZE;
@@ -111,7 +114,7 @@ fn write_pair(
     records: &mut [u8],
     k: usize,
 ) -> usize
-    requires { ⌜ Writable (now p) s negate unknown (now kinds) (now records) k ⌝ ∗ ⌜ (1 ≤ getD (now p) (8 * s) 0) × (getD (now p) (8 * s) 0 ≤ 2) ⌝ }
+    requires { ⌜ Writable (now p) s negate unknown (now kinds) (now records) k ⌝ ∗ ⌜ (joinKind And ≤ getD (now p) (partSize * s) 0) × (getD (now p) (partSize * s) 0 ≤ joinKind Or) ⌝ }
     ensures { λ r. ⌜ WroteTo (now (p .entry)) s negate unknown (now (kinds .entry)) (now (records .entry)) (now (kinds .exit)) (now (records .exit)) k r ⌝ }
 {
     let kind = records::pair_kind(p[PART_FIELDS * s], negate);
@@ -133,7 +136,7 @@ fn write_exists(
     records: &mut [u8],
     k: usize,
 ) -> usize
-    requires { ⌜ Writable (now p) s negate unknown (now kinds) (now records) k ⌝ ∗ ⌜ getD (now p) (8 * s) 0 ≡ 7 ⌝ }
+    requires { ⌜ Writable (now p) s negate unknown (now kinds) (now records) k ⌝ ∗ ⌜ getD (now p) (partSize * s) 0 ≡ existsKind ⌝ }
     ensures { λ r. ⌜ WroteTo (now (p .entry)) s negate unknown (now (kinds .entry)) (now (records .entry)) (now (kinds .exit)) (now (records .exit)) k r ⌝ }
 {
     let kind = records::row_kind(negate);
@@ -155,7 +158,7 @@ fn write_list(
     records: &mut [u8],
     k: usize,
 ) -> usize
-    requires { ⌜ Writable (now p) s negate unknown (now kinds) (now records) k ⌝ ∗ ⌜ 8 ≤ getD (now p) (8 * s) 0 ⌝ }
+    requires { ⌜ Writable (now p) s negate unknown (now kinds) (now records) k ⌝ ∗ ⌜ listKind Some ≤ getD (now p) (partSize * s) 0 ⌝ }
     ensures { λ r. ⌜ WroteTo (now (p .entry)) s negate unknown (now (kinds .entry)) (now (records .entry)) (now (kinds .exit)) (now (records .exit)) k r ⌝ }
 {
     let every = (p[PART_FIELDS * s] == ALL_PART) != negate;

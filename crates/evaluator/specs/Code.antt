@@ -12,9 +12,10 @@ use Rattle.cells.specs.Code.{seenCell}
 use Rattle.cells.specs.declared.Seen.{Seen}
 use Rattle.values.specs.Code.{Readable}
 use Rattle.rule.specs.Condition.{Test, Rule, parts, fromsDeep}
-use Rattle.rule.specs.Names.{ValueFits, TestFits, Fits}
+use Rattle.rule.specs.Names.{mostParts, ValueFits, TestFits, Fits}
 use Rattle.rule.specs.Parts.{AtomHead, ListedHead, listKind, partOf}
 use Rattle.rule.specs.Meaning.{test3, compare3, isTrue, meaning, truthNumber}
+use Rattle.names.specs.Code.{partsSize}
 use Rattle.parser.specs.Parts.{PartAt, Stands}
 
 -- ---- truth values as numbers
@@ -41,8 +42,8 @@ pub record TestReady (p g file w : List ℕ) (s : ℕ) : Type 0 where
   pub env : Env
   pub test : Test Value
   pub readable : Readable g file w levels env
-  pub size : length p ≡ 512
-  pub few : s < 64
+  pub size : length p ≡ partsSize
+  pub few : s < mostParts
   pub here : PartAt p s (partOf (s + 1) (AtomHead test))
   pub fits : TestFits (columnsOf file) levels test
 
@@ -54,8 +55,8 @@ pub record Evaluable (p g file w : List ℕ) (s depth : ℕ) : Type 0 where
   pub env : Env
   pub rule : Rule
   pub readable : Readable g file w levels env
-  pub size : length p ≡ 512
-  pub few : s + parts rule ≤ 64
+  pub size : length p ≡ partsSize
+  pub few : s + parts rule ≤ mostParts
   pub stands : Stands p s rule
   pub deep : depth ≡ length levels
   pub room : depth + fromsDeep rule ≤ 4

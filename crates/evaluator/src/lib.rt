@@ -5,9 +5,11 @@
 ghost use mathlib.Core.Path.{_≡_};
 ghost use Prim.Native.Nat.{_*_, min, max};
 ghost use lib.ListN.{getD};
-ghost use Rattle.tables.specs.Values.{comparisonOf};
+ghost use Rattle.tables.specs.Values.{comparisonOf, And, Or};
 ghost use Rattle.cells.specs.Code.{seenCell};
 ghost use Rattle.rule.specs.Meaning.{truth, compare3, truthNumber};
+ghost use Rattle.rule.specs.Parts.{joinKind, existsKind};
+ghost use Rattle.names.specs.Code.{partSize};
 ghost use Rattle.evaluator.specs.Code.{unlessUnknown, TestReady, TestEvaluated, Evaluable, Evaluates, RowReady, RowEvaluated, OverNone};
 use cells::PLACES;
 use cells::Seen;
@@ -144,7 +146,7 @@ fn evaluate_and(
     w: &[usize; LEVELS],
     depth: usize,
 ) -> usize
-    requires { ⌜ Evaluable (now p) (now g) (now file) (now w) s depth ⌝ ∗ ⌜ getD (now p) (8 * s) 0 ≡ 1 ⌝ }
+    requires { ⌜ Evaluable (now p) (now g) (now file) (now w) s depth ⌝ ∗ ⌜ getD (now p) (partSize * s) 0 ≡ joinKind And ⌝ }
     ensures { λ r. ⌜ Evaluates (now (p .entry)) (now (g .entry)) (now (file .entry)) (now (w .entry)) s depth r ⌝ }
 {
     let left = evaluate_part(p, g, file, s + 1, w, depth);
@@ -164,7 +166,7 @@ fn evaluate_or(
     w: &[usize; LEVELS],
     depth: usize,
 ) -> usize
-    requires { ⌜ Evaluable (now p) (now g) (now file) (now w) s depth ⌝ ∗ ⌜ getD (now p) (8 * s) 0 ≡ 2 ⌝ }
+    requires { ⌜ Evaluable (now p) (now g) (now file) (now w) s depth ⌝ ∗ ⌜ getD (now p) (partSize * s) 0 ≡ joinKind Or ⌝ }
     ensures { λ r. ⌜ Evaluates (now (p .entry)) (now (g .entry)) (now (file .entry)) (now (w .entry)) s depth r ⌝ }
 {
     let left = evaluate_part(p, g, file, s + 1, w, depth);
@@ -185,7 +187,7 @@ fn evaluate_exists(
     w: &[usize; LEVELS],
     depth: usize,
 ) -> usize
-    requires { ⌜ Evaluable (now p) (now g) (now file) (now w) s depth ⌝ ∗ ⌜ getD (now p) (8 * s) 0 ≡ 7 ⌝ }
+    requires { ⌜ Evaluable (now p) (now g) (now file) (now w) s depth ⌝ ∗ ⌜ getD (now p) (partSize * s) 0 ≡ existsKind ⌝ }
     ensures { λ r. ⌜ Evaluates (now (p .entry)) (now (g .entry)) (now (file .entry)) (now (w .entry)) s depth r ⌝ }
 {
     let table = cells::table_place(g, p[PART_FIELDS * s + PART_TABLE]);
@@ -253,7 +255,7 @@ fn evaluate_list(
     depth: usize,
     empty: usize,
 ) -> usize
-    requires { ⌜ Evaluable (now p) (now g) (now file) (now w) s depth ⌝ ∗ ⌜ OverNone (getD (now p) (8 * s) 0) empty ⌝ }
+    requires { ⌜ Evaluable (now p) (now g) (now file) (now w) s depth ⌝ ∗ ⌜ OverNone (getD (now p) (partSize * s) 0) empty ⌝ }
     ensures { λ r. ⌜ Evaluates (now (p .entry)) (now (g .entry)) (now (file .entry)) (now (w .entry)) s depth r ⌝ }
 {
     let table = cells::table_place(g, p[PART_FIELDS * s + PART_TABLE]);

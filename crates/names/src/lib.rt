@@ -7,11 +7,13 @@ ghost use mathlib.Core.List.{_++_};
 ghost use mathlib.Core.Option.{Option·map};
 ghost use Prim.Native.Nat.{_+_, _*_, _-_, _<_, _≤_};
 ghost use lib.ListN.{length, drop};
+ghost use Rattle.tables.specs.Values.{And, Or, Some};
 ghost use Rattle.tables.specs.Tables.{columnsOf};
 ghost use Rattle.cells.specs.Code.{fromExcess, Sized};
-ghost use Rattle.rule.specs.Names.{existing, valueIn};
+ghost use Rattle.rule.specs.Names.{mostParts, existing, valueIn};
+ghost use Rattle.rule.specs.Parts.{joinKind, listKind, notKind, compareKind, nullKind, notNullKind, existsKind};
 ghost use Rattle.grammar.specs.Code.{writtenOf};
-ghost use Rattle.names.specs.Code.{existingAs, scopeIn, binding, NearestAt, ScopeFits, valueNumbers, resolvedAs, bothNumbers, bothAs, leftWritten, rightWritten, partFields, plainPartNumbers, kindAt, Placeable, PlacedTo, Nameable, NamedTo};
+ghost use Rattle.names.specs.Code.{partSize, partsSize, existingAs, scopeIn, binding, NearestAt, ScopeFits, valueNumbers, resolvedAs, bothNumbers, bothAs, leftWritten, rightWritten, partFields, plainPartNumbers, kindAt, Placeable, PlacedTo, Nameable, NamedTo};
 use cells::EXCESS;
 use cells::byte;
 use grammar::MOST_FROMS;
@@ -24,7 +26,17 @@ use grammar::NOTE_LETTER;
 use grammar::NOTE_RIGHT_LETTER;
 use grammar::NOTE_RIGHT_NUMBER;
 use grammar::NOTE_TABLE;
+use rule::AND_PART;
+use rule::COMPARISON_PART;
+use rule::EXISTS_PART;
+use rule::NOT_NULL_PART;
+use rule::NOT_PART;
+use rule::NULL_PART;
+use rule::OR_PART;
 use values::CONSTANT;
+
+// The letter of the judged row: m.
+const JUDGED_LETTER: usize = 109;
 
 // The judged row's letter and those of the FROMs around a part: a letter and a table for each.
 const SCOPE_NUMBERS: usize = 2 * (1 + MOST_FROMS);
@@ -210,9 +222,9 @@ fn bind(
 
 // Part number p.
 fn put_part(parts: &mut [usize; PART_NUMBERS], p: usize, part: Fields)
-    requires { ⌜ length (now parts) ≡ 512 ⌝ ∗ ⌜ p < 64 ⌝ }
-    ensures written { λ _. ⌜ drop (8 * p) (now (parts .exit)) ≡ partFields part ++ drop (8 * (p + 1)) (now (parts .entry)) ⌝ }
-    ensures size { λ _. ⌜ length (now (parts .exit)) ≡ 512 ⌝ }
+    requires { ⌜ length (now parts) ≡ partsSize ⌝ ∗ ⌜ p < mostParts ⌝ }
+    ensures written { λ _. ⌜ drop (partSize * p) (now (parts .exit)) ≡ partFields part ++ drop (partSize * (p + 1)) (now (parts .entry)) ⌝ }
+    ensures size { λ _. ⌜ length (now (parts .exit)) ≡ partsSize ⌝ }
 {
     let q = PART_FIELDS * p;
     parts[q] = part.kind;
@@ -254,15 +266,15 @@ fn place(
 ) -> Placed
     requires { ⌜ Placeable (now file) (now notes) h (now parts) e (now scope) levels ⌝ }
     ensures placed { λ r. ⌜ PlacedTo (now (file .entry)) (now (notes .entry)) h (now (parts .entry)) (now (parts .exit)) e (now (scope .entry)) levels r ⌝ }
-    ensures size { λ _. ⌜ length (now (parts .exit)) ≡ 512 ⌝ }
+    ensures size { λ _. ⌜ length (now (parts .exit)) ≡ partsSize ⌝ }
 {
     let kind = notes[NOTE_FIELDS * (h - 1)];
     match kind {
-        1 | 2 => place_pair(file, notes, h, parts, e, scope, levels),
-        3 => place_not(file, notes, h, parts, e, scope, levels),
-        4 => place_comparison(file, notes, h, parts, e, scope, levels),
-        5 | 6 => place_null(file, notes, h, parts, e, scope, levels),
-        7 => place_exists(file, notes, h, parts, e, scope, levels),
+        AND_PART | OR_PART => place_pair(file, notes, h, parts, e, scope, levels),
+        NOT_PART => place_not(file, notes, h, parts, e, scope, levels),
+        COMPARISON_PART => place_comparison(file, notes, h, parts, e, scope, levels),
+        NULL_PART | NOT_NULL_PART => place_null(file, notes, h, parts, e, scope, levels),
+        EXISTS_PART => place_exists(file, notes, h, parts, e, scope, levels),
         _ => place_list(file, notes, h, parts, e, scope, levels),
     }
 }
@@ -277,9 +289,9 @@ fn place_pair(
     scope: &[usize; SCOPE_NUMBERS],
     levels: usize,
 ) -> Placed
-    requires { ⌜ Placeable (now file) (now notes) h (now parts) e (now scope) levels ⌝ ∗ ⌜ (1 ≤ kindAt (now notes) h) × (kindAt (now notes) h ≤ 2) ⌝ }
+    requires { ⌜ Placeable (now file) (now notes) h (now parts) e (now scope) levels ⌝ ∗ ⌜ (joinKind And ≤ kindAt (now notes) h) × (kindAt (now notes) h ≤ joinKind Or) ⌝ }
     ensures placed { λ r. ⌜ PlacedTo (now (file .entry)) (now (notes .entry)) h (now (parts .entry)) (now (parts .exit)) e (now (scope .entry)) levels r ⌝ }
-    ensures size { λ _. ⌜ length (now (parts .exit)) ≡ 512 ⌝ }
+    ensures size { λ _. ⌜ length (now (parts .exit)) ≡ partsSize ⌝ }
 {
     let kind = notes[NOTE_FIELDS * (h - 1)];
     let Placed::At(right) = place(file, notes, h - 1, parts, e, scope, levels) else {
@@ -303,14 +315,14 @@ fn place_not(
     scope: &[usize; SCOPE_NUMBERS],
     levels: usize,
 ) -> Placed
-    requires { ⌜ Placeable (now file) (now notes) h (now parts) e (now scope) levels ⌝ ∗ ⌜ kindAt (now notes) h ≡ 3 ⌝ }
+    requires { ⌜ Placeable (now file) (now notes) h (now parts) e (now scope) levels ⌝ ∗ ⌜ kindAt (now notes) h ≡ notKind ⌝ }
     ensures placed { λ r. ⌜ PlacedTo (now (file .entry)) (now (notes .entry)) h (now (parts .entry)) (now (parts .exit)) e (now (scope .entry)) levels r ⌝ }
-    ensures size { λ _. ⌜ length (now (parts .exit)) ≡ 512 ⌝ }
+    ensures size { λ _. ⌜ length (now (parts .exit)) ≡ partsSize ⌝ }
 {
     let Placed::At(inner) = place(file, notes, h - 1, parts, e, scope, levels) else {
         return Placed::Unplaced;
     };
-    put_part(parts, inner - 1, plain_part(3, e));
+    put_part(parts, inner - 1, plain_part(NOT_PART, e));
     Placed::At(inner - 1)
 }
 
@@ -324,9 +336,9 @@ fn place_comparison(
     scope: &[usize; SCOPE_NUMBERS],
     levels: usize,
 ) -> Placed
-    requires { ⌜ Placeable (now file) (now notes) h (now parts) e (now scope) levels ⌝ ∗ ⌜ kindAt (now notes) h ≡ 4 ⌝ }
+    requires { ⌜ Placeable (now file) (now notes) h (now parts) e (now scope) levels ⌝ ∗ ⌜ kindAt (now notes) h ≡ compareKind ⌝ }
     ensures placed { λ r. ⌜ PlacedTo (now (file .entry)) (now (notes .entry)) h (now (parts .entry)) (now (parts .exit)) e (now (scope .entry)) levels r ⌝ }
-    ensures size { λ _. ⌜ length (now (parts .exit)) ≡ 512 ⌝ }
+    ensures size { λ _. ⌜ length (now (parts .exit)) ≡ partsSize ⌝ }
 {
     let b = NOTE_FIELDS * (h - 1);
     let ResolvedBoth::Values {
@@ -339,7 +351,7 @@ fn place_comparison(
         return Placed::Unplaced;
     };
     let part = Fields {
-        kind: 4,
+        kind: COMPARISON_PART,
         comparison: notes[b + NOTE_COMPARISON],
         table: 0,
         end: e,
@@ -362,9 +374,9 @@ fn place_null(
     scope: &[usize; SCOPE_NUMBERS],
     levels: usize,
 ) -> Placed
-    requires { ⌜ Placeable (now file) (now notes) h (now parts) e (now scope) levels ⌝ ∗ ⌜ (5 ≤ kindAt (now notes) h) × (kindAt (now notes) h ≤ 6) ⌝ }
+    requires { ⌜ Placeable (now file) (now notes) h (now parts) e (now scope) levels ⌝ ∗ ⌜ (nullKind ≤ kindAt (now notes) h) × (kindAt (now notes) h ≤ notNullKind) ⌝ }
     ensures placed { λ r. ⌜ PlacedTo (now (file .entry)) (now (notes .entry)) h (now (parts .entry)) (now (parts .exit)) e (now (scope .entry)) levels r ⌝ }
-    ensures size { λ _. ⌜ length (now (parts .exit)) ≡ 512 ⌝ }
+    ensures size { λ _. ⌜ length (now (parts .exit)) ≡ partsSize ⌝ }
 {
     let b = NOTE_FIELDS * (h - 1);
     let Resolved::Value {
@@ -404,9 +416,9 @@ fn place_exists(
     scope: &[usize; SCOPE_NUMBERS],
     levels: usize,
 ) -> Placed
-    requires { ⌜ Placeable (now file) (now notes) h (now parts) e (now scope) levels ⌝ ∗ ⌜ kindAt (now notes) h ≡ 7 ⌝ }
+    requires { ⌜ Placeable (now file) (now notes) h (now parts) e (now scope) levels ⌝ ∗ ⌜ kindAt (now notes) h ≡ existsKind ⌝ }
     ensures placed { λ r. ⌜ PlacedTo (now (file .entry)) (now (notes .entry)) h (now (parts .entry)) (now (parts .exit)) e (now (scope .entry)) levels r ⌝ }
-    ensures size { λ _. ⌜ length (now (parts .exit)) ≡ 512 ⌝ }
+    ensures size { λ _. ⌜ length (now (parts .exit)) ≡ partsSize ⌝ }
 {
     let b = NOTE_FIELDS * (h - 1);
     let table = find_numbered(notes[b + NOTE_TABLE], byte(file, 0));
@@ -419,7 +431,7 @@ fn place_exists(
         return Placed::Unplaced;
     };
     let part = Fields {
-        kind: 7,
+        kind: EXISTS_PART,
         comparison: 0,
         table,
         end: e,
@@ -442,9 +454,9 @@ fn place_list(
     scope: &[usize; SCOPE_NUMBERS],
     levels: usize,
 ) -> Placed
-    requires { ⌜ Placeable (now file) (now notes) h (now parts) e (now scope) levels ⌝ ∗ ⌜ 8 ≤ kindAt (now notes) h ⌝ }
+    requires { ⌜ Placeable (now file) (now notes) h (now parts) e (now scope) levels ⌝ ∗ ⌜ listKind Some ≤ kindAt (now notes) h ⌝ }
     ensures placed { λ r. ⌜ PlacedTo (now (file .entry)) (now (notes .entry)) h (now (parts .entry)) (now (parts .exit)) e (now (scope .entry)) levels r ⌝ }
-    ensures size { λ _. ⌜ length (now (parts .exit)) ≡ 512 ⌝ }
+    ensures size { λ _. ⌜ length (now (parts .exit)) ≡ partsSize ⌝ }
 {
     let b = NOTE_FIELDS * (h - 1);
     let table = find_numbered(notes[b + NOTE_TABLE], byte(file, 0));
@@ -482,11 +494,11 @@ fn place_list(
 
 // The parts of the rule whose condition is noted, n of them; or some name means nothing. Around a whole rule m is bound, to table 1.
 pub fn name_parts(file: &[u8], notes: &[usize], n: usize, parts: &mut [usize; PART_NUMBERS]) -> bool
-    requires { ⌜ Nameable (now file) (now notes) n ⌝ ∗ ⌜ length (now parts) ≡ 512 ⌝ }
+    requires { ⌜ Nameable (now file) (now notes) n ⌝ ∗ ⌜ length (now parts) ≡ partsSize ⌝ }
     ensures named { λ r. ⌜ NamedTo (now (file .entry)) (now (notes .entry)) n (now (parts .exit)) r ⌝ }
-    ensures size { λ _. ⌜ length (now (parts .exit)) ≡ 512 ⌝ }
+    ensures size { λ _. ⌜ length (now (parts .exit)) ≡ partsSize ⌝ }
 {
-    let scope = [109usize, 1, 0, 0, 0, 0, 0, 0];
+    let scope = [JUDGED_LETTER, 1, 0, 0, 0, 0, 0, 0];
     let placed = place(file, notes, n, parts, n, &scope, 1);
     match placed {
         Placed::At(_) => true,

@@ -17,7 +17,7 @@ use Rattle.rule.specs.Names.{limitsFit, outermost, ruleIn}
 use Rattle.rule.specs.Parts.{partsOf}
 use Rattle.rule.specs.Calls.{mostBytes, tokensRefusals, ruleOf, readingRefusals, Accepted, withRule}
 use Rattle.lexer.specs.Code.{tokensIn}
-use Rattle.names.specs.Code.{partsNumbers}
+use Rattle.names.specs.Code.{partSize, partsNumbers}
 use Rattle.parser.specs.declared.Parsed.{Parsed}
 use Rattle.parser.specs.declared.Parsed.the-variants.{Rule as ParsedRule, Refused as ParsedRefused}
 
@@ -36,7 +36,7 @@ pub record TokensParsing (s file new : List ℕ) (n : ℕ) : Type 0 where
   pub rule : Rule
   pub named : ruleIn (columnsOf file) outermost tree ≡ some rule
   pub count : n ≡ parts rule
-  pub written : take (8 * n) new ≡ partsNumbers (partsOf rule)
+  pub written : take (partSize * n) new ≡ partsNumbers (partsOf rule)
 
 abbrev pub TokensParsedTo : (s file new : List ℕ) → Parsed → Type 0
 TokensParsedTo s file new (ParsedRule n) = TokensParsing s file new n
@@ -58,7 +58,7 @@ pub record Parsing (text file new : List ℕ) (n : ℕ) : Type 0 where
   pub rule : Rule
   pub is-rule : ruleOf text (columnsOf file) ≡ some rule
   pub count : n ≡ parts rule
-  pub written : take (8 * n) new ≡ partsNumbers (partsOf rule)
+  pub written : take (partSize * n) new ≡ partsNumbers (partsOf rule)
 
 abbrev pub ParsedTo : (text file new : List ℕ) → Parsed → Type 0
 ParsedTo text file new (ParsedRule n) = Parsing text file new n

@@ -3,7 +3,8 @@ ghost use mathlib.Core.Path.{_≡_};
 ghost use Prim.Native.Nat.{_*_, _≤_};
 ghost use lib.ListN.{length, take};
 ghost use Rattle.cells.specs.Code.{Sized};
-ghost use Rattle.names.specs.Code.{Nameable, NamedTo};
+ghost use Rattle.grammar.specs.Code.{noteSize, notesSize};
+ghost use Rattle.names.specs.Code.{partsSize, Nameable, NamedTo};
 ghost use Rattle.parser.specs.Code.{TextReady, TokensParsedTo, parsedAnswer, parseCall, ParsedTo};
 use cells::Reason;
 use cells::Validity;
@@ -36,7 +37,7 @@ pub enum Parsed {
 
 // The first n numbers of from, at the start of notes.
 fn copy_numbers(from: &[usize; NOTE_NUMBERS], n: usize, notes: &mut [usize])
-    requires { ⌜ length (now from) ≡ 512 ⌝ ∗ ⌜ n ≤ 512 ⌝ ∗ ⌜ n ≤ length (now notes) ⌝ }
+    requires { ⌜ length (now from) ≡ notesSize ⌝ ∗ ⌜ n ≤ notesSize ⌝ ∗ ⌜ n ≤ length (now notes) ⌝ }
     ensures copied { λ _. ⌜ take n (now (notes .exit)) ≡ take n (now (from .entry)) ⌝ }
     ensures size { λ _. ⌜ length (now (notes .exit)) ≡ length (now (notes .entry)) ⌝ }
 {
@@ -54,9 +55,9 @@ fn name_copied(
     parts: &mut [usize; PART_NUMBERS],
     notes: &mut [usize],
 ) -> bool
-    requires { ⌜ Nameable (now file) (now parts) count ⌝ ∗ ⌜ length (now parts) ≡ 512 ⌝ ∗ ⌜ 8 * count ≤ length (now notes) ⌝ }
+    requires { ⌜ Nameable (now file) (now parts) count ⌝ ∗ ⌜ length (now parts) ≡ partsSize ⌝ ∗ ⌜ noteSize * count ≤ length (now notes) ⌝ }
     ensures named { λ r. ⌜ NamedTo (now (file .entry)) (now (parts .entry)) count (now (parts .exit)) r ⌝ }
-    ensures size { λ _. ⌜ length (now (parts .exit)) ≡ 512 ⌝ }
+    ensures size { λ _. ⌜ length (now (parts .exit)) ≡ partsSize ⌝ }
 {
     copy_numbers(parts, NOTE_FIELDS * count, notes);
     names::name_parts(file, notes, count, parts)
@@ -64,9 +65,9 @@ fn name_copied(
 
 // The same, with room for the notes made here.
 fn name_noted(file: &[u8], count: usize, parts: &mut [usize; PART_NUMBERS]) -> bool
-    requires { ⌜ Nameable (now file) (now parts) count ⌝ ∗ ⌜ length (now parts) ≡ 512 ⌝ }
+    requires { ⌜ Nameable (now file) (now parts) count ⌝ ∗ ⌜ length (now parts) ≡ partsSize ⌝ }
     ensures named { λ r. ⌜ NamedTo (now (file .entry)) (now (parts .entry)) count (now (parts .exit)) r ⌝ }
-    ensures size { λ _. ⌜ length (now (parts .exit)) ≡ 512 ⌝ }
+    ensures size { λ _. ⌜ length (now (parts .exit)) ≡ partsSize ⌝ }
 {
     if count <= FEW_PARTS {
         let mut notes = [0usize; FEW_NUMBERS];
@@ -79,9 +80,9 @@ fn name_noted(file: &[u8], count: usize, parts: &mut [usize; PART_NUMBERS]) -> b
 // The rule of some tokens: refusals 5 to 8. The grammar is judged to the end before the limits, and these before the names. The grammar writes its notes
 // where the parts are to stand.
 fn parse_tokens(s: &[usize], file: &[u8], parts: &mut [usize; PART_NUMBERS]) -> Parsed
-    requires { ⌜ length (now s) ≤ 4096 ⌝ ∗ ⌜ Sized (now file) ⌝ ∗ ⌜ length (now parts) ≡ 512 ⌝ }
+    requires { ⌜ length (now s) ≤ 4096 ⌝ ∗ ⌜ Sized (now file) ⌝ ∗ ⌜ length (now parts) ≡ partsSize ⌝ }
     ensures parsed { λ r. ⌜ TokensParsedTo (now (s .entry)) (now (file .entry)) (now (parts .exit)) r ⌝ }
-    ensures size { λ _. ⌜ length (now (parts .exit)) ≡ 512 ⌝ }
+    ensures size { λ _. ⌜ length (now (parts .exit)) ≡ partsSize ⌝ }
 {
     let fits = lexer::brackets_fit(s);
     if !fits {
@@ -110,10 +111,10 @@ fn parse_text(
     tokens: &mut [usize],
     parts: &mut [usize; PART_NUMBERS],
 ) -> Parsed
-    requires { ⌜ TextReady (now text) (now file) ⌝ ∗ ⌜ length (now text) ≤ length (now tokens) ⌝ ∗ ⌜ length (now parts) ≡ 512 ⌝ }
+    requires { ⌜ TextReady (now text) (now file) ⌝ ∗ ⌜ length (now text) ≤ length (now tokens) ⌝ ∗ ⌜ length (now parts) ≡ partsSize ⌝ }
     ensures answer { λ r. ⌜ parsedAnswer r ≡ parseCall (now (text .entry)) (now (file .entry)) ⌝ }
     ensures parsed { λ r. ⌜ ParsedTo (now (text .entry)) (now (file .entry)) (now (parts .exit)) r ⌝ }
-    ensures size { λ _. ⌜ length (now (parts .exit)) ≡ 512 ⌝ }
+    ensures size { λ _. ⌜ length (now (parts .exit)) ≡ partsSize ⌝ }
 {
     let Tokenized::Tokens(n) = lexer::tokenize(text, tokens) else {
         return Parsed::Refused(Reason::Token);
@@ -123,10 +124,10 @@ fn parse_text(
 
 // The rule of a text, for every call that reads one: the numbers of its parts, from the start of parts on.
 pub fn parse(text: &[u8], file: &[u8], parts: &mut [usize; PART_NUMBERS]) -> Parsed
-    requires { ⌜ length (now parts) ≡ 512 ⌝ }
+    requires { ⌜ length (now parts) ≡ partsSize ⌝ }
     ensures answer { λ r. ⌜ parsedAnswer r ≡ parseCall (now (text .entry)) (now (file .entry)) ⌝ }
     ensures parsed { λ r. ⌜ ParsedTo (now (text .entry)) (now (file .entry)) (now (parts .exit)) r ⌝ }
-    ensures size { λ _. ⌜ length (now (parts .exit)) ≡ 512 ⌝ }
+    ensures size { λ _. ⌜ length (now (parts .exit)) ≡ partsSize ⌝ }
 {
     let valid = cells::check_tables(file);
     if let Validity::Invalid(x) = valid {

@@ -39,13 +39,28 @@ abbrev pub listKind : Quantifier → ℕ
 listKind Some = 8
 listKind All = 9
 
+abbrev pub notKind : ℕ
+notKind = 3
+
+abbrev pub compareKind : ℕ
+compareKind = 4
+
+abbrev pub nullKind : ℕ
+nullKind = 5
+
+abbrev pub notNullKind : ℕ
+notNullKind = 6
+
+abbrev pub existsKind : ℕ
+existsKind = 7
+
 abbrev pub kindOf : Head → ℕ
 kindOf (JoinHead j) = joinKind j
-kindOf NotHead = 3
-kindOf (AtomHead (Compare op l r)) = 4
-kindOf (AtomHead (IsNull l)) = 5
-kindOf (AtomHead (IsNotNull l)) = 6
-kindOf (ExistsHead t) = 7
+kindOf NotHead = notKind
+kindOf (AtomHead (Compare op l r)) = compareKind
+kindOf (AtomHead (IsNull l)) = nullKind
+kindOf (AtomHead (IsNotNull l)) = notNullKind
+kindOf (ExistsHead t) = existsKind
 kindOf (ListedHead q op l s t) = listKind q
 
 -- a part by its fields: kind, comparison, table, end, left and right value

@@ -19,7 +19,7 @@ use Rattle.tables.proofs.Tabulated.{tabulate-length}
 use Rattle.tables.proofs.Sizes.{columns-count, columns-fit, same-refl, same-columns-is}
 use Rattle.card.specs.Card.{AsNo, Card, LeafEntry, PairEntry, RowEntry, entries}
 use Rattle.card.specs.Layout.{cardLength, tablesIn, columnsIn}
-use Rattle.card.specs.Sound.{mostEntries, sound, Sound}
+use Rattle.card.specs.Sound.{mostCardBytes, mostEntries, sound, Sound}
 use Rattle.card.specs.Calls.{cardSays, saysYes, checkRefusals, checkCall, fitsTables, gateRefusals, runRefusals, runCall, listCall}
 use Rattle.tables.proofs.Tests.{is-true, is-so}
 use Rattle.card.proofs.Claims.{sound-claim, length-claim}
@@ -50,8 +50,8 @@ few-entries r h =
     let most : n ≤ mostEntries = omega (arith, card-sum AsNo r, few-lists r) in
     and-i (leb 1 n) (leb n mostEntries) (le→leb 1 n (some-entries (ruleCard r))) (le→leb n mostEntries most)
 
--- the longest card has 2,891 bytes
-pub card-bytes-few : (file : List ℕ) (r : Rule) → tableCount file ≤ mostTables → parts r ≤ mostParts → publishedLength file r ≤ 2891
+-- no rule's card is longer than the longest
+pub card-bytes-few : (file : List ℕ) (r : Rule) → tableCount file ≤ mostTables → parts r ≤ mostParts → publishedLength file r ≤ mostCardBytes
 card-bytes-few file r tables few = omega (arith, few-lists r, sum-is r)
 
 module _ (text file : List ℕ) (accepted : Accepted text file) where

@@ -8,7 +8,7 @@ use Rattle.tables.specs.Values.{Comparison, Eq, Ne, Lt, Le, Gt, Ge, Value, Conn
 use Rattle.card.specs.Card.{Interpretation, AsNo, AsYes, Leaf, CompareLeaf, BlankLeaf, NotBlankLeaf, Card, LeafEntry, PairEntry, RowEntry}
 use Rattle.rule.specs.declared.Part.{Part}
 use Rattle.rule.specs.Condition.{Test, Compare, IsNull, IsNotNull, Atom, Join, Not, Exists, Listed, Rule}
-use Rattle.rule.specs.Parts.{NotHead, listKind, kindOf, partsOf}
+use Rattle.rule.specs.Parts.{notKind, listKind, partsOf}
 
 -- ---- the two interpretations
 
@@ -83,4 +83,4 @@ ofKind kind (p ∷ ps) = cond (eqb (p .kind) kind) 1 0 + ofKind kind ps
 abbrev pub entrySum : Rule → ℕ
 entrySum r =
     let ps = partsOf r in
-    length ps - ofKind (kindOf NotHead) ps + 2 * (ofKind (listKind Some) ps + ofKind (listKind All) ps)
+    length ps - ofKind notKind ps + 2 * (ofKind (listKind Some) ps + ofKind (listKind All) ps)

@@ -10,6 +10,8 @@ ghost use Rattle.tables.specs.Tables.{tableCount, columnsOf};
 ghost use Rattle.cells.specs.Code.{Sized};
 ghost use Rattle.translation.specs.Calls.{cardCall};
 ghost use Rattle.card.specs.Sound.{mostEntries};
+ghost use Rattle.rule.specs.Names.{mostParts};
+ghost use Rattle.names.specs.Code.{partsSize};
 ghost use Rattle.translator.specs.Answers.{madeAnswer};
 ghost use Rattle.translator.specs.Code.{entriesOfKind, entriesIn, passedUp, CardReady, CardWritten};
 use card::MOST_ENTRIES;
@@ -36,7 +38,7 @@ fn entries_of(kind: usize) -> usize
 
 // How many entries n parts make up.
 fn count_entries(p: &[usize; PART_NUMBERS], n: usize) -> usize
-    requires { ⌜ length (now p) ≡ 512 ⌝ ∗ ⌜ n ≤ 64 ⌝ }
+    requires { ⌜ length (now p) ≡ partsSize ⌝ ∗ ⌜ n ≤ mostParts ⌝ }
     ensures is { λ r. ⌜ r ≡ entriesIn (now (p .entry)) n ⌝ }
     ensures small { λ r. ⌜ r ≤ mostEntries ⌝ }
 {
