@@ -31,6 +31,8 @@ use decoder::FEW_DECODED;
 use decoder::FIELDS;
 use decoder::LEFT_NUMBER;
 use decoder::LEFT_TAG;
+use decoder::MIDDLE_CARD;
+use decoder::MIDDLE_DECODED;
 use decoder::NEXT_END;
 use decoder::RIGHT_NUMBER;
 use decoder::RIGHT_TAG;
@@ -226,6 +228,10 @@ pub fn check(card: &[u8]) -> Checked
 {
     if card.len() <= SHORT_CARD {
         let mut d = [0usize; FEW_DECODED];
+        return check_with(card, &mut d);
+    }
+    if card.len() <= MIDDLE_CARD {
+        let mut d = [0usize; MIDDLE_DECODED];
         return check_with(card, &mut d);
     }
     let mut d = [0usize; DECODED];

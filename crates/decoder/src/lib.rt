@@ -35,14 +35,20 @@ pub const FIELDS: usize = 8;
 
 pub const DECODED: usize = FIELDS * MOST_ENTRIES;
 
-// A card with no more entries than these is decoded into a short array: to set the numbers of an array for all entries to 0 takes longer than to run
-// such a card.
+// A card with no more entries than these is decoded into an array that is no longer: to set the numbers of an array for all entries to 0 takes longer than
+// to run a short card.
 pub const FEW_ENTRIES: usize = 16;
+
+pub const MIDDLE_ENTRIES: usize = 64;
 
 // The numbers of so many entries, and the bytes of the longest card that has no more.
 pub const FEW_DECODED: usize = FIELDS * FEW_ENTRIES;
 
+pub const MIDDLE_DECODED: usize = FIELDS * MIDDLE_ENTRIES;
+
 pub const SHORT_CARD: usize = 3 + MOST_TABLES + (1 + RECORD_SIZE) * FEW_ENTRIES;
+
+pub const MIDDLE_CARD: usize = 3 + MOST_TABLES + (1 + RECORD_SIZE) * MIDDLE_ENTRIES;
 
 // The order of an entry's numbers: its kind first, then these; and where the next entry's end stands.
 pub const END: usize = 1;

@@ -16,6 +16,8 @@ use cells::Reason;
 use cells::Validity;
 use decoder::DECODED;
 use decoder::FEW_DECODED;
+use decoder::MIDDLE_CARD;
+use decoder::MIDDLE_DECODED;
 use decoder::SHORT_CARD;
 use values::LEVELS;
 
@@ -102,6 +104,10 @@ pub fn run(card: &[u8], file: &[u8], row: usize) -> Ran
         let mut d = [0usize; FEW_DECODED];
         return run_with(card, file, row, &mut d);
     }
+    if card.len() <= MIDDLE_CARD {
+        let mut d = [0usize; MIDDLE_DECODED];
+        return run_with(card, file, row, &mut d);
+    }
     let mut d = [0usize; DECODED];
     run_with(card, file, row, &mut d)
 }
@@ -183,6 +189,10 @@ pub fn list(card: &[u8], file: &[u8], out: &mut [u32]) -> Listed
 {
     if card.len() <= SHORT_CARD {
         let mut d = [0usize; FEW_DECODED];
+        return list_with(card, file, out, &mut d);
+    }
+    if card.len() <= MIDDLE_CARD {
+        let mut d = [0usize; MIDDLE_DECODED];
         return list_with(card, file, out, &mut d);
     }
     let mut d = [0usize; DECODED];
