@@ -200,6 +200,7 @@ pub enum Validity {
     Invalid(Reason),
 }
 
+// A tables file by itself: refusals 1 and 2, which every call that is given one tries first.
 pub fn check_tables(file: &[u8]) -> Validity
     ensures { λ r. ⌜ validityAnswer r ≡ tablesCall (now (file .entry)) ⌝ }
 {

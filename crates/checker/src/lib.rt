@@ -205,6 +205,7 @@ pub fn is_sound(card: &[u8], d: &mut [usize]) -> bool
     check_entry(card, d, 0, n, &w, 1)
 }
 
+// Whether a card is sound, or why not.
 pub enum Checked {
     Good,
     Bad(Reason),

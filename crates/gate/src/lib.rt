@@ -40,6 +40,7 @@ fn fits_tables(card: &[u8], file: &[u8]) -> bool
     true
 }
 
+// Whether a card and tables can be run, or why not.
 enum Prepared {
     Ready,
     NotReady(Reason),
@@ -67,6 +68,7 @@ fn prepare(card: &[u8], file: &[u8], d: &mut [usize], g: &mut [usize; PLACES]) -
     Prepared::Ready
 }
 
+// What the card says of a row, or why it was not run.
 pub enum Ran {
     Yes,
     No,
@@ -156,6 +158,7 @@ fn copy_rows(kept: &[u32; MOST_ROWS], k: usize, out: &mut [u32])
     }
 }
 
+// How many rows stand in the list, or why there are none.
 pub enum Listed {
     Rows(usize),
     NotListed(Reason),

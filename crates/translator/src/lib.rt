@@ -92,6 +92,7 @@ fn write_card(p: &[usize; PART_NUMBERS], file: &[u8], entries: usize, out: &mut 
     copy_kinds(&kinds, entries, out, kinds_at);
 }
 
+// How many bytes the card has, or why there is none.
 pub enum Made {
     Bytes(usize),
     NotMade(Reason),
