@@ -1,29 +1,13 @@
-/* What the programs here share: a file read whole, the time, and how many bytes of its stack a thread has touched after a call. */
-#ifndef SHARED_H
-#define SHARED_H
+/* How many bytes of its stack a thread has touched after a call. */
+#ifndef TOUCHED_H
+#define TOUCHED_H
 #include <pthread.h>
 #include <stdint.h>
-#include <stdio.h>
 #include <stdlib.h>
 #include <string.h>
 #include <sys/mman.h>
-#include <time.h>
 
 enum { STACK_SIZE = 1 << 20, PAINT = 0xA5 };
-
-static inline size_t read_file(uint8_t *bytes, size_t most, const char *path) {
-    FILE *stream = fopen(path, "rb");
-    if (!stream) exit(2);
-    size_t length = fread(bytes, 1, most, stream);
-    fclose(stream);
-    return length;
-}
-
-static inline double now(void) {
-    struct timespec t;
-    clock_gettime(CLOCK_MONOTONIC, &t);
-    return t.tv_sec * 1e9 + t.tv_nsec;
-}
 
 static inline size_t touched(void *(*call)(void *)) {
     uint8_t *stack = mmap(NULL, STACK_SIZE, PROT_READ | PROT_WRITE, MAP_PRIVATE | MAP_ANONYMOUS, -1, 0);
