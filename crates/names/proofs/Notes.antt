@@ -1,5 +1,5 @@
 -- The notes of a condition: where its last part's numbers stand, and those of its inner conditions; the kind tells its shape.
-use mathlib.Core.Path.{_≡_, refl, sym, ap, subst, _∙_}
+use mathlib.Core.Path.{_≡_, refl, sym, ap, ap₂, subst, _∙_}
 use mathlib.Core.Bool.{Bool, true, false}
 use mathlib.Core.List.{List, [], _∷_, _++_, append-assoc}
 use Prim.Native.Nat.{ℕ, _+_, _*_, _-_, _<_, _≤_}
@@ -14,7 +14,7 @@ use Rattle.cells.specs.Code.{toExcess}
 use Rattle.rule.specs.Condition.{Test, Compare, IsNull, IsNotNull, Atom, Join, Not, Exists, Listed, WrittenValue, Plain, Named, Over, WrittenCondition, parts, fromsDeep}
 use Rattle.rule.specs.Parts.{listKind}
 use Rattle.grammar.specs.Code.{writtenNumbers, writtenOf, noted}
-use Rattle.names.specs.Code.{ValueKept, Kept, kindAt, Placeable}
+use Rattle.names.specs.Code.{writtenAt, ValueKept, Kept, kindAt, Placeable}
 
 -- ---- the front of a list, taken apart
 
@@ -159,6 +159,12 @@ module _ {notes : List ℕ} {h : ℕ} {before : List ℕ} {t : WrittenCondition}
   -- each number of the last part
   pub number-is : (i : ℕ) → i < 8 → getD notes (8 * (h - 1) + i) 0 ≡ getD (ownNumbers t) i 0
   number-is i l = behind notes (before ++ innerNumbers t) (ownNumbers t) (8 * h) (8 * (h - 1)) (q .notes-room) are eight-less i (omega (arith, own-eight t))
+
+  -- each value that it has
+  pub value-at : (i : ℕ) → i + 1 < 8 → writtenAt notes (8 * (h - 1) + i) ≡ writtenAt (ownNumbers t) i
+  value-at i l =
+      let z : 8 * (h - 1) + i + 1 ≡ 8 * (h - 1) + (i + 1) = omega arith in
+      ap₂ writtenOf (number-is i (omega arith)) (ap (λ (j : ℕ). getD notes j 0) z ∙ number-is (i + 1) l)
 
   pub kind-is : kindAt notes h ≡ getD (ownNumbers t) 0 0
   kind-is = ap (λ (i : ℕ). getD notes i 0) (sym (add-zero (8 * (h - 1)))) ∙ number-is 0 (omega arith)

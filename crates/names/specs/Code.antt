@@ -20,8 +20,8 @@ use Rattle.grammar.specs.Code.{noteSize, writtenOf, noted}
 use Rattle.names.specs.declared.Fields.{Fields}
 use Rattle.names.specs.declared.Resolved.{Resolved}
 use Rattle.names.specs.declared.Resolved.the-variants.{Value as ResolvedValue, Unresolved}
-use Rattle.names.specs.declared.ResolvedBoth.{ResolvedBoth}
-use Rattle.names.specs.declared.ResolvedBoth.the-variants.{Values, NoValues}
+use Rattle.names.specs.declared.Compared.{Compared}
+use Rattle.names.specs.declared.Compared.the-variants.{Part as ComparedPart, NoValues}
 use Rattle.names.specs.declared.Placed.{Placed}
 use Rattle.names.specs.declared.Placed.the-variants.{At, Unplaced}
 
@@ -94,23 +94,27 @@ abbrev pub resolvedAs : Resolved → Option (List ℕ)
 resolvedAs (ResolvedValue t n) = some (t ∷ n ∷ [])
 resolvedAs Unresolved = none
 
+-- the value that is noted from element i on
+abbrev pub writtenAt : List ℕ → ℕ → WrittenValue
+writtenAt notes i = writtenOf (getD notes i 0) (getD notes (i + 1) 0)
+
 -- the left and the right value of the part that is noted from element b on
 abbrev pub leftWritten : List ℕ → ℕ → WrittenValue
-leftWritten notes b = writtenOf (getD notes (b + 4) 0) (getD notes (b + 5) 0)
+leftWritten notes b = writtenAt notes (b + 4)
 
 abbrev pub rightWritten : List ℕ → ℕ → WrittenValue
-rightWritten notes b = writtenOf (getD notes (b + 6) 0) (getD notes (b + 7) 0)
+rightWritten notes b = writtenAt notes (b + 6)
 
--- the numbers of a part's two values, or one of them means nothing
-abbrev pub bothNumbers : Option Value → Option Value → Option (List ℕ)
-bothNumbers (some v) (some w) = some (valueNumbers v ++ valueNumbers w)
-bothNumbers (some v) none = none
-bothNumbers none w = none
+-- the numbers of a part with two values: its kind, comparison, table and end, and its values; or one of them means nothing
+abbrev pub comparedNumbers : ℕ → ℕ → ℕ → ℕ → Option Value → Option Value → Option (List ℕ)
+comparedNumbers kind op t e (some v) (some w) = some (kind ∷ op ∷ t ∷ e ∷ (valueNumbers v ++ valueNumbers w))
+comparedNumbers kind op t e (some v) none = none
+comparedNumbers kind op t e none w = none
 
--- what both came to
-abbrev pub bothAs : ResolvedBoth → Option (List ℕ)
-bothAs (Values lt ln rt rn) = some (lt ∷ ln ∷ rt ∷ rn ∷ [])
-bothAs NoValues = none
+-- what it came to
+abbrev pub comparedAs : Compared → Option (List ℕ)
+comparedAs (ComparedPart p) = some (partFields p)
+comparedAs NoValues = none
 
 -- ---- what notes keep of a condition
 

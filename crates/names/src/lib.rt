@@ -6,14 +6,14 @@ ghost use mathlib.Core.Path.{_≡_};
 ghost use mathlib.Core.List.{_++_};
 ghost use mathlib.Core.Option.{Option·map};
 ghost use Prim.Native.Nat.{_+_, _*_, _-_, _<_, _≤_};
-ghost use lib.ListN.{length, drop};
+ghost use lib.ListN.{length, drop, getD};
 ghost use Rattle.tables.specs.Values.{And, Or, Some};
 ghost use Rattle.tables.specs.Tables.{columnsOf};
 ghost use Rattle.cells.specs.Code.{fromExcess, Sized};
 ghost use Rattle.rule.specs.Names.{mostParts, existing, valueIn};
 ghost use Rattle.rule.specs.Parts.{joinKind, listKind, notKind, compareKind, nullKind, notNullKind, existsKind};
-ghost use Rattle.grammar.specs.Code.{writtenOf};
-ghost use Rattle.names.specs.Code.{partSize, partsSize, existingAs, scopeIn, binding, NearestAt, ScopeFits, valueNumbers, resolvedAs, bothNumbers, bothAs, leftWritten, rightWritten, partFields, plainPartNumbers, kindAt, Placeable, PlacedTo, Nameable, NamedTo};
+ghost use Rattle.grammar.specs.Code.{noteSize, writtenOf};
+ghost use Rattle.names.specs.Code.{partSize, partsSize, existingAs, scopeIn, binding, NearestAt, ScopeFits, valueNumbers, resolvedAs, writtenAt, leftWritten, rightWritten, comparedNumbers, comparedAs, partFields, plainPartNumbers, kindAt, Placeable, PlacedTo, Nameable, NamedTo};
 use cells::EXCESS;
 use cells::byte;
 use grammar::MOST_FROMS;
@@ -21,10 +21,8 @@ use grammar::MOST_PARTS;
 use grammar::NOTE_COMPARISON;
 use grammar::NOTE_FIELDS;
 use grammar::NOTE_LEFT_LETTER;
-use grammar::NOTE_LEFT_NUMBER;
 use grammar::NOTE_LETTER;
 use grammar::NOTE_RIGHT_LETTER;
-use grammar::NOTE_RIGHT_NUMBER;
 use grammar::NOTE_TABLE;
 use rule::AND_PART;
 use rule::COMPARISON_PART;
@@ -73,20 +71,15 @@ pub struct Fields {
     pub right_number: usize,
 }
 
-// What a value stands for.
+// What a value stands for: its tag and its number.
 pub enum Resolved {
-    Value { tag: usize, number: usize },
+    Value(usize, usize),
     Unresolved,
 }
 
-// What both values of a part stand for, or one of them means nothing.
-pub enum ResolvedBoth {
-    Values {
-        left_tag: usize,
-        left_number: usize,
-        right_tag: usize,
-        right_number: usize,
-    },
+// A part with two values, or one of them means nothing.
+pub enum Compared {
+    Part(Fields),
     NoValues,
 }
 
@@ -138,10 +131,7 @@ fn resolve(
     ensures { λ r. ⌜ resolvedAs r ≡ Option·map valueNumbers (valueIn (columnsOf (now (file .entry))) (scopeIn (now (scope .entry)) levels) (writtenOf letter number)) ⌝ }
 {
     if letter == 0 {
-        return Resolved::Value {
-            tag: CONSTANT,
-            number,
-        };
+        return Resolved::Value(CONSTANT, number);
     }
     let level = find_letter(scope, levels, letter);
     if level == levels {
@@ -152,56 +142,56 @@ fn resolve(
     if column == 0 {
         return Resolved::Unresolved;
     }
-    Resolved::Value {
-        tag: level,
-        number: column,
-    }
+    Resolved::Value(level, column)
 }
 
-// The left and the right value of the part that is noted from element b on; each sees so many levels of the scope.
-fn resolve_both(
+// What the value that is noted from element i on stands for; its number stands behind its letter.
+fn resolve_noted(
+    file: &[u8],
+    notes: &[usize],
+    i: usize,
+    scope: &[usize; SCOPE_NUMBERS],
+    levels: usize,
+) -> Resolved
+    requires { ⌜ Sized (now file) ⌝ ∗ ⌜ i + 2 ≤ length (now notes) ⌝ ∗ ⌜ ScopeFits (now file) (now scope) levels ⌝ }
+    ensures { λ r. ⌜ resolvedAs r ≡ Option·map valueNumbers (valueIn (columnsOf (now (file .entry))) (scopeIn (now (scope .entry)) levels) (writtenAt (now (notes .entry)) i)) ⌝ }
+{
+    resolve(file, scope, levels, notes[i], notes[i + 1])
+}
+
+// The part with two values that is noted from element b on, with this table and this end; each value sees so many levels of the scope.
+fn compared_part(
     file: &[u8],
     notes: &[usize],
     b: usize,
     scope: &[usize; SCOPE_NUMBERS],
     left_levels: usize,
     right_levels: usize,
-) -> ResolvedBoth
-    requires { ⌜ Sized (now file) ⌝ ∗ ⌜ b + 8 ≤ length (now notes) ⌝ ∗ ⌜ ScopeFits (now file) (now scope) «right_levels» ⌝ ∗ ⌜ «left_levels» ≤ «right_levels» ⌝ }
-    ensures { λ r. ⌜ bothAs r ≡ bothNumbers (valueIn (columnsOf (now (file .entry))) (scopeIn (now (scope .entry)) «left_levels») (leftWritten (now (notes .entry)) b)) (valueIn (columnsOf (now (file .entry))) (scopeIn (now (scope .entry)) «right_levels») (rightWritten (now (notes .entry)) b)) ⌝ }
+    table: usize,
+    e: usize,
+) -> Compared
+    requires { ⌜ Sized (now file) ⌝ ∗ ⌜ b + noteSize ≤ length (now notes) ⌝ ∗ ⌜ ScopeFits (now file) (now scope) «right_levels» ⌝ ∗ ⌜ «left_levels» ≤ «right_levels» ⌝ }
+    ensures { λ r. ⌜ comparedAs r ≡ comparedNumbers (getD (now (notes .entry)) b 0) (getD (now (notes .entry)) (b + 1) 0) table e (valueIn (columnsOf (now (file .entry))) (scopeIn (now (scope .entry)) «left_levels») (leftWritten (now (notes .entry)) b)) (valueIn (columnsOf (now (file .entry))) (scopeIn (now (scope .entry)) «right_levels») (rightWritten (now (notes .entry)) b)) ⌝ }
 {
-    let Resolved::Value {
-        tag: left_tag,
-        number: left_number,
-    } = resolve(
-        file,
-        scope,
-        left_levels,
-        notes[b + NOTE_LEFT_LETTER],
-        notes[b + NOTE_LEFT_NUMBER],
-    )
-    else {
-        return ResolvedBoth::NoValues;
+    let left = resolve_noted(file, notes, b + NOTE_LEFT_LETTER, scope, left_levels);
+    let Resolved::Value(left_tag, left_number) = left else {
+        return Compared::NoValues;
     };
-    let Resolved::Value {
-        tag: right_tag,
-        number: right_number,
-    } = resolve(
-        file,
-        scope,
-        right_levels,
-        notes[b + NOTE_RIGHT_LETTER],
-        notes[b + NOTE_RIGHT_NUMBER],
-    )
-    else {
-        return ResolvedBoth::NoValues;
+    let right = resolve_noted(file, notes, b + NOTE_RIGHT_LETTER, scope, right_levels);
+    let Resolved::Value(right_tag, right_number) = right else {
+        return Compared::NoValues;
     };
-    ResolvedBoth::Values {
+    let part = Fields {
+        kind: notes[b],
+        comparison: notes[b + NOTE_COMPARISON],
+        table,
+        end: e,
         left_tag,
         left_number,
         right_tag,
         right_number,
-    }
+    };
+    Compared::Part(part)
 }
 
 // The scope with one letter more, which ranges over this table.
@@ -341,24 +331,8 @@ fn place_comparison(
     ensures size { λ _. ⌜ length (now (parts .exit)) ≡ partsSize ⌝ }
 {
     let b = NOTE_FIELDS * (h - 1);
-    let ResolvedBoth::Values {
-        left_tag,
-        left_number,
-        right_tag,
-        right_number,
-    } = resolve_both(file, notes, b, scope, levels, levels)
-    else {
+    let Compared::Part(part) = compared_part(file, notes, b, scope, levels, levels, 0, e) else {
         return Placed::Unplaced;
-    };
-    let part = Fields {
-        kind: COMPARISON_PART,
-        comparison: notes[b + NOTE_COMPARISON],
-        table: 0,
-        end: e,
-        left_tag,
-        left_number,
-        right_tag,
-        right_number,
     };
     put_part(parts, e - 1, part);
     Placed::At(e - 1)
@@ -379,17 +353,8 @@ fn place_null(
     ensures size { λ _. ⌜ length (now (parts .exit)) ≡ partsSize ⌝ }
 {
     let b = NOTE_FIELDS * (h - 1);
-    let Resolved::Value {
-        tag: left_tag,
-        number: left_number,
-    } = resolve(
-        file,
-        scope,
-        levels,
-        notes[b + NOTE_LEFT_LETTER],
-        notes[b + NOTE_LEFT_NUMBER],
-    )
-    else {
+    let left = resolve_noted(file, notes, b + NOTE_LEFT_LETTER, scope, levels);
+    let Resolved::Value(left_tag, left_number) = left else {
         return Placed::Unplaced;
     };
     let part = Fields {
@@ -466,27 +431,12 @@ fn place_list(
     let inside = bind(scope, levels, notes[b + NOTE_LETTER], table);
     let deeper = levels + 1;
     // The value left of the list does not see the letter that is bound here.
-    let ResolvedBoth::Values {
-        left_tag,
-        left_number,
-        right_tag,
-        right_number,
-    } = resolve_both(file, notes, b, &inside, levels, deeper)
+    let Compared::Part(part) = compared_part(file, notes, b, &inside, levels, deeper, table, e)
     else {
         return Placed::Unplaced;
     };
     let Placed::At(inner) = place(file, notes, h - 1, parts, e, &inside, deeper) else {
         return Placed::Unplaced;
-    };
-    let part = Fields {
-        kind: notes[b],
-        comparison: notes[b + NOTE_COMPARISON],
-        table,
-        end: e,
-        left_tag,
-        left_number,
-        right_tag,
-        right_number,
     };
     put_part(parts, inner - 1, part);
     Placed::At(inner - 1)

@@ -23,12 +23,12 @@ use Rattle.names.proofs.place_pair.Kinds as place-pair-kinds
 use Rattle.names.proofs.+place+place_exists+place_list+place_not+place_pair.Lts-place_pair as place-pair-lts
 use Rattle.cells.proofs.byte.Reads as byte-reads
 use Rattle.names.proofs.bind.Reads as bind-reads
+use Rattle.names.proofs.compared_part.Reads as compared-part-reads
 use Rattle.names.proofs.find_numbered.Reads as find-numbered-reads
 use Rattle.names.proofs.place_comparison.Reads as place-comparison-reads
 use Rattle.names.proofs.place_null.Reads as place-null-reads
 use Rattle.names.proofs.plain_part.Reads as plain-part-reads
 use Rattle.names.proofs.put_part.Reads as put-part-reads
-use Rattle.names.proofs.resolve_both.Reads as resolve-both-reads
 use Rattle.names.proofs.+place+place_exists+place_list+place_not+place_pair.{statement}
 use Rattle.names.proofs.+place+place_exists+place_list+place_not+place_pair.Tie.{close}
 
@@ -753,8 +753,8 @@ place-list-sub-b : (t : ℕ) → place-list-lts.Need-sub-b (
   find-numbered-reads.Learnt,
   bind-reads.Asked,
   bind-reads.Learnt,
-  resolve-both-reads.Asked,
-  resolve-both-reads.Learnt,
+  compared-part-reads.Asked,
+  compared-part-reads.Learnt,
   place-below t,
   place.Post,
   put-part-reads.Asked,
@@ -771,8 +771,8 @@ place-list-mul-b : (t : ℕ) → place-list-lts.Need-mul-b (
   find-numbered-reads.Learnt,
   bind-reads.Asked,
   bind-reads.Learnt,
-  resolve-both-reads.Asked,
-  resolve-both-reads.Learnt,
+  compared-part-reads.Asked,
+  compared-part-reads.Learnt,
   place-below t,
   place.Post,
   put-part-reads.Asked,
@@ -787,8 +787,8 @@ place-list-add-find-numbered : (t : ℕ) → place-list-lts.Need-add-find-number
   find-numbered-reads.Learnt,
   bind-reads.Asked,
   bind-reads.Learnt,
-  resolve-both-reads.Asked,
-  resolve-both-reads.Learnt,
+  compared-part-reads.Asked,
+  compared-part-reads.Learnt,
   place-below t,
   place.Post,
   put-part-reads.Asked,
@@ -803,8 +803,8 @@ place-list-mul-find-numbered : (t : ℕ) → place-list-lts.Need-mul-find-number
   find-numbered-reads.Learnt,
   bind-reads.Asked,
   bind-reads.Learnt,
-  resolve-both-reads.Asked,
-  resolve-both-reads.Learnt,
+  compared-part-reads.Asked,
+  compared-part-reads.Learnt,
   place-below t,
   place.Post,
   put-part-reads.Asked,
@@ -820,8 +820,8 @@ place-list-shared-slice-read-find-numbered :
       find-numbered-reads.Learnt,
       bind-reads.Asked,
       bind-reads.Learnt,
-      resolve-both-reads.Asked,
-      resolve-both-reads.Learnt,
+      compared-part-reads.Asked,
+      compared-part-reads.Learnt,
       place-below t,
       place.Post,
       put-part-reads.Asked,
@@ -836,8 +836,8 @@ place-list-byte-requires : (t : ℕ) → place-list-lts.Need-byte-requires (
   find-numbered-reads.Learnt,
   bind-reads.Asked,
   bind-reads.Learnt,
-  resolve-both-reads.Asked,
-  resolve-both-reads.Learnt,
+  compared-part-reads.Asked,
+  compared-part-reads.Learnt,
   place-below t,
   place.Post,
   put-part-reads.Asked,
@@ -854,8 +854,8 @@ place-list-find-numbered-requires : (t : ℕ) → place-list-lts.Need-find-numbe
   find-numbered-reads.Learnt,
   bind-reads.Asked,
   bind-reads.Learnt,
-  resolve-both-reads.Asked,
-  resolve-both-reads.Learnt,
+  compared-part-reads.Asked,
+  compared-part-reads.Learnt,
   place-below t,
   place.Post,
   put-part-reads.Asked,
@@ -872,8 +872,8 @@ place-list-returns : (t : ℕ) → place-list-lts.Need-returns (
   find-numbered-reads.Learnt,
   bind-reads.Asked,
   bind-reads.Learnt,
-  resolve-both-reads.Asked,
-  resolve-both-reads.Learnt,
+  compared-part-reads.Asked,
+  compared-part-reads.Learnt,
   place-below t,
   place.Post,
   put-part-reads.Asked,
@@ -893,8 +893,8 @@ place-list-add-bind : (t : ℕ) → place-list-lts.Need-add-bind (
   find-numbered-reads.Learnt,
   bind-reads.Asked,
   bind-reads.Learnt,
-  resolve-both-reads.Asked,
-  resolve-both-reads.Learnt,
+  compared-part-reads.Asked,
+  compared-part-reads.Learnt,
   place-below t,
   place.Post,
   put-part-reads.Asked,
@@ -909,8 +909,8 @@ place-list-mul-bind : (t : ℕ) → place-list-lts.Need-mul-bind (
   find-numbered-reads.Learnt,
   bind-reads.Asked,
   bind-reads.Learnt,
-  resolve-both-reads.Asked,
-  resolve-both-reads.Learnt,
+  compared-part-reads.Asked,
+  compared-part-reads.Learnt,
   place-below t,
   place.Post,
   put-part-reads.Asked,
@@ -925,8 +925,8 @@ place-list-shared-slice-read-bind : (t : ℕ) → place-list-lts.Need-shared-sli
   find-numbered-reads.Learnt,
   bind-reads.Asked,
   bind-reads.Learnt,
-  resolve-both-reads.Asked,
-  resolve-both-reads.Learnt,
+  compared-part-reads.Asked,
+  compared-part-reads.Learnt,
   place-below t,
   place.Post,
   put-part-reads.Asked,
@@ -941,8 +941,8 @@ place-list-bind-requires : (t : ℕ) → place-list-lts.Need-bind-requires (
   find-numbered-reads.Learnt,
   bind-reads.Asked,
   bind-reads.Learnt,
-  resolve-both-reads.Asked,
-  resolve-both-reads.Learnt,
+  compared-part-reads.Asked,
+  compared-part-reads.Learnt,
   place-below t,
   place.Post,
   put-part-reads.Asked,
@@ -959,8 +959,8 @@ place-list-add-deeper : (t : ℕ) → place-list-lts.Need-add-deeper (
   find-numbered-reads.Learnt,
   bind-reads.Asked,
   bind-reads.Learnt,
-  resolve-both-reads.Asked,
-  resolve-both-reads.Learnt,
+  compared-part-reads.Asked,
+  compared-part-reads.Learnt,
   place-below t,
   place.Post,
   put-part-reads.Asked,
@@ -968,21 +968,21 @@ place-list-add-deeper : (t : ℕ) → place-list-lts.Need-add-deeper (
 ) (place-list-at t) place-list.Post
 place-list-add-deeper t c = search needs
 
-place-list-resolve-both-requires : (t : ℕ) → place-list-lts.Need-resolve-both-requires (
+place-list-compared-part-requires : (t : ℕ) → place-list-lts.Need-compared-part-requires (
   byte-reads.Asked,
   byte-reads.Learnt,
   find-numbered-reads.Asked,
   find-numbered-reads.Learnt,
   bind-reads.Asked,
   bind-reads.Learnt,
-  resolve-both-reads.Asked,
-  resolve-both-reads.Learnt,
+  compared-part-reads.Asked,
+  compared-part-reads.Learnt,
   place-below t,
   place.Post,
   put-part-reads.Asked,
   put-part-reads.Learnt,
 ) (place-list-at t) place-list.Post
-place-list-resolve-both-requires t c κs =
+place-list-compared-part-requires t c κs =
     let o = c .before .before .before .before .before .before .before .before .before in
     let the-byte = c .before .before .before .before .before .byte in
     let the-find-numbered = c .before .before .before .before .find-numbered in
@@ -990,21 +990,21 @@ place-list-resolve-both-requires t c κs =
     let the-bind = c .before .bind in
     (o .pre .1 .0 .sized, (note-room (o .pre .1 .0), (list-fits (o .pre .1 .0) (o .pre .1 .1) (the-byte .result) (the-byte .ensures .0) (the-find-numbered .result) (the-find-numbered .ensures .0) (the-if1 .left) (the-find-numbered .ensures .1) (the-bind .result) (the-bind .ensures) _ (omega arith), omega arith)))
 
-place-list-enum-known-left-tag : (t : ℕ) → place-list-lts.Need-enum-known-left-tag (
+place-list-enum-known-part : (t : ℕ) → place-list-lts.Need-enum-known-part (
   byte-reads.Asked,
   byte-reads.Learnt,
   find-numbered-reads.Asked,
   find-numbered-reads.Learnt,
   bind-reads.Asked,
   bind-reads.Learnt,
-  resolve-both-reads.Asked,
-  resolve-both-reads.Learnt,
+  compared-part-reads.Asked,
+  compared-part-reads.Learnt,
   place-below t,
   place.Post,
   put-part-reads.Asked,
   put-part-reads.Learnt,
 ) (place-list-at t) place-list.Post
-place-list-enum-known-left-tag t c = search needs
+place-list-enum-known-part t c = search needs
 
 place-list-enum-told : (t : ℕ) → place-list-lts.Need-enum-told (
   byte-reads.Asked,
@@ -1013,8 +1013,8 @@ place-list-enum-told : (t : ℕ) → place-list-lts.Need-enum-told (
   find-numbered-reads.Learnt,
   bind-reads.Asked,
   bind-reads.Learnt,
-  resolve-both-reads.Asked,
-  resolve-both-reads.Learnt,
+  compared-part-reads.Asked,
+  compared-part-reads.Learnt,
   place-below t,
   place.Post,
   put-part-reads.Asked,
@@ -1029,8 +1029,8 @@ place-list-returns-2 : (t : ℕ) → place-list-lts.Need-returns-2 (
   find-numbered-reads.Learnt,
   bind-reads.Asked,
   bind-reads.Learnt,
-  resolve-both-reads.Asked,
-  resolve-both-reads.Learnt,
+  compared-part-reads.Asked,
+  compared-part-reads.Learnt,
   place-below t,
   place.Post,
   put-part-reads.Asked,
@@ -1042,9 +1042,9 @@ place-list-returns-2 t c =
     let the-find-numbered = c .before .before .before .before .before .before .before .find-numbered in
     let the-if1 = c .before .before .before .before .before .before .if1 in
     let the-bind = c .before .before .before .before .bind in
-    let the-resolve-both = c .before .before .resolve-both in
+    let the-compared-part = c .before .before .compared-part in
     let the-enum-told = c .enum-told in
-    ((λ q. list-values-missing q (o .pre .1 .1) (the-byte .result) (the-byte .ensures .0) (the-find-numbered .result) (the-find-numbered .ensures .0) (the-if1 .left) (the-find-numbered .ensures .1) (the-bind .result) (the-bind .ensures) (the-resolve-both .result) (the-resolve-both .ensures) (the-enum-told .given .1)), o .pre .1 .0 .parts-size)
+    ((λ q. list-values-missing q (o .pre .1 .1) (the-byte .result) (the-byte .ensures .0) (the-find-numbered .result) (the-find-numbered .ensures .0) (the-if1 .left) (the-find-numbered .ensures .1) (the-bind .result) (the-bind .ensures) (the-compared-part .result) (the-compared-part .ensures) (the-enum-told .given .1)), o .pre .1 .0 .parts-size)
 
 place-list-sub-place : (t : ℕ) → place-list-lts.Need-sub-place (
   byte-reads.Asked,
@@ -1053,8 +1053,8 @@ place-list-sub-place : (t : ℕ) → place-list-lts.Need-sub-place (
   find-numbered-reads.Learnt,
   bind-reads.Asked,
   bind-reads.Learnt,
-  resolve-both-reads.Asked,
-  resolve-both-reads.Learnt,
+  compared-part-reads.Asked,
+  compared-part-reads.Learnt,
   place-below t,
   place.Post,
   put-part-reads.Asked,
@@ -1071,8 +1071,8 @@ place-list-place-requires : (t : ℕ) → place-list-lts.Need-place-requires (
   find-numbered-reads.Learnt,
   bind-reads.Asked,
   bind-reads.Learnt,
-  resolve-both-reads.Asked,
-  resolve-both-reads.Learnt,
+  compared-part-reads.Asked,
+  compared-part-reads.Learnt,
   place-below t,
   place.Post,
   put-part-reads.Asked,
@@ -1095,8 +1095,8 @@ place-list-enum-known-inner : (t : ℕ) → place-list-lts.Need-enum-known-inner
   find-numbered-reads.Learnt,
   bind-reads.Asked,
   bind-reads.Learnt,
-  resolve-both-reads.Asked,
-  resolve-both-reads.Learnt,
+  compared-part-reads.Asked,
+  compared-part-reads.Learnt,
   place-below t,
   place.Post,
   put-part-reads.Asked,
@@ -1111,8 +1111,8 @@ place-list-enum-told-2 : (t : ℕ) → place-list-lts.Need-enum-told-2 (
   find-numbered-reads.Learnt,
   bind-reads.Asked,
   bind-reads.Learnt,
-  resolve-both-reads.Asked,
-  resolve-both-reads.Learnt,
+  compared-part-reads.Asked,
+  compared-part-reads.Learnt,
   place-below t,
   place.Post,
   put-part-reads.Asked,
@@ -1127,8 +1127,8 @@ place-list-returns-3 : (t : ℕ) → place-list-lts.Need-returns-3 (
   find-numbered-reads.Learnt,
   bind-reads.Asked,
   bind-reads.Learnt,
-  resolve-both-reads.Asked,
-  resolve-both-reads.Learnt,
+  compared-part-reads.Asked,
+  compared-part-reads.Learnt,
   place-below t,
   place.Post,
   put-part-reads.Asked,
@@ -1140,111 +1140,11 @@ place-list-returns-3 t c =
     let the-find-numbered = c .before .before .before .before .before .before .before .before .before .before .before .before .before .find-numbered in
     let the-if1 = c .before .before .before .before .before .before .before .before .before .before .before .before .if1 in
     let the-bind = c .before .before .before .before .before .before .before .before .before .before .bind in
-    let the-resolve-both = c .before .before .before .before .before .before .before .before .resolve-both in
-    let the-left-tag = c .before .before .before .before .before .before .left-tag in
+    let the-compared-part = c .before .before .before .before .before .before .before .before .compared-part in
+    let the-part = c .before .before .before .before .before .before .part in
     let the-place = c .before .before .place in
     let the-enum-told2 = c .enum-told2 in
-    ((λ q. list-missing q (o .pre .1 .1) (the-byte .result) (the-byte .ensures .0) (the-find-numbered .result) (the-find-numbered .ensures .0) (the-if1 .left) (the-find-numbered .ensures .1) (the-bind .result) (the-bind .ensures) (the-resolve-both .result) (the-resolve-both .ensures) _ _ _ _ (the-left-tag .given .1) (the-place .last .1 .1 .1 .0) (the-place .result) (the-place .ensures .0 (list-run q (o .pre .1 .1) (the-byte .result) (the-byte .ensures .0) (the-find-numbered .result) (the-find-numbered .ensures .0) (the-if1 .left) (the-find-numbered .ensures .1) (the-bind .result) (the-bind .ensures))) (the-enum-told2 .given .1)), the-place .ensures .1)
-
-place-list-mul-t22 : (t : ℕ) → place-list-lts.Need-mul-t22 (
-  byte-reads.Asked,
-  byte-reads.Learnt,
-  find-numbered-reads.Asked,
-  find-numbered-reads.Learnt,
-  bind-reads.Asked,
-  bind-reads.Learnt,
-  resolve-both-reads.Asked,
-  resolve-both-reads.Learnt,
-  place-below t,
-  place.Post,
-  put-part-reads.Asked,
-  put-part-reads.Learnt,
-) (place-list-at t) place-list.Post
-place-list-mul-t22 t c =
-    let o = c .before .before .before .before .before .before .before .before .before .before .before .before .before .before .before .before .before .before .before in
-    let z = has-notes (o .pre .1 .0) in
-    let s = o .pre .1 .0 .notes-room in
-    omega arith
-
-place-list-shared-slice-read-t21 : (t : ℕ) → place-list-lts.Need-shared-slice-read-t21 (
-  byte-reads.Asked,
-  byte-reads.Learnt,
-  find-numbered-reads.Asked,
-  find-numbered-reads.Learnt,
-  bind-reads.Asked,
-  bind-reads.Learnt,
-  resolve-both-reads.Asked,
-  resolve-both-reads.Learnt,
-  place-below t,
-  place.Post,
-  put-part-reads.Asked,
-  put-part-reads.Learnt,
-) (place-list-at t) place-list.Post
-place-list-shared-slice-read-t21 t c =
-    let o = c .before .before .before .before .before .before .before .before .before .before .before .before .before .before .before .before .before .before .before .before in
-    let z = has-notes (o .pre .1 .0) in
-    let s = o .pre .1 .0 .notes-room in
-    omega arith
-
-place-list-add-t19 : (t : ℕ) → place-list-lts.Need-add-t19 (
-  byte-reads.Asked,
-  byte-reads.Learnt,
-  find-numbered-reads.Asked,
-  find-numbered-reads.Learnt,
-  bind-reads.Asked,
-  bind-reads.Learnt,
-  resolve-both-reads.Asked,
-  resolve-both-reads.Learnt,
-  place-below t,
-  place.Post,
-  put-part-reads.Asked,
-  put-part-reads.Learnt,
-) (place-list-at t) place-list.Post
-place-list-add-t19 t c =
-    let o = c .before .before .before .before .before .before .before .before .before .before .before .before .before .before .before .before .before .before .before .before in
-    let z = has-notes (o .pre .1 .0) in
-    let s = o .pre .1 .0 .notes-room in
-    omega arith
-
-place-list-mul-t18 : (t : ℕ) → place-list-lts.Need-mul-t18 (
-  byte-reads.Asked,
-  byte-reads.Learnt,
-  find-numbered-reads.Asked,
-  find-numbered-reads.Learnt,
-  bind-reads.Asked,
-  bind-reads.Learnt,
-  resolve-both-reads.Asked,
-  resolve-both-reads.Learnt,
-  place-below t,
-  place.Post,
-  put-part-reads.Asked,
-  put-part-reads.Learnt,
-) (place-list-at t) place-list.Post
-place-list-mul-t18 t c =
-    let o = c .before .before .before .before .before .before .before .before .before .before .before .before .before .before .before .before .before .before .before .before in
-    let z = has-notes (o .pre .1 .0) in
-    let s = o .pre .1 .0 .notes-room in
-    omega arith
-
-place-list-shared-slice-read-t33 : (t : ℕ) → place-list-lts.Need-shared-slice-read-t33 (
-  byte-reads.Asked,
-  byte-reads.Learnt,
-  find-numbered-reads.Asked,
-  find-numbered-reads.Learnt,
-  bind-reads.Asked,
-  bind-reads.Learnt,
-  resolve-both-reads.Asked,
-  resolve-both-reads.Learnt,
-  place-below t,
-  place.Post,
-  put-part-reads.Asked,
-  put-part-reads.Learnt,
-) (place-list-at t) place-list.Post
-place-list-shared-slice-read-t33 t c =
-    let o = c .before .before .before .before .before .before .before .before .before .before .before .before .before .before .before .before .before .before .before .before .before in
-    let z = has-notes (o .pre .1 .0) in
-    let s = o .pre .1 .0 .notes-room in
-    omega arith
+    ((λ q. list-missing q (o .pre .1 .1) (the-byte .result) (the-byte .ensures .0) (the-find-numbered .result) (the-find-numbered .ensures .0) (the-if1 .left) (the-find-numbered .ensures .1) (the-bind .result) (the-bind .ensures) (the-compared-part .result) (the-compared-part .ensures) _ (the-part .given .1) (the-place .last .1 .1 .1 .0) (the-place .result) (the-place .ensures .0 (list-run q (o .pre .1 .1) (the-byte .result) (the-byte .ensures .0) (the-find-numbered .result) (the-find-numbered .ensures .0) (the-if1 .left) (the-find-numbered .ensures .1) (the-bind .result) (the-bind .ensures))) (the-enum-told2 .given .1)), the-place .ensures .1)
 
 place-list-sub-put-part : (t : ℕ) → place-list-lts.Need-sub-put-part (
   byte-reads.Asked,
@@ -1253,24 +1153,24 @@ place-list-sub-put-part : (t : ℕ) → place-list-lts.Need-sub-put-part (
   find-numbered-reads.Learnt,
   bind-reads.Asked,
   bind-reads.Learnt,
-  resolve-both-reads.Asked,
-  resolve-both-reads.Learnt,
+  compared-part-reads.Asked,
+  compared-part-reads.Learnt,
   place-below t,
   place.Post,
   put-part-reads.Asked,
   put-part-reads.Learnt,
 ) (place-list-at t) place-list.Post
 place-list-sub-put-part t c =
-    let o = c .before .before .before .before .before .before .before .before .before .before .before .before .before .before .before .before .before .before .before .before .before .before in
-    let the-byte = c .before .before .before .before .before .before .before .before .before .before .before .before .before .before .before .before .before .before .byte in
-    let the-find-numbered = c .before .before .before .before .before .before .before .before .before .before .before .before .before .before .before .before .before .find-numbered in
-    let the-if1 = c .before .before .before .before .before .before .before .before .before .before .before .before .before .before .before .before .if1 in
-    let the-bind = c .before .before .before .before .before .before .before .before .before .before .before .before .before .before .bind in
-    let the-resolve-both = c .before .before .before .before .before .before .before .before .before .before .before .before .resolve-both in
-    let the-left-tag = c .before .before .before .before .before .before .before .before .before .before .left-tag in
-    let the-place = c .before .before .before .before .before .before .place in
-    let the-inner = c .before .before .before .before .inner in
-    list-room (o .pre .1 .0) (o .pre .1 .1) (the-byte .result) (the-byte .ensures .0) (the-find-numbered .result) (the-find-numbered .ensures .0) (the-if1 .left) (the-find-numbered .ensures .1) (the-bind .result) (the-bind .ensures) (the-resolve-both .result) (the-resolve-both .ensures) _ _ _ _ (the-left-tag .given .1) (the-place .last .1 .1 .1 .0) (the-place .result) (the-place .ensures .0 (list-run (o .pre .1 .0) (o .pre .1 .1) (the-byte .result) (the-byte .ensures .0) (the-find-numbered .result) (the-find-numbered .ensures .0) (the-if1 .left) (the-find-numbered .ensures .1) (the-bind .result) (the-bind .ensures))) _ (the-inner .given .1) .0
+    let o = c .before .before .before .before .before .before .before .before .before .before .before .before .before .before .before .before .before .before .before .before in
+    let the-byte = c .before .before .before .before .before .before .before .before .before .before .before .before .before .before .before .before .byte in
+    let the-find-numbered = c .before .before .before .before .before .before .before .before .before .before .before .before .before .before .before .find-numbered in
+    let the-if1 = c .before .before .before .before .before .before .before .before .before .before .before .before .before .before .if1 in
+    let the-bind = c .before .before .before .before .before .before .before .before .before .before .before .before .bind in
+    let the-compared-part = c .before .before .before .before .before .before .before .before .before .before .compared-part in
+    let the-part = c .before .before .before .before .before .before .before .before .part in
+    let the-place = c .before .before .before .before .place in
+    let the-inner = c .before .before .inner in
+    list-room (o .pre .1 .0) (o .pre .1 .1) (the-byte .result) (the-byte .ensures .0) (the-find-numbered .result) (the-find-numbered .ensures .0) (the-if1 .left) (the-find-numbered .ensures .1) (the-bind .result) (the-bind .ensures) (the-compared-part .result) (the-compared-part .ensures) _ (the-part .given .1) (the-place .last .1 .1 .1 .0) (the-place .result) (the-place .ensures .0 (list-run (o .pre .1 .0) (o .pre .1 .1) (the-byte .result) (the-byte .ensures .0) (the-find-numbered .result) (the-find-numbered .ensures .0) (the-if1 .left) (the-find-numbered .ensures .1) (the-bind .result) (the-bind .ensures))) _ (the-inner .given .1) .0
 
 place-list-put-part-requires : (t : ℕ) → place-list-lts.Need-put-part-requires (
   byte-reads.Asked,
@@ -1279,51 +1179,51 @@ place-list-put-part-requires : (t : ℕ) → place-list-lts.Need-put-part-requir
   find-numbered-reads.Learnt,
   bind-reads.Asked,
   bind-reads.Learnt,
-  resolve-both-reads.Asked,
-  resolve-both-reads.Learnt,
+  compared-part-reads.Asked,
+  compared-part-reads.Learnt,
   place-below t,
   place.Post,
   put-part-reads.Asked,
   put-part-reads.Learnt,
 ) (place-list-at t) place-list.Post
 place-list-put-part-requires t c κs =
-    let o = c .before .before .before .before .before .before .before .before .before .before .before .before .before .before .before .before .before .before .before .before .before .before in
-    let the-byte = c .before .before .before .before .before .before .before .before .before .before .before .before .before .before .before .before .before .before .byte in
-    let the-find-numbered = c .before .before .before .before .before .before .before .before .before .before .before .before .before .before .before .before .before .find-numbered in
-    let the-if1 = c .before .before .before .before .before .before .before .before .before .before .before .before .before .before .before .before .if1 in
-    let the-bind = c .before .before .before .before .before .before .before .before .before .before .before .before .before .before .bind in
-    let the-resolve-both = c .before .before .before .before .before .before .before .before .before .before .before .before .resolve-both in
-    let the-left-tag = c .before .before .before .before .before .before .before .before .before .before .left-tag in
-    let the-place = c .before .before .before .before .before .before .place in
-    let the-inner = c .before .before .before .before .inner in
-    let z = list-room (o .pre .1 .0) (o .pre .1 .1) (the-byte .result) (the-byte .ensures .0) (the-find-numbered .result) (the-find-numbered .ensures .0) (the-if1 .left) (the-find-numbered .ensures .1) (the-bind .result) (the-bind .ensures) (the-resolve-both .result) (the-resolve-both .ensures) _ _ _ _ (the-left-tag .given .1) (the-place .last .1 .1 .1 .0) (the-place .result) (the-place .ensures .0 (list-run (o .pre .1 .0) (o .pre .1 .1) (the-byte .result) (the-byte .ensures .0) (the-find-numbered .result) (the-find-numbered .ensures .0) (the-if1 .left) (the-find-numbered .ensures .1) (the-bind .result) (the-bind .ensures))) _ (the-inner .given .1) in
+    let o = c .before .before .before .before .before .before .before .before .before .before .before .before .before .before .before .before .before .before .before .before in
+    let the-byte = c .before .before .before .before .before .before .before .before .before .before .before .before .before .before .before .before .byte in
+    let the-find-numbered = c .before .before .before .before .before .before .before .before .before .before .before .before .before .before .before .find-numbered in
+    let the-if1 = c .before .before .before .before .before .before .before .before .before .before .before .before .before .before .if1 in
+    let the-bind = c .before .before .before .before .before .before .before .before .before .before .before .before .bind in
+    let the-compared-part = c .before .before .before .before .before .before .before .before .before .before .compared-part in
+    let the-part = c .before .before .before .before .before .before .before .before .part in
+    let the-place = c .before .before .before .before .place in
+    let the-inner = c .before .before .inner in
+    let z = list-room (o .pre .1 .0) (o .pre .1 .1) (the-byte .result) (the-byte .ensures .0) (the-find-numbered .result) (the-find-numbered .ensures .0) (the-if1 .left) (the-find-numbered .ensures .1) (the-bind .result) (the-bind .ensures) (the-compared-part .result) (the-compared-part .ensures) _ (the-part .given .1) (the-place .last .1 .1 .1 .0) (the-place .result) (the-place .ensures .0 (list-run (o .pre .1 .0) (o .pre .1 .1) (the-byte .result) (the-byte .ensures .0) (the-find-numbered .result) (the-find-numbered .ensures .0) (the-if1 .left) (the-find-numbered .ensures .1) (the-bind .result) (the-bind .ensures))) _ (the-inner .given .1) in
     (the-place .ensures .1, omega arith)
 
-place-list-sub-t33 : (t : ℕ) → place-list-lts.Need-sub-t33 (
+place-list-sub-t17 : (t : ℕ) → place-list-lts.Need-sub-t17 (
   byte-reads.Asked,
   byte-reads.Learnt,
   find-numbered-reads.Asked,
   find-numbered-reads.Learnt,
   bind-reads.Asked,
   bind-reads.Learnt,
-  resolve-both-reads.Asked,
-  resolve-both-reads.Learnt,
+  compared-part-reads.Asked,
+  compared-part-reads.Learnt,
   place-below t,
   place.Post,
   put-part-reads.Asked,
   put-part-reads.Learnt,
 ) (place-list-at t) place-list.Post
-place-list-sub-t33 t c =
-    let o = c .before .before .before .before .before .before .before .before .before .before .before .before .before .before .before .before .before .before .before .before .before .before .before in
-    let the-byte = c .before .before .before .before .before .before .before .before .before .before .before .before .before .before .before .before .before .before .before .byte in
-    let the-find-numbered = c .before .before .before .before .before .before .before .before .before .before .before .before .before .before .before .before .before .before .find-numbered in
-    let the-if1 = c .before .before .before .before .before .before .before .before .before .before .before .before .before .before .before .before .before .if1 in
-    let the-bind = c .before .before .before .before .before .before .before .before .before .before .before .before .before .before .before .bind in
-    let the-resolve-both = c .before .before .before .before .before .before .before .before .before .before .before .before .before .resolve-both in
-    let the-left-tag = c .before .before .before .before .before .before .before .before .before .before .before .left-tag in
-    let the-place = c .before .before .before .before .before .before .before .place in
-    let the-inner = c .before .before .before .before .before .inner in
-    list-room (o .pre .1 .0) (o .pre .1 .1) (the-byte .result) (the-byte .ensures .0) (the-find-numbered .result) (the-find-numbered .ensures .0) (the-if1 .left) (the-find-numbered .ensures .1) (the-bind .result) (the-bind .ensures) (the-resolve-both .result) (the-resolve-both .ensures) _ _ _ _ (the-left-tag .given .1) (the-place .last .1 .1 .1 .0) (the-place .result) (the-place .ensures .0 (list-run (o .pre .1 .0) (o .pre .1 .1) (the-byte .result) (the-byte .ensures .0) (the-find-numbered .result) (the-find-numbered .ensures .0) (the-if1 .left) (the-find-numbered .ensures .1) (the-bind .result) (the-bind .ensures))) _ (the-inner .given .1) .0
+place-list-sub-t17 t c =
+    let o = c .before .before .before .before .before .before .before .before .before .before .before .before .before .before .before .before .before .before .before .before .before in
+    let the-byte = c .before .before .before .before .before .before .before .before .before .before .before .before .before .before .before .before .before .byte in
+    let the-find-numbered = c .before .before .before .before .before .before .before .before .before .before .before .before .before .before .before .before .find-numbered in
+    let the-if1 = c .before .before .before .before .before .before .before .before .before .before .before .before .before .before .before .if1 in
+    let the-bind = c .before .before .before .before .before .before .before .before .before .before .before .before .before .bind in
+    let the-compared-part = c .before .before .before .before .before .before .before .before .before .before .before .compared-part in
+    let the-part = c .before .before .before .before .before .before .before .before .before .part in
+    let the-place = c .before .before .before .before .before .place in
+    let the-inner = c .before .before .before .inner in
+    list-room (o .pre .1 .0) (o .pre .1 .1) (the-byte .result) (the-byte .ensures .0) (the-find-numbered .result) (the-find-numbered .ensures .0) (the-if1 .left) (the-find-numbered .ensures .1) (the-bind .result) (the-bind .ensures) (the-compared-part .result) (the-compared-part .ensures) _ (the-part .given .1) (the-place .last .1 .1 .1 .0) (the-place .result) (the-place .ensures .0 (list-run (o .pre .1 .0) (o .pre .1 .1) (the-byte .result) (the-byte .ensures .0) (the-find-numbered .result) (the-find-numbered .ensures .0) (the-if1 .left) (the-find-numbered .ensures .1) (the-bind .result) (the-bind .ensures))) _ (the-inner .given .1) .0
 
 place-list-returns-4 : (t : ℕ) → place-list-lts.Need-returns-4 (
   byte-reads.Asked,
@@ -1332,25 +1232,25 @@ place-list-returns-4 : (t : ℕ) → place-list-lts.Need-returns-4 (
   find-numbered-reads.Learnt,
   bind-reads.Asked,
   bind-reads.Learnt,
-  resolve-both-reads.Asked,
-  resolve-both-reads.Learnt,
+  compared-part-reads.Asked,
+  compared-part-reads.Learnt,
   place-below t,
   place.Post,
   put-part-reads.Asked,
   put-part-reads.Learnt,
 ) (place-list-at t) place-list.Post
 place-list-returns-4 t c =
-    let o = c .before .before .before .before .before .before .before .before .before .before .before .before .before .before .before .before .before .before .before .before .before .before .before in
-    let the-byte = c .before .before .before .before .before .before .before .before .before .before .before .before .before .before .before .before .before .before .before .byte in
-    let the-find-numbered = c .before .before .before .before .before .before .before .before .before .before .before .before .before .before .before .before .before .before .find-numbered in
-    let the-if1 = c .before .before .before .before .before .before .before .before .before .before .before .before .before .before .before .before .before .if1 in
-    let the-bind = c .before .before .before .before .before .before .before .before .before .before .before .before .before .before .before .bind in
-    let the-resolve-both = c .before .before .before .before .before .before .before .before .before .before .before .before .before .resolve-both in
-    let the-left-tag = c .before .before .before .before .before .before .before .before .before .before .before .left-tag in
-    let the-place = c .before .before .before .before .before .before .before .place in
-    let the-inner = c .before .before .before .before .before .inner in
+    let o = c .before .before .before .before .before .before .before .before .before .before .before .before .before .before .before .before .before .before .before .before .before in
+    let the-byte = c .before .before .before .before .before .before .before .before .before .before .before .before .before .before .before .before .before .byte in
+    let the-find-numbered = c .before .before .before .before .before .before .before .before .before .before .before .before .before .before .before .before .find-numbered in
+    let the-if1 = c .before .before .before .before .before .before .before .before .before .before .before .before .before .before .before .if1 in
+    let the-bind = c .before .before .before .before .before .before .before .before .before .before .before .before .before .bind in
+    let the-compared-part = c .before .before .before .before .before .before .before .before .before .before .before .compared-part in
+    let the-part = c .before .before .before .before .before .before .before .before .before .part in
+    let the-place = c .before .before .before .before .before .place in
+    let the-inner = c .before .before .before .inner in
     let the-put-part = c .put-part in
-    ((λ q. list-placed q (o .pre .1 .1) (the-byte .result) (the-byte .ensures .0) (the-find-numbered .result) (the-find-numbered .ensures .0) (the-if1 .left) (the-find-numbered .ensures .1) (the-bind .result) (the-bind .ensures) (the-resolve-both .result) (the-resolve-both .ensures) _ _ _ _ (the-left-tag .given .1) (the-place .last .1 .1 .1 .0) (the-place .result) (the-place .ensures .0 (list-run q (o .pre .1 .1) (the-byte .result) (the-byte .ensures .0) (the-find-numbered .result) (the-find-numbered .ensures .0) (the-if1 .left) (the-find-numbered .ensures .1) (the-bind .result) (the-bind .ensures))) _ (the-inner .given .1) (the-put-part .last .0) (the-put-part .ensures .0)), the-put-part .ensures .1)
+    ((λ q. list-placed q (o .pre .1 .1) (the-byte .result) (the-byte .ensures .0) (the-find-numbered .result) (the-find-numbered .ensures .0) (the-if1 .left) (the-find-numbered .ensures .1) (the-bind .result) (the-bind .ensures) (the-compared-part .result) (the-compared-part .ensures) _ (the-part .given .1) (the-place .last .1 .1 .1 .0) (the-place .result) (the-place .ensures .0 (list-run q (o .pre .1 .1) (the-byte .result) (the-byte .ensures .0) (the-find-numbered .result) (the-find-numbered .ensures .0) (the-if1 .left) (the-find-numbered .ensures .1) (the-bind .result) (the-bind .ensures))) _ (the-inner .given .1) (the-put-part .last .0) (the-put-part .ensures .0)), the-put-part .ensures .1)
 
 place-not-sub-place : (t : ℕ) → place-not-lts.Need-sub-place (
   place-below t,
@@ -1823,8 +1723,8 @@ pub +place+place-exists+place-list+place-not+place-pair-spec : {M : Type 1} → 
       find-numbered-reads.Learnt,
       bind-reads.Asked,
       bind-reads.Learnt,
-      resolve-both-reads.Asked,
-      resolve-both-reads.Learnt,
+      compared-part-reads.Asked,
+      compared-part-reads.Learnt,
       place-below t,
       place.Post,
       put-part-reads.Asked,
@@ -1845,8 +1745,8 @@ pub +place+place-exists+place-list+place-not+place-pair-spec : {M : Type 1} → 
     (place-list-shared-slice-read-bind t)
     (place-list-bind-requires t)
     (place-list-add-deeper t)
-    (place-list-resolve-both-requires t)
-    (place-list-enum-known-left-tag t)
+    (place-list-compared-part-requires t)
+    (place-list-enum-known-part t)
     (place-list-enum-told t)
     (place-list-returns-2 t)
     (place-list-sub-place t)
@@ -1854,14 +1754,9 @@ pub +place+place-exists+place-list+place-not+place-pair-spec : {M : Type 1} → 
     (place-list-enum-known-inner t)
     (place-list-enum-told-2 t)
     (place-list-returns-3 t)
-    (place-list-mul-t22 t)
-    (place-list-shared-slice-read-t21 t)
-    (place-list-add-t19 t)
-    (place-list-mul-t18 t)
-    (place-list-shared-slice-read-t33 t)
     (place-list-sub-put-part t)
     (place-list-put-part-requires t)
-    (place-list-sub-t33 t)
+    (place-list-sub-t17 t)
     (place-list-returns-4 t))
     (λ t. place-not-lts.spec (
       place-below t,
