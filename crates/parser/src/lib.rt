@@ -1,9 +1,9 @@
 // The rule of a text: its parts as numbers, or the first refusal of reading that applies. READ, JUDGE and CARD go on from here.
 ghost use mathlib.Core.Path.{_≡_};
-ghost use Prim.Native.Nat.{_*_, _≤_};
+ghost use Prim.Native.Nat.{_≤_};
 ghost use lib.ListN.{length, take};
 ghost use Rattle.cells.specs.Code.{Sized};
-ghost use Rattle.grammar.specs.Code.{noteSize, notesSize};
+ghost use Rattle.grammar.specs.Code.{notesSize};
 ghost use Rattle.names.specs.Code.{partsSize, Nameable, NamedTo};
 ghost use Rattle.parser.specs.Code.{TextReady, TokensParsedTo, parsedAnswer, parseCall, ParsedTo};
 use cells::Reason;
@@ -23,8 +23,8 @@ const SHORT_TEXT: usize = 128;
 
 const MIDDLE_TEXT: usize = 1024;
 
-// Rules of at most so many parts get an array of notes that is no longer than that: setting up the one for the most parts takes longer than reading a short
-// rule.
+// The notes of a rule of at most so many parts are copied to an array that has no more room than that: setting up one for the most notes takes longer than
+// reading a short rule.
 const FEW_PARTS: usize = 16;
 
 const FEW_NUMBERS: usize = NOTE_FIELDS * FEW_PARTS;
@@ -36,10 +36,10 @@ pub enum Parsed {
 }
 
 // The first n numbers of from, at the start of notes.
-fn copy_numbers(from: &[usize; NOTE_NUMBERS], n: usize, notes: &mut [usize])
-    requires { ⌜ length (now from) ≡ notesSize ⌝ ∗ ⌜ n ≤ notesSize ⌝ ∗ ⌜ n ≤ length (now notes) ⌝ }
+fn copy_few(from: &[usize; NOTE_NUMBERS], n: usize, notes: &mut [usize; FEW_NUMBERS])
+    requires { ⌜ length (now from) ≡ notesSize ⌝ ∗ ⌜ n ≤ 128 ⌝ ∗ ⌜ length (now notes) ≡ 128 ⌝ }
     ensures copied { λ _. ⌜ take n (now (notes .exit)) ≡ take n (now (from .entry)) ⌝ }
-    ensures size { λ _. ⌜ length (now (notes .exit)) ≡ length (now (notes .entry)) ⌝ }
+    ensures size { λ _. ⌜ length (now (notes .exit)) ≡ 128 ⌝ }
 {
     let mut k: usize = 0;
     while k < n {
@@ -48,22 +48,7 @@ fn copy_numbers(from: &[usize; NOTE_NUMBERS], n: usize, notes: &mut [usize])
     }
 }
 
-// The parts of the rule whose notes stand in parts, count of them. The parts are written over these, so the notes are copied first, to where there is room.
-fn name_copied(
-    file: &[u8],
-    count: usize,
-    parts: &mut [usize; PART_NUMBERS],
-    notes: &mut [usize],
-) -> bool
-    requires { ⌜ Nameable (now file) (now parts) count ⌝ ∗ ⌜ length (now parts) ≡ partsSize ⌝ ∗ ⌜ noteSize * count ≤ length (now notes) ⌝ }
-    ensures named { λ r. ⌜ NamedTo (now (file .entry)) (now (parts .entry)) count (now (parts .exit)) r ⌝ }
-    ensures size { λ _. ⌜ length (now (parts .exit)) ≡ partsSize ⌝ }
-{
-    copy_numbers(parts, NOTE_FIELDS * count, notes);
-    names::name_parts(file, notes, count, parts)
-}
-
-// The same, with room for the notes made here.
+// The parts of the rule whose notes stand in parts, count of them. The parts are written over the notes, so these are copied first.
 fn name_noted(file: &[u8], count: usize, parts: &mut [usize; PART_NUMBERS]) -> bool
     requires { ⌜ Nameable (now file) (now parts) count ⌝ ∗ ⌜ length (now parts) ≡ partsSize ⌝ }
     ensures named { λ r. ⌜ NamedTo (now (file .entry)) (now (parts .entry)) count (now (parts .exit)) r ⌝ }
@@ -71,10 +56,11 @@ fn name_noted(file: &[u8], count: usize, parts: &mut [usize; PART_NUMBERS]) -> b
 {
     if count <= FEW_PARTS {
         let mut notes = [0usize; FEW_NUMBERS];
-        return name_copied(file, count, parts, &mut notes);
+        copy_few(parts, NOTE_FIELDS * count, &mut notes);
+        return names::name_parts(file, &notes, count, parts);
     }
-    let mut notes = [0usize; NOTE_NUMBERS];
-    name_copied(file, count, parts, &mut notes)
+    let notes = *parts;
+    names::name_parts(file, &notes, count, parts)
 }
 
 // The rule of some tokens: refusals 5 to 8. The grammar is judged to the end before the limits, and these before the names. The grammar writes its notes

@@ -4,17 +4,17 @@ use Prim.Native.Nat.{ℕ, _-_, _≤_}
 use native.Mathlib.Omega.{arith}
 use lib.ListN.{length, take, length-set}
 use Rattle.parser.proofs.Copying.{copied-more}
-use Rattle.parser.proofs.copy_numbers.Statement.{statement}
-use Rattle.parser.proofs.copy_numbers.Tie as tie
+use Rattle.parser.proofs.copy_few.Statement.{statement}
+use Rattle.parser.proofs.copy_few.Tie as tie
 
 abbrev Inv-loop : tie.InvT-loop
-Inv-loop from n notes₀ k₀ notes k = (k ≤ n) × (length notes ≡ length notes₀) × (take k notes ≡ take k from)
+Inv-loop from n notes₀ k₀ notes k = (k ≤ n) × (length notes ≡ 128) × (take k notes ≡ take k from)
 
 abbrev μ-loop : tie.MeasureT-loop
 μ-loop from n notes₀ k₀ notes k = n - k
 
 loop-holds : tie.Need-loop-holds Inv-loop μ-loop
-loop-holds c = (omega arith, refl, refl)
+loop-holds c = (omega arith, c .pre .1 .1, refl)
 
 mul-notes : tie.Need-mul-notes Inv-loop μ-loop
 mul-notes c = omega arith
@@ -25,8 +25,8 @@ element-copy-out-notes c = omega arith
 mul-notes-2 : tie.Need-mul-notes-2 Inv-loop μ-loop
 mul-notes-2 c = omega arith
 
-slice-write-notes : tie.Need-slice-write-notes Inv-loop μ-loop
-slice-write-notes c = omega arith
+element-write-notes : tie.Need-element-write-notes Inv-loop μ-loop
+element-write-notes c = omega arith
 
 add-k : tie.Need-add-k Inv-loop μ-loop
 add-k c = omega arith
@@ -42,9 +42,6 @@ loop-again c =
     let more = copied-more (start .args .from .now) (loop .notes) (loop .k) (omega arith) (omega arith) (loop .inv .2) in
     (omega arith, simp length-set (loop .inv .1), more)
 
-same-length : tie.Need-same-length Inv-loop μ-loop
-same-length c = omega arith
-
 returns : tie.Need-returns Inv-loop μ-loop
 returns c =
     let start = c .before .before in
@@ -52,8 +49,8 @@ returns c =
     let z : loop .k ≡ start .args .n = omega arith in
     (subst (λ (k : ℕ). take k (loop .notes) ≡ take k (start .args .from .now)) z (loop .inv .2), loop .inv .1)
 
-pub copy-numbers-spec : {M : Type 1} → statement M
-copy-numbers-spec =
+pub copy-few-spec : {M : Type 1} → statement M
+copy-few-spec =
     tie.close
     (tie.spec
     Inv-loop
@@ -62,9 +59,8 @@ copy-numbers-spec =
     mul-notes
     element-copy-out-notes
     mul-notes-2
-    slice-write-notes
+    element-write-notes
     add-k
     loop-less
     loop-again
-    same-length
     returns)
