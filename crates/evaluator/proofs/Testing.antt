@@ -6,7 +6,7 @@ use Prim.Native.Nat.{ℕ, _+_, _*_, _≤_}
 use native.Mathlib.Omega.{arith}
 use borrow.Author.Tests.{ne-eqb}
 use lib.Dec.{T}
-use lib.ListN.{length}
+use lib.ListN.{length, getD}
 use Rattle.tables.specs.Tables.{columnsOf}
 use Rattle.tables.specs.Values.{constantTag, Value, Constant, Column, Comparison, comparisonOf, Env, cellOf, isBlank, valueFits}
 use Rattle.tables.proofs.Values.{comparison-back}
