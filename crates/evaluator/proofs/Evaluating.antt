@@ -381,8 +381,8 @@ module _ {p g file w : List ℕ} {s depth : ℕ} (h : Evaluable p g file w s dep
           inner-fits = subst (λ (t : ℕ). Fits (columnsOf file) (h .levels ++ (t ∷ [])) (exists-here .inner)) (sym exists-table) (f .1);
         }
 
-    abbrev found : Row → Bool
-    found row = isTrue (meaning (tablesOf file) (h .env ▸ row) (exists-here .inner))
+    abbrev retained : Row → Bool
+    retained row = isTrue (meaning (tablesOf file) (h .env ▸ row) (exists-here .inner))
 
     module _ {at : Place} (there : at ≡ placeIn g tableHere) where
       exists-rows : over3 Some (rowsHere exists-ranging there (at .rows)) ≡ meaning (tablesOf file) (h .env) (h .rule)
@@ -392,11 +392,11 @@ module _ {p g file w : List ℕ} {s depth : ℕ} (h : Evaluable p g file w s dep
           let cell : ℕ → ℕ = λ k. at .first + k * at .columns in
           let f : ℕ → Row = λ k. rowFrom file (cell k) (at .columns) in
           ap (λ r. over3 Some (tabulate n (λ k. rowValue file (h .env) r (cell k) (at .columns)))) (exists-here .is)
-          ∙ ap (over3 Some) (sym (tabulate-map (λ row. truth (found row)) n f))
-          ∙ sym (exists-some found (tabulate n f))
-          ∙ ap (λ rows. truth (any found rows)) (sym (table exists-ranging there .rows-are))
-          ∙ ap (λ (t : ℕ). truth (any found (rowsOf (tablesOf file) t))) exists-table
-          ∙ ap truth (any-kept found (rowsOf (tablesOf file) (exists-here .table)))
+          ∙ ap (over3 Some) (sym (tabulate-map (λ row. truth (retained row)) n f))
+          ∙ sym (exists-some retained (tabulate n f))
+          ∙ ap (λ rows. truth (any retained rows)) (sym (table exists-ranging there .rows-are))
+          ∙ ap (λ (t : ℕ). truth (any retained (rowsOf (tablesOf file) t))) exists-table
+          ∙ ap truth (any-kept retained (rowsOf (tablesOf file) (exists-here .table)))
           ∙ means-as (exists-here .is)
 
       module _ {r first : ℕ} {v : List ℕ} (below : r < at .rows) (passed : RowsPassed p g file w s depth 0 at r first 0 v) where

@@ -24,6 +24,7 @@ use names::PART_RIGHT_TAG;
 use names::PART_TABLE;
 use rule::ALL_PART;
 use rule::AND_PART;
+use rule::COMPARISON_PART;
 use rule::EXISTS_PART;
 use rule::NOT_NULL_PART;
 use rule::NOT_PART;
@@ -178,6 +179,25 @@ fn evaluate_or(
     greater(left, right)
 }
 
+// The value of part s, the WHERE of EXISTS or of a list, at a row. Where it is a single test, no recursive call is made for each row.
+fn evaluate_where(
+    p: &[usize; PART_NUMBERS],
+    g: &[usize; PLACES],
+    file: &[u8],
+    s: usize,
+    v: &[usize; LEVELS],
+    depth: usize,
+) -> usize
+    requires { ⌜ Evaluable (now p) (now g) (now file) (now v) s depth ⌝ }
+    ensures { λ r. ⌜ Evaluates (now (p .entry)) (now (g .entry)) (now (file .entry)) (now (v .entry)) s depth r ⌝ }
+{
+    let kind = p[PART_FIELDS * s];
+    match kind {
+        COMPARISON_PART | NULL_PART | NOT_NULL_PART => evaluate_test(p, g, file, s, v),
+        _ => evaluate_part(p, g, file, s, v, depth),
+    }
+}
+
 // EXISTS: true as soon as its WHERE is true on a row.
 fn evaluate_exists(
     p: &[usize; PART_NUMBERS],
@@ -196,7 +216,7 @@ fn evaluate_exists(
     let mut r: usize = 0;
     while r < table.rows {
         v[depth] = first;
-        let kept = evaluate_part(p, g, file, s + 1, &v, depth + 1);
+        let kept = evaluate_where(p, g, file, s + 1, &v, depth + 1);
         if kept == TRUE {
             return TRUE;
         }
@@ -221,7 +241,7 @@ fn evaluate_row(
     requires { ⌜ RowReady (now p) (now g) (now file) (now v) s depth empty x ⌝ }
     ensures { λ r. ⌜ RowEvaluated (now (p .entry)) (now (g .entry)) (now (file .entry)) (now (v .entry)) s depth empty x r ⌝ }
 {
-    let kept = evaluate_part(p, g, file, s + 1, v, depth);
+    let kept = evaluate_where(p, g, file, s + 1, v, depth);
     if kept != TRUE {
         return empty;
     }
