@@ -1,9 +1,9 @@
 /* Roskudla: entry rules with blanks, turned into cards that answer yes or no.
  *
  * Six calls. Each returns 0, or the number of a refusal (1 to 12, below): the lowest that applies. The answer comes through pointers, and a
- * refusal leaves everything that they point to as it was; after a success what lies past the answer is untouched. The grammar of
- * rules and the bytes of tables and cards are defined in crates/rule/specs, crates/tables/specs and crates/card/specs; docs/ARCHITECTURE.md has an
- * index of them.
+ * refusal leaves everything that they point to as it was; after a success what lies past the answer is untouched. docs/RULES.md says how
+ * rules are written and what they mean, docs/FORMATS.md what the bytes of tables and cards are; the definitions that the calls are proved
+ * against are in crates/rule/specs, crates/tables/specs and crates/card/specs, with an index in docs/ARCHITECTURE.md.
  *
  * A slice is a pointer and its length, in elements. Where the length is 0 the pointer is not looked at and may be NULL. All other pointers
  * point to as many elements as their length says, or to one where they have no length; they are never NULL, and are aligned as C aligns what
@@ -11,8 +11,9 @@
  *
  * The calls have no state: they may run in several threads at a time, as long as nobody writes what another call is given. They use the
  * caller's stack alone, up to 80 KB in roskudla_read, roskudla_judge and roskudla_card, and up to 40 KB in the others, and call nothing but
- * memcpy and memset. The time of a call grows with the product of the row counts of tables whose FROMs stand around one another, and for
- * roskudla_list with the rows of table 1 besides: three FROMs over large tables take seconds or hours.
+ * memcpy and memset. The time of roskudla_run, roskudla_judge and roskudla_list grows with the product of the row counts of tables whose
+ * FROMs stand around one another, and for roskudla_list with the rows of table 1 besides; docs/BENCHMARK.md has how long three FROMs over
+ * the largest tables take.
  *
  * libroskudla.a (rt staticlib roskudla) has all six calls. libroskudla_gate.a (rt staticlib roskudla_gate) has roskudla_check, roskudla_run
  * and roskudla_list alone, for a gate that runs cards and reads no rules. Link one of the two. They are for x86-64.

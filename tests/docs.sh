@@ -1,6 +1,7 @@
 #!/usr/bin/env bash
-# docs/ARCHITECTURE.md names what is there: every claim and every must-fail edit that its tables name exists, every claim is named, and so is every edit of
-# a crate of functions. Every name in docs/DEMANDS.md is that of a claim, a definition, a function, an edit or a test script that exists.
+# docs/ARCHITECTURE.md names what is there: every claim and every must-fail edit that its tables name exists, every claim is named, and so is every edit;
+# its table of crates says what crates.txt says; every definition in its index of document 01's sentences stands in the file that is named, and every
+# test script has its row. Every name in docs/DEMANDS.md is that of a claim, a definition, a function, an edit or a test script that exists.
 set -u
 cd "$(dirname "$0")/.." || exit 1
 doc=docs/ARCHITECTURE.md
@@ -22,10 +23,11 @@ for edit in $named_edits; do
   ls crates/*/must-fail/"$edit".edit > /dev/null 2>&1 || complain "the edit $edit is named and is not there"
 done
 for edit in crates/*/must-fail/*.edit; do
-  grep -q '^file: src/' "$edit" || continue
   name=$(basename "$edit" .edit)
   grep -qx "$name" <<< "$named_edits" || complain "$edit is not named"
 done
+
+python3 -B tests/docs/architecture.py || bad=1
 
 # a name with a slash is an edit of a crate or a script, one with colons a function of a crate, any other a word of the statements and contracts
 demands=docs/DEMANDS.md

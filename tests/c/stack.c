@@ -1,5 +1,5 @@
 /* How much of its stack a thread has touched after each call is within what the header says, on rules and a card that are as deep as the limits allow, in several ways. */
-#include "../../bench/shared.h"
+#include "touched.h"
 #include "expect.h"
 
 enum { MOST_OF_RULES = 80 << 10, MOST_OF_CARDS = 40 << 10, ROW_ENTRIES = 3, PAIRS = 94, ENTRIES = ROW_ENTRIES + 2 * PAIRS + 1 };

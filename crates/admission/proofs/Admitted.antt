@@ -14,6 +14,7 @@ use Rattle.tables.specs.Refusals.{firstApplying, Given, Lent, lend, tablesRefus
 use Rattle.tables.proofs.Refusals.{first-nil, first-none, lend-short, lend-long, lend-refused}
 use Rattle.tables.proofs.Sizes.{same-refl}
 use Rattle.tables.proofs.Tests.{is-true}
+use Rattle.card.specs.Sound.{mostCardBytes}
 use Rattle.card.specs.Calls.{listCall}
 use Rattle.rule.specs.Condition.{Rule}
 use Rattle.rule.specs.Calls.{ruleOf, readingRefusals, Accepted, withRule, trueRows, admitCall}
@@ -57,7 +58,7 @@ module _ (text file : List ℕ) (accepted : Accepted text file) where
   rule = demand-3 .rule
 
   -- the longest card has 2,891 bytes
-  card-short : publishedLength file rule ≤ 2891
+  card-short : publishedLength file rule ≤ mostCardBytes
   card-short =
       let k = known text file rule accepted (demand-3 .is-rule) in
       card-bytes-few file rule (k .sized .tables-high) (k .few-parts)
@@ -85,7 +86,7 @@ module _ (text file : List ℕ) (accepted : Accepted text file) where
           demand-3 .listings file later buffer .long h ∙ sym (admit-claim .admit-given text file buffer accepted rule (demand-3 .is-rule) h)
 
   -- CARD with room for the longest card
-  module _ (room : List ℕ) (size : length room ≡ 2891) where
+  module _ (room : List ℕ) (size : length room ≡ mostCardBytes) where
     card-made : cardCall text file room
         ≡ record { result = Given (publishedLength file rule); buffer = ruleBytes file rule ++ drop (publishedLength file rule) room }
     card-made = demand-3 .cards room .long (omega (arith, card-short))
@@ -95,7 +96,7 @@ module _ (text file : List ℕ) (accepted : Accepted text file) where
 
 -- ---- in the code
 
-module _ (text file room : List ℕ) (size : length room ≡ 2891) (made : Made) (answer : madeAnswer made ≡ cardCall text file room .result) where
+module _ (text file room : List ℕ) (size : length room ≡ mostCardBytes) (made : Made) (answer : madeAnswer made ≡ cardCall text file room .result) where
   reading-accepted : (n : ℕ) → made ≡ Made.Bytes n → Accepted text file
   unfolding cardCall
   reading-accepted n e = lent-given (readingRefusals text file) _ room n (sym (ap madeAnswer e) ∙ answer)

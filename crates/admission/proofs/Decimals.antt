@@ -10,13 +10,13 @@ use lib.ListN.{getD}
 use Rattle.tables.specs.Lists.{all}
 use Rattle.tables.specs.Bytes.{between}
 use Rattle.tables.proofs.Tests.{between-yes}
-use Rattle.admission.specs.Output.{decimalOf, digitsValue}
+use Rattle.rule.specs.Tokens.{spelled}
+use Rattle.admission.specs.Output.{decimalOf}
 use Rattle.admission.specs.Claims.{DecimalClaim}
 
 -- ---- one digit more
 
-value-more : (n : ℕ) (ds : List ℕ) (d : ℕ) → digitsValue n (ds ++ (d ∷ [])) ≡ 10 * digitsValue n ds + (d - 48)
-unfolding digitsValue
+value-more : (n : ℕ) (ds : List ℕ) (d : ℕ) → spelled n (ds ++ (d ∷ [])) ≡ 10 * spelled n ds + (d - 48)
 value-more n [] d = refl
 value-more n (x ∷ ds) d = value-more (10 * n + (x - 48)) ds d
 
@@ -44,14 +44,13 @@ belowTen (suc k) = 10 * belowTen k
 abbrev front : Bool → ℕ → ℕ → List ℕ
 front b k n = cond b [] (decimalOf k (n / 10))
 
-value-last : (b : Bool) (k n : ℕ) → ltb n 10 ≡ b → digitsValue 0 (decimalOf k (n / 10)) ≡ n / 10
-    → 10 * digitsValue 0 (front b k n) + (48 + n % 10 - 48) ≡ n
-unfolding digitsValue
+value-last : (b : Bool) (k n : ℕ) → ltb n 10 ≡ b → spelled 0 (decimalOf k (n / 10)) ≡ n / 10
+    → 10 * spelled 0 (front b k n) + (48 + n % 10 - 48) ≡ n
 value-last true k n e rest = let l = ltb-true n 10 e in omega arith
 value-last false k n e rest = omega arith
 
-value-of : (k n : ℕ) → n < belowTen k → digitsValue 0 (decimalOf k n) ≡ n
-unfolding decimalOf digitsValue
+value-of : (k n : ℕ) → n < belowTen k → spelled 0 (decimalOf k n) ≡ n
+unfolding decimalOf
 value-of zero n h = omega arith
 value-of (suc k) n h = value-more 0 (front (ltb n 10) k n) (48 + n % 10) ∙ value-last (ltb n 10) k n refl (value-of k (n / 10) (omega arith))
 

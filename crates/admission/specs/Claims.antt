@@ -9,9 +9,10 @@ use Rattle.tables.specs.Lists.{all}
 use Rattle.tables.specs.Bytes.{between}
 use Rattle.tables.specs.Tables.{columnsOf}
 use Rattle.tables.specs.Refusals.{Refused, Given, firstApplying}
+use Rattle.rule.specs.Tokens.{spelled}
 use Rattle.rule.specs.Condition.{Rule}
 use Rattle.rule.specs.Calls.{ruleOf, readingRefusals, Accepted, trueRows, admitCall}
-use Rattle.admission.specs.Output.{decimal, digitsValue, output, readOfText, readOfTables}
+use Rattle.admission.specs.Output.{decimal, output, readOfText, readOfTables}
 use Rattle.admission.specs.Promise.{Promised}
 use Rattle.admission.specs.Cases.{outputCases, decimalNumbers, decimalTexts, printedOf}
 
@@ -34,10 +35,10 @@ PromiseClaim = (text file : List ℕ) → Accepted text file → Promised text f
 abbrev pub WholeFilesClaim : Type 0
 WholeFilesClaim = (text file : List ℕ) → output (take readOfText text) (take readOfTables file) ≡ output text file
 
--- decimal digits stand for their number: each digit is one of 0 to 9, a 0 stands at the front only by itself, and the digits have the number's value
+-- decimal digits stand for their number, as in a rule's text: each digit is one of 0 to 9, a 0 stands at the front only by itself, and the digits spell the number
 pub record DecimalClaim : Type 0 where
   pub zero-is : decimal 0 ≡ 48 ∷ []
-  pub value : (n : ℕ) → n < 10000 → digitsValue 0 (decimal n) ≡ n
+  pub value : (n : ℕ) → n < 10000 → spelled 0 (decimal n) ≡ n
   pub each-digit : (n : ℕ) → all (between 48 57) (decimal n) ≡ true
   pub first-digit : (n : ℕ) → 1 ≤ n → n < 10000 → 49 ≤ getD (decimal n) 0 0
 

@@ -3,7 +3,7 @@ use mathlib.Core.Path.{_≡_}
 use mathlib.Core.Bool.{cond}
 use mathlib.Core.List.{List, [], _∷_, _++_}
 use mathlib.Core.Option.{Option, none, some}
-use Prim.Native.Nat.{ℕ, zero, suc, _+_, _-_, _*_, _/_, _%_}
+use Prim.Native.Nat.{ℕ, zero, suc, _+_, _*_, _/_, _%_}
 use lib.Dec.{ltb}
 use lib.ListN.{length, take, drop}
 use Rattle.tables.specs.Tables.{mostTables, mostCells, columnsOf, rowCount}
@@ -19,11 +19,6 @@ decimalOf (suc k) n = cond (ltb n 10) [] (decimalOf k (n / 10)) ++ ((48 + n % 10
 -- the numbers that are printed are at most 1,000
 abbrev pub decimal : ℕ → List ℕ
 decimal n = decimalOf 4 n
-
--- the number that some digits stand for, read behind n
-unfoldable pub digitsValue : ℕ → List ℕ → ℕ
-digitsValue n [] = n
-digitsValue n (d ∷ ds) = digitsValue (10 * n + (d - 48)) ds
 
 abbrev pub lineFeed : List ℕ
 lineFeed = 10 ∷ []

@@ -175,9 +175,6 @@ module _ (bs : List ℕ) (s : Sound bs) where
   short : entries (s .card) < 65536
   short = omega (arith, bounds 1 mostEntries (entries (s .card)) (s .few))
 
-  pub sound-stands : Stands bs 0 (s .card)
-  sound-stands = subst (λ (l : List ℕ). Stands l 0 (s .card)) (sym (s .bytes)) (card-stands (s .columns) (s .card) short)
-
   pub sound-holds : cardFrom bs ≡ some (s .card)
   sound-holds = ap cardFrom (s .bytes) ∙ card-back (s .columns) (s .card) short (s .sized) (s .fits)
 

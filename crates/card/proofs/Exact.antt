@@ -310,11 +310,3 @@ module _ (bs : List ℕ) (b : Bytes bs) (t : T (sound bs)) where
     sized = passed .sized;
     fits = passed .fits;
   }
-
-  pub sound-columns : columnsIn bs ≡ sound-exact .columns
-  unfolding sound-exact
-  sound-columns = refl
-
-  pub sound-card : cardFrom bs ≡ some (sound-exact .card)
-  unfolding sound-exact
-  sound-card = passed .held

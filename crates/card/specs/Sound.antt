@@ -18,6 +18,10 @@ use Rattle.card.specs.Layout.{cardBytes, cardLength, entryCount, tablesI
 abbrev pub mostEntries : ℕ
 mostEntries = 192
 
+-- how long the longest card is
+abbrev pub mostCardBytes : ℕ
+mostCardBytes = cardLength mostTables mostEntries
+
 -- how many tables, and how many columns each
 abbrev pub columnsFit : List ℕ → Bool
 columnsFit columns = between 1 mostTables (length columns) && all (between 1 mostColumns) columns

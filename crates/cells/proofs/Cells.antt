@@ -6,7 +6,7 @@ use Prim.Native.Nat.{ℕ, zero, suc, _+_, _-_, _*_, _/_, _%_, _≤_, _<_}
 use native.Mathlib.Nat.{le-of-suc-le-suc, not-suc-le-zero}
 use native.Mathlib.Numerals.{add-one}
 use native.Mathlib.Omega.{arith}
-use borrow.Author.Tests.{le-leb, lt-leb}
+use borrow.Author.Tests.{le-leb, leb-true}
 use lib.Dec.{T, leb, eqb, leb→le, eqb→eq}
 use lib.Ieee.Fits.{and-l, and-r}
 use lib.ListN.{length, getD, take, set, length-set}
@@ -16,50 +16,8 @@ use Rattle.tables.specs.Tables.{mostTables, mostColumns, mostRows, mostCells, h
 use Rattle.cells.specs.Code.{Holds, SizeIn, Sized, placesOf, placeOf, Places}
 use Rattle.tables.proofs.Tests.{is-so, refuted}
 use Rattle.tables.proofs.Tabulated.{all-each, all-of, all-more}
+use Rattle.tables.proofs.Numbering.{cells-none, cells-more, cells-all, cells-within}
 use Rattle.cells.proofs.Holding.{holds-more, holds-none}
-
--- ---- sums
-
--- the first j of n numbers, added up, and one more of them
-sum-more : (n j : ℕ) (f : ℕ → Size) → j < n
-    → total (map cellsIn (take (suc j) (tabulate n f))) ≡ total (map cellsIn (take j (tabulate n f))) + cellsIn (f j)
-sum-more zero j f h = absurd (not-suc-le-zero h)
-sum-more (suc n) zero f h = omega arith
-sum-more (suc n) (suc j) f h = omega (arith, sum-more n j (λ k. f (suc k)) (le-of-suc-le-suc h))
-
-sum-all : (n : ℕ) (f : ℕ → Size) → total (map cellsIn (take n (tabulate n f))) ≡ total (map cellsIn (tabulate n f))
-sum-all zero f = refl
-sum-all (suc n) f = ap (λ (x : ℕ). cellsIn (f 0) + x) (sum-all n (λ k. f (suc k)))
-
-module _ (file : List ℕ) where
-  pub cells-none : cellsBefore file 0 ≡ 0
-  unfolding cellsBefore
-  cells-none = refl
-
-  pub cells-more : (j : ℕ) → j < tableCount file → cellsBefore file (j + 1) ≡ cellsBefore file j + sizeAt file j .rows * sizeAt file j .columns
-  unfolding cellsBefore sizes
-  cells-more j h = rw (add-one j) (sum-more (tableCount file) j (sizeAt file) h)
-
-  pub cells-all : cellsBefore file (tableCount file) ≡ cellCount file
-  unfolding cellsBefore cellCount sizes
-  cells-all = sum-all (tableCount file) (sizeAt file)
-
-  -- no more cells up to a table than up to a later one
-  cells-rise : (d j : ℕ) → j + d ≤ tableCount file → cellsBefore file j ≤ cellsBefore file (j + d)
-  cells-rise zero j h = let e : j ≡ j + 0 = omega arith in omega (arith, ap (cellsBefore file) e)
-  cells-rise (suc d) j h =
-      let e : j + d + 1 ≡ j + suc d = omega arith in
-      let m = cells-more (j + d) (omega arith) in
-      let z = ap (cellsBefore file) e in
-      omega (arith, cells-rise d j (omega arith))
-
-  -- a table's cells are among all cells
-  pub cells-within : (j : ℕ) → j < tableCount file → cellsBefore file j + sizeAt file j .rows * sizeAt file j .columns ≤ cellCount file
-  cells-within j h =
-      let e : j + 1 + (tableCount file - (j + 1)) ≡ tableCount file = omega arith in
-      let z = ap (cellsBefore file) e in
-      let r = cells-rise (tableCount file - (j + 1)) (j + 1) (omega arith) in
-      omega (arith, cells-more j h, cells-all)
 
 -- ---- the test of the sizes
 
@@ -150,11 +108,27 @@ marksTo file k = all (λ k. leb (markOf file k) highestMark) (tabulate k (λ k. 
 pub marks-more : (file : List ℕ) (k mark : ℕ) (fits : Bool) → mark ≡ markOf file k → fits ≡ marksTo file k → (fits && leb mark highestMark) ≡ marksTo file (k + 1)
 marks-more file k mark fits p q = rw (add-one k) (ap₂ (λ (t : Bool) (m : ℕ). t && leb m highestMark) q p ∙ sym (all-more (λ k. leb (markOf file k) highestMark) k (λ k. k)))
 
-pub marks-high : (file : List ℕ) (k mark : ℕ) (fits : Bool) → mark ≡ markOf file k → highestMark < mark → fits ≡ marksTo file k → false ≡ marksTo file (k + 1)
-marks-high file k mark fits p h q = sym (and-false fits) ∙ ap (λ (t : Bool). fits && t) (sym (lt-leb mark highestMark h)) ∙ marks-more file k mark fits p q
+-- of two numbers the higher one decides
+higher-last : (a b : ℕ) → a ≤ b → leb b highestMark ≡ (leb a highestMark && leb b highestMark)
+higher-last a b h = go (leb b highestMark) refl
+  where
+    go : (t : Bool) → leb b highestMark ≡ t → t ≡ (leb a highestMark && t)
+    go true e = rw (le-leb a highestMark (omega (arith, leb-true b highestMark e)))
+    go false e = sym (and-false (leb a highestMark))
 
-pub marks-low : (file : List ℕ) (k mark : ℕ) (fits : Bool) → mark ≡ markOf file k → mark ≤ highestMark → fits ≡ marksTo file k → fits ≡ marksTo file (k + 1)
-marks-low file k mark fits p h q = sym (and-true fits) ∙ ap (λ (t : Bool). fits && t) (sym (le-leb mark highestMark h)) ∙ marks-more file k mark fits p q
+higher-first : (a b : ℕ) → b ≤ a → leb a highestMark ≡ (leb a highestMark && leb b highestMark)
+higher-first a b h = go (leb a highestMark) refl
+  where
+    go : (t : Bool) → leb a highestMark ≡ t → t ≡ (t && leb b highestMark)
+    go true e = rw (le-leb b highestMark (omega (arith, leb-true a highestMark e)))
+    go false e = refl
+
+module _ (file : List ℕ) (k mark highest : ℕ) (is : mark ≡ markOf file k) (decides : leb highest highestMark ≡ marksTo file k) where
+  pub marks-higher : highest < mark → leb mark highestMark ≡ marksTo file (k + 1)
+  marks-higher h = higher-last highest mark (omega arith) ∙ marks-more file k mark _ is decides
+
+  pub marks-lower : mark ≤ highest → leb highest highestMark ≡ marksTo file (k + 1)
+  marks-lower h = higher-first highest mark h ∙ marks-more file k mark _ is decides
 
 pub marks-end : (file : List ℕ) (k cells : ℕ) (fits : Bool) → cells ≡ cellCount file → k ≤ cells → cells ≤ k → fits ≡ marksTo file k → fits ≡ marksFit file
 unfolding marksFit

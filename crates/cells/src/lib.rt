@@ -17,7 +17,7 @@ pub const MOST_ROWS: usize = 1000;
 
 pub const MOST_CELLS: usize = 8192;
 
-pub const HIGHEST_MARK: usize = 1;
+pub const HIGHEST_MARK: u8 = 1;
 
 // How many numbers tell where the tables of a file stand.
 pub const PLACES: usize = 3 * MOST_TABLES + 3;
@@ -175,22 +175,23 @@ fn cell_count(file: &[u8]) -> usize
     (file.len() - 1 - 3 * byte(file, 0)) / 5
 }
 
-// Whether no mark is too high: refusal 2 does not apply.
+// Whether no mark is too high: refusal 2 does not apply. It finds the highest mark: a processor takes the higher of two bytes for sixteen pairs at once.
 fn marks_fit(file: &[u8]) -> bool
     requires { ⌜ Sized (now file) ⌝ }
     ensures { λ r. ⌜ r ≡ marksFit (now (file .entry)) ⌝ }
 {
     let cells = cell_count(file);
     let first = file.len() - cells;
-    let mut fits = true;
+    let mut highest: u8 = 0;
     let mut k: usize = 0;
     while k < cells {
-        if HIGHEST_MARK < byte(file, first + k) {
-            fits = false;
+        let mark = file[first + k];
+        if highest < mark {
+            highest = mark;
         }
         k += 1;
     }
-    fits
+    highest <= HIGHEST_MARK
 }
 
 // Whether a tables file is valid.
@@ -199,6 +200,7 @@ pub enum Validity {
     Invalid(Reason),
 }
 
+// A tables file by itself: refusals 1 and 2, which every call that is given one tries first.
 pub fn check_tables(file: &[u8]) -> Validity
     ensures { λ r. ⌜ validityAnswer r ≡ tablesCall (now (file .entry)) ⌝ }
 {

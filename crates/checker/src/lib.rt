@@ -4,27 +4,39 @@
 ghost use mathlib.Core.Path.{_≡_};
 ghost use mathlib.Core.Bool.{true};
 ghost use Prim.Native.Nat.{_+_, _*_, _<_, _≤_};
-ghost use lib.ListN.{length, take};
+ghost use lib.ListN.{take};
 ghost use Rattle.tables.specs.Values.{valueFits};
 ghost use Rattle.card.specs.Layout.{columnsIn};
 ghost use Rattle.card.specs.Sound.{sound};
 ghost use Rattle.card.specs.Calls.{checkCall};
-ghost use Rattle.decoder.specs.Code.{Decoded, kindIn};
+ghost use Rattle.decoder.specs.Code.{Roomy, Decoded, kindIn};
 ghost use Rattle.checker.specs.Answers.{checkedAnswer};
 ghost use Rattle.checker.specs.Code.{Checks, LevelsIn, Checkable};
 ghost use Rattle.values.specs.Code.{valueIn};
+use card::AND_ENTRY;
+use card::BLANK;
+use card::COMPARISON_OR_NO;
+use card::COMPARISON_OR_YES;
+use card::EVERY_ROW;
 use card::MOST_ROW_ENTRIES;
+use card::NOT_BLANK;
+use card::OR_ENTRY;
+use card::SOME_ROW;
 use cells::Reason;
 use cells::byte;
 use cells::read16;
 use decoder::DECODED;
 use decoder::END;
+use decoder::FEW_DECODED;
 use decoder::FIELDS;
 use decoder::LEFT_NUMBER;
 use decoder::LEFT_TAG;
+use decoder::MIDDLE_CARD;
+use decoder::MIDDLE_DECODED;
 use decoder::NEXT_END;
 use decoder::RIGHT_NUMBER;
 use decoder::RIGHT_TAG;
+use decoder::SHORT_CARD;
 use decoder::TABLE;
 use decoder::decode;
 use decoder::laid_out;
@@ -52,7 +64,7 @@ fn value_fits(card: &[u8], w: &[usize; LEVELS], depth: usize, tag: usize, n: usi
 // The entry s, up to e, where it has no inner entries: whether it fits.
 fn check_leaf(
     card: &[u8],
-    d: &[usize; DECODED],
+    d: &[usize],
     s: usize,
     e: usize,
     w: &[usize; LEVELS],
@@ -77,7 +89,7 @@ fn check_leaf(
     if !left {
         return false;
     }
-    if 6 < d[FIELDS * s] {
+    if COMPARISON_OR_YES < d[FIELDS * s] {
         return true;
     }
     value_fits(
@@ -92,7 +104,7 @@ fn check_leaf(
 // The entries from s up to e: whether they are one entry with its inner ones, which fits the card's tables and these levels.
 fn check_entry(
     card: &[u8],
-    d: &[usize; DECODED],
+    d: &[usize],
     s: usize,
     e: usize,
     w: &[usize; LEVELS],
@@ -103,9 +115,11 @@ fn check_entry(
 {
     let k = d[FIELDS * s];
     match k {
-        1 | 2 => check_pair(card, d, s, e, w, depth),
-        3 | 4 => check_rows(card, d, s, e, w, depth),
-        5 | 6 | 7 | 8 => check_leaf(card, d, s, e, w, depth),
+        AND_ENTRY | OR_ENTRY => check_pair(card, d, s, e, w, depth),
+        SOME_ROW | EVERY_ROW => check_rows(card, d, s, e, w, depth),
+        COMPARISON_OR_NO | COMPARISON_OR_YES | BLANK | NOT_BLANK => {
+            check_leaf(card, d, s, e, w, depth)
+        }
         _ => false,
     }
 }
@@ -113,7 +127,7 @@ fn check_entry(
 // The same where s has two inner entries.
 fn check_pair(
     card: &[u8],
-    d: &[usize; DECODED],
+    d: &[usize],
     s: usize,
     e: usize,
     w: &[usize; LEVELS],
@@ -145,7 +159,7 @@ fn check_pair(
 // The same where s ranges over the rows of a table.
 fn check_rows(
     card: &[u8],
-    d: &[usize; DECODED],
+    d: &[usize],
     s: usize,
     e: usize,
     w: &[usize; LEVELS],
@@ -176,8 +190,8 @@ fn check_rows(
 }
 
 // Whether a card is sound; if so, d has its entries.
-pub fn is_sound(card: &[u8], d: &mut [usize; DECODED]) -> bool
-    requires { ⌜ length (now d) ≡ 1536 ⌝ }
+pub fn is_sound(card: &[u8], d: &mut [usize]) -> bool
+    requires { ⌜ Roomy (now card) (now d) ⌝ }
     ensures is { λ r. ⌜ r ≡ sound (now (card .entry)) ⌝ }
     ensures decoded { λ r. ⌜ (r ≡ true → Decoded (now (card .entry)) (now (d .exit))) ⌝ }
 {
@@ -191,19 +205,36 @@ pub fn is_sound(card: &[u8], d: &mut [usize; DECODED]) -> bool
     check_entry(card, d, 0, n, &w, 1)
 }
 
+// Whether a card is sound, or why not.
 pub enum Checked {
     Good,
     Bad(Reason),
+}
+
+// CHECK, with room in d for the card's entries.
+fn check_with(card: &[u8], d: &mut [usize]) -> Checked
+    requires { ⌜ Roomy (now card) (now d) ⌝ }
+    ensures { λ r. ⌜ checkedAnswer r ≡ checkCall (now (card .entry)) ⌝ }
+{
+    let sound = is_sound(card, d);
+    if sound {
+        return Checked::Good;
+    }
+    Checked::Bad(Reason::Unsound)
 }
 
 // CHECK: a card alone, sound or refused.
 pub fn check(card: &[u8]) -> Checked
     ensures { λ r. ⌜ checkedAnswer r ≡ checkCall (now (card .entry)) ⌝ }
 {
-    let mut d = [0usize; DECODED];
-    let sound = is_sound(card, &mut d);
-    if sound {
-        return Checked::Good;
+    if card.len() <= SHORT_CARD {
+        let mut d = [0usize; FEW_DECODED];
+        return check_with(card, &mut d);
     }
-    Checked::Bad(Reason::Unsound)
+    if card.len() <= MIDDLE_CARD {
+        let mut d = [0usize; MIDDLE_DECODED];
+        return check_with(card, &mut d);
+    }
+    let mut d = [0usize; DECODED];
+    check_with(card, &mut d)
 }

@@ -235,13 +235,13 @@ module _ (card : List ℕ) (i t n : ℕ) (tables : t ≡ tablesIn card) (entries
   byte-here : (k v : ℕ) → k < recordSize → v ≡ byteAt card (place t n i + k) → v ≡ byteAt (recordAt card i) k
   byte-here k v h e = byte-in card (place t n i) k v h e ∙ ap (λ (r : List ℕ). byteAt r k) record-here
 
-  module _ (few : i < mostEntries) where
-    next : (d : List ℕ) (k v : ℕ) → length d ≡ 1536 → k < 8 → Holds d (8 * i + k) (fieldOf card) → v ≡ getD (fieldsOf card i) k 0 → v < 4294967296
+  module _ (m : ℕ) (room : 8 * (i + 1) ≤ m) where
+    next : (d : List ℕ) (k v : ℕ) → length d ≡ m → k < 8 → Holds d (8 * i + k) (fieldOf card) → v ≡ getD (fieldsOf card i) k 0 → v < 4294967296
         → Holds (set d (8 * i + k) v) (8 * i + (k + 1)) (fieldOf card)
     next d k v l h holds e s =
         holds-more d (8 * i + k) v (8 * i + (k + 1)) (fieldOf card) holds (omega arith) (e ∙ sym (field-at card i k h)) s (omega arith)
 
-    pub entry-more : (d : List ℕ) (kind a0 a1 a2 a3 a4 a5 a6 a7 : ℕ) → length d ≡ 1536 → Holds d (8 * i) (fieldOf card)
+    pub entry-more : (d : List ℕ) (kind a0 a1 a2 a3 a4 a5 a6 a7 : ℕ) → length d ≡ m → Holds d (8 * i) (fieldOf card)
         → kind ≡ byteAt card (3 + t + i)
         → (a0 ≡ knownKind kind (recordFrom card (place t n i))) × (a0 < 256)
         → (a1 ≡ word16 card (place t n i)) × (a1 < 65536)
@@ -325,7 +325,7 @@ module _ (r : List ℕ) where
 
 module _ (card d : List ℕ) (decoded : Decoded card d) (i : ℕ) (within : i < entryCount card) where
   field-in : (k : ℕ) → k < 8 → getD d (8 * i + k) 0 ≡ getD (fieldsOf card i) k 0
-  field-in k h = decoded .at (8 * i + k) (omega arith) ∙ field-at card i k h
+  field-in k h = decoded .fields .at (8 * i + k) (omega arith) ∙ field-at card i k h
 
   pub end-decoded : endIn d i ≡ endAt card i
   unfolding fieldsOf
@@ -335,7 +335,7 @@ module _ (card d : List ℕ) (decoded : Decoded card d) (i : ℕ) (within : i < 
   unfolding fieldsOf headIn
   head-decoded =
       let r : List ℕ = recordAt card i in
-      let kind : kindIn d i ≡ knownKind (kindAt card i) r = decoded .at (8 * i) (omega arith) ∙ field-first card i in
+      let kind : kindIn d i ≡ knownKind (kindAt card i) r = decoded .fields .at (8 * i) (omega arith) ∙ field-first card i in
       let table : getD d (8 * i + 2) 0 ≡ byteAt r 2 = field-in 2 (omega arith) in
       let comparison : getD d (8 * i + 3) 0 ≡ byteAt r 3 = field-in 3 (omega arith) in
       let left : valueIn (getD d (8 * i + 4) 0) (getD d (8 * i + 5) 0) ≡ valueFrom r 4 =

@@ -36,6 +36,11 @@ recordFrom card place = take recordSize (drop place card)
 abbrev pub RecordIn : List ℕ → ℕ → Type 0
 RecordIn card place = place + recordSize ≤ length card
 
+-- ---- how many numbers an entry is decoded to
+
+abbrev pub entrySize : ℕ
+entrySize = 8
+
 -- ---- an entry as eight numbers
 
 -- whether the fields of a record are as its kind wants them: a known comparison where one is used, and 0 in what is not used
@@ -73,32 +78,37 @@ fieldsOf card i =
     ∷ []
 
 unfoldable pub fieldOf : List ℕ → ℕ → ℕ
-fieldOf card q = getD (fieldsOf card (q / 8)) (q % 8) 0
+fieldOf card q = getD (fieldsOf card (q / entrySize)) (q % entrySize) 0
 
--- the array d has them for the entries of a card
-abbrev pub Decoded : List ℕ → List ℕ → Type 0
-Decoded card d = Holds d (8 * entryCount card) (fieldOf card)
+-- if a card is laid out, the array d has room for them
+abbrev pub Roomy : List ℕ → List ℕ → Type 0
+Roomy card d = Laid card → entrySize * entryCount card ≤ length d
+
+-- d has them
+pub record Decoded (card d : List ℕ) : Type 0 where
+  pub room : entrySize * entryCount card ≤ length d
+  pub fields : Holds d (entrySize * entryCount card) (fieldOf card)
 
 -- ---- the entries of an array
 
 module _ (d : List ℕ) (i : ℕ) where
   abbrev pub kindIn : ℕ
-  kindIn = getD d (8 * i) 0
+  kindIn = getD d (entrySize * i) 0
 
   abbrev pub endIn : ℕ
-  endIn = getD d (8 * i + 1) 0
+  endIn = getD d (entrySize * i + 1) 0
 
   abbrev pub tableIn : ℕ
-  tableIn = getD d (8 * i + 2) 0
+  tableIn = getD d (entrySize * i + 2) 0
 
   abbrev pub comparisonIn : ℕ
-  comparisonIn = getD d (8 * i + 3) 0
+  comparisonIn = getD d (entrySize * i + 3) 0
 
   abbrev pub leftIn : Value
-  leftIn = valueIn (getD d (8 * i + 4) 0) (getD d (8 * i + 5) 0)
+  leftIn = valueIn (getD d (entrySize * i + 4) 0) (getD d (entrySize * i + 5) 0)
 
   abbrev pub rightIn : Value
-  rightIn = valueIn (getD d (8 * i + 6) 0) (getD d (8 * i + 7) 0)
+  rightIn = valueIn (getD d (entrySize * i + 6) 0) (getD d (entrySize * i + 7) 0)
 
   -- what entry i says by itself
   unfoldable pub headIn : Option Head

@@ -6,15 +6,24 @@ ghost use lib.ListN.{length};
 ghost use Rattle.tables.specs.Lists.{all};
 ghost use Rattle.tables.specs.Bytes.{between};
 ghost use Rattle.tables.specs.Tables.{mostColumns};
-ghost use Rattle.card.specs.Layout.{tablesIn, columnsIn, zeros};
+ghost use Rattle.card.specs.Layout.{recordSize, tablesIn, columnsIn, zeros};
 ghost use Rattle.card.specs.Sound.{laid};
-ghost use Rattle.decoder.specs.Code.{Laid, recordFrom, RecordIn, fieldsFit, knownKind, numberFrom, Decoded};
+ghost use Rattle.decoder.specs.Code.{Laid, recordFrom, RecordIn, fieldsFit, knownKind, numberFrom, Roomy, Decoded};
+use card::AND_ENTRY;
+use card::BLANK;
+use card::COMPARISON_OR_NO;
+use card::COMPARISON_OR_YES;
 use card::COMPARISON_PLACE;
+use card::EVERY_ROW;
 use card::LEFT_PLACE;
 use card::MOST_ENTRIES;
+use card::NOT_BLANK;
+use card::OR_ENTRY;
 use card::RECORD_SIZE;
 use card::RIGHT_PLACE;
+use card::SOME_ROW;
 use card::TABLE_PLACE;
+use cells::MOST_TABLES;
 use cells::byte;
 use cells::read_excess;
 use cells::read16;
@@ -25,6 +34,21 @@ use values::CONSTANT;
 pub const FIELDS: usize = 8;
 
 pub const DECODED: usize = FIELDS * MOST_ENTRIES;
+
+// A card with no more entries than these is decoded into an array that is no longer: to set the numbers of an array for all entries to 0 takes longer than
+// to run a short card.
+pub const FEW_ENTRIES: usize = 16;
+
+pub const MIDDLE_ENTRIES: usize = 64;
+
+// The numbers of so many entries, and the bytes of the longest card that has no more.
+pub const FEW_DECODED: usize = FIELDS * FEW_ENTRIES;
+
+pub const MIDDLE_DECODED: usize = FIELDS * MIDDLE_ENTRIES;
+
+pub const SHORT_CARD: usize = 3 + MOST_TABLES + (1 + RECORD_SIZE) * FEW_ENTRIES;
+
+pub const MIDDLE_CARD: usize = 3 + MOST_TABLES + (1 + RECORD_SIZE) * MIDDLE_ENTRIES;
 
 // The order of an entry's numbers: its kind first, then these; and where the next entry's end stands.
 pub const END: usize = 1;
@@ -80,7 +104,7 @@ pub fn laid_out(card: &[u8]) -> bool
     if t < 1 {
         return false;
     }
-    if cells::MOST_TABLES < t {
+    if MOST_TABLES < t {
         return false;
     }
     if card.len() != 3 + t + (1 + RECORD_SIZE) * n {
@@ -91,7 +115,7 @@ pub fn laid_out(card: &[u8]) -> bool
 
 // Whether the bytes i up to j of the record at r are 0.
 fn zero_bytes(card: &[u8], r: usize, i: usize, j: usize) -> bool
-    requires { ⌜ RecordIn (now card) r ⌝ ∗ ⌜ (i ≤ j) × (j ≤ 14) ⌝ }
+    requires { ⌜ RecordIn (now card) r ⌝ ∗ ⌜ (i ≤ j) × (j ≤ recordSize) ⌝ }
     ensures { λ x. ⌜ x ≡ zeros (recordFrom (now (card .entry)) r) i j ⌝ }
 {
     let mut k: usize = i;
@@ -110,9 +134,9 @@ fn fields_fit(card: &[u8], r: usize, kind: usize) -> bool
     ensures { λ x. ⌜ x ≡ fieldsFit kind (recordFrom (now (card .entry)) r) ⌝ }
 {
     match kind {
-        1 | 2 => zero_bytes(card, r, TABLE_PLACE, RECORD_SIZE),
-        3 | 4 => zero_bytes(card, r, COMPARISON_PLACE, RECORD_SIZE),
-        5 | 6 => {
+        AND_ENTRY | OR_ENTRY => zero_bytes(card, r, TABLE_PLACE, RECORD_SIZE),
+        SOME_ROW | EVERY_ROW => zero_bytes(card, r, COMPARISON_PLACE, RECORD_SIZE),
+        COMPARISON_OR_NO | COMPARISON_OR_YES => {
             let op = byte(card, r + COMPARISON_PLACE);
             if op < 1 {
                 return false;
@@ -122,7 +146,7 @@ fn fields_fit(card: &[u8], r: usize, kind: usize) -> bool
             }
             zero_bytes(card, r, TABLE_PLACE, COMPARISON_PLACE)
         }
-        7 | 8 => {
+        BLANK | NOT_BLANK => {
             let before = zero_bytes(card, r, TABLE_PLACE, LEFT_PLACE);
             if !before {
                 return false;
@@ -148,7 +172,7 @@ fn known_kind(card: &[u8], r: usize, kind: usize) -> usize
 
 // The number of the value at place i of the record at r: a constant plus 2 ^ 31, or a column.
 fn number_at(card: &[u8], r: usize, i: usize) -> usize
-    requires { ⌜ RecordIn (now card) r ⌝ ∗ ⌜ i + 5 ≤ 14 ⌝ }
+    requires { ⌜ RecordIn (now card) r ⌝ ∗ ⌜ i + 5 ≤ recordSize ⌝ }
     ensures is { λ x. ⌜ x ≡ numberFrom (recordFrom (now (card .entry)) r) i ⌝ }
     ensures small { λ x. ⌜ x < 4294967296 ⌝ }
 {
@@ -160,8 +184,8 @@ fn number_at(card: &[u8], r: usize, i: usize) -> usize
 }
 
 // The entries of a card as numbers, eight for each: kind, end, table, comparison, and two values of a tag and a number each.
-pub fn decode(card: &[u8], d: &mut [usize; DECODED])
-    requires { ⌜ Laid (now card) ⌝ ∗ ⌜ length (now d) ≡ 1536 ⌝ }
+pub fn decode(card: &[u8], d: &mut [usize])
+    requires { ⌜ Laid (now card) ⌝ ∗ ⌜ Roomy (now card) (now d) ⌝ }
     ensures { λ _. ⌜ Decoded (now (card .entry)) (now (d .exit)) ⌝ }
 {
     let n = read16(card, 0);

@@ -7,7 +7,7 @@ use Rattle.card.specs.Card.{Interpretation, AsNo, AsYes, Leaf, CompareLeaf, Bla
 use Rattle.card.specs.Layout.{PairHead, RowHead, kindOf}
 use Rattle.rule.specs.Condition.{Test, Atom, Join, Not, Exists, Listed, Rule}
 use Rattle.translation.specs.Translation.{other, otherConnective, otherQuantifier, otherComparison, otherLeaf, negated, leafOf, cardOf}
-use Rattle.parser.proofs.Parts.{joinKind}
+use Rattle.rule.specs.Parts.{joinKind}
 use Rattle.records.specs.Code.{pairKindAs, rowKindAs}
 use Rattle.entries.specs.Code.{interpretationOf, leafAs, cardAs}
 

@@ -16,10 +16,10 @@ use Rattle.card.specs.Card.{CompareLeaf, Card, LeafEntry, PairEntry, RowEntry, 
 use Rattle.card.specs.Layout.{PairHead, kindOf as cardKind, valueBytes}
 use Rattle.rule.specs.Condition.{Compare, IsNull, IsNotNull, parts, fromsDeep}
 use Rattle.rule.specs.Names.{ValueFits, Fits}
-use Rattle.rule.specs.Parts.{taggedOf}
+use Rattle.rule.specs.Parts.{listKind, taggedOf}
 use Rattle.parser.specs.Parts.{SmallPart}
 use Rattle.parser.proofs.Small.{heldNumber}
-use Rattle.parser.proofs.Parts.{parts-low, listedKind, part-comparison, part-table, part-left-tag, part-left-number, part-right-tag, part-right-number, IsJoin, IsNot, IsCompare, IsExists, IsListed, is-join, is-not, is-compare, is-blank, is-present, is-exists, is-listed}
+use Rattle.parser.proofs.Parts.{parts-low, part-comparison, part-table, part-left-tag, part-left-number, part-right-tag, part-right-number, IsJoin, IsNot, IsCompare, IsExists, IsListed, is-join, is-not, is-compare, is-blank, is-present, is-exists, is-listed}
 use Rattle.records.specs.Code.{byteNumber, plainRecord, pairKindAs, rowKindAs}
 use Rattle.records.proofs.Flags.{row-small}
 use Rattle.entries.specs.Code.{interpretationOf, leafAs, nullLeaf, cardAs, Room, Wrote, valueBytesIn, CompareReady, ComparedTo, NullReady, NulledTo, Writable, WroteTo}
@@ -62,7 +62,7 @@ pair-small And = omega arith
 pair-small Or = omega arith
 
 -- ALL is kind 9
-every-row : (q : Quantifier) (negate : Bool) → not (Bool·beq (eqb (listedKind q) 9) negate) ≡ everyRow q negate
+every-row : (q : Quantifier) (negate : Bool) → not (Bool·beq (eqb (listKind q) 9) negate) ≡ everyRow q negate
 every-row Some false = refl
 every-row Some true = refl
 every-row All false = refl

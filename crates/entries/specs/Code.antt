@@ -9,9 +9,12 @@ use Rattle.tables.specs.Lists.{placed}
 use Rattle.tables.specs.Bytes.{bytes32}
 use Rattle.tables.specs.Values.{Value, Comparison, comparisonNumber}
 use Rattle.card.specs.Card.{Interpretation, AsNo, AsYes, Leaf, CompareLeaf, BlankLeaf, NotBlankLeaf, Card, LeafEntry, entries}
-use Rattle.card.specs.Layout.{valueBytes, kindBytes, recordsFrom}
+use Rattle.card.specs.Layout.{recordSize, valueBytes, kindBytes, recordsFrom}
+use Rattle.card.specs.Sound.{mostEntries}
 use Rattle.rule.specs.Condition.{Rule, parts, fromsDeep}
-use Rattle.rule.specs.Names.{Fits}
+use Rattle.rule.specs.Names.{mostParts, Fits}
+use Rattle.rule.specs.Parts.{nullKind, notNullKind}
+use Rattle.names.specs.Code.{partSize, partsSize}
 use Rattle.translation.specs.Translation.{otherLeaf, negated, cardOf}
 use Rattle.parser.specs.Parts.{Stands, SmallPart, SmallParts}
 use Rattle.records.specs.Code.{byteNumber}
@@ -34,15 +37,15 @@ cardAs true unknown r = negated (cardOf (interpretationOf unknown) r)
 
 -- there is room for so many entries from number k on
 pub record Room (kinds records : List ℕ) (k n : ℕ) : Type 0 where
-  pub kinds-size : length kinds ≡ 192
-  pub kinds-fit : k + n ≤ 192
-  pub records-fit : 14 * (k + n) ≤ length records
+  pub kinds-size : length kinds ≡ mostEntries
+  pub kinds-fit : k + n ≤ mostEntries
+  pub records-fit : recordSize * (k + n) ≤ length records
 
 -- the entries of a card are written
 pub record Wrote (k : ℕ) (c : Card) (kinds records kinds′ records′ : List ℕ) (r : ℕ) : Type 0 where
   pub next : r ≡ k + entries c
   pub kinds-are : kinds′ ≡ placed kinds k (kindBytes c)
-  pub records-are : records′ ≡ placed records (14 * k) (recordsFrom k c)
+  pub records-are : records′ ≡ placed records (recordSize * k) (recordsFrom k c)
 
 -- the value of two numbers of a part, from number i on, as a card has it
 abbrev pub valueBytesIn : List ℕ → ℕ → List ℕ
@@ -50,16 +53,16 @@ valueBytesIn p i = getD p i 0 ∷ bytes32 (byteNumber (getD p i 0) (getD p (i + 
 
 -- part s has a comparison and two values: it is a comparison, or a list
 pub record CompareReady (p : List ℕ) (s : ℕ) (kinds records : List ℕ) (k : ℕ) : Type 0 where
-  pub size : length p ≡ 512
-  pub few : s < 64
+  pub size : length p ≡ partsSize
+  pub few : s < mostParts
   pub small : SmallPart p s
   pub room : Room kinds records k 1
   pub comparison : Comparison
   pub left : Value
   pub right : Value
-  pub comparison-is : getD p (8 * s + 1) 0 ≡ comparisonNumber comparison
-  pub left-is : valueBytesIn p (8 * s + 4) ≡ valueBytes left
-  pub right-is : valueBytesIn p (8 * s + 6) ≡ valueBytes right
+  pub comparison-is : getD p (partSize * s + 1) 0 ≡ comparisonNumber comparison
+  pub left-is : valueBytesIn p (partSize * s + 4) ≡ valueBytes left
+  pub right-is : valueBytesIn p (partSize * s + 6) ≡ valueBytes right
 
 abbrev pub ComparedTo : (p : List ℕ) (s : ℕ) (negate unknown : Bool) (kinds records kinds′ records′ : List ℕ) (k : ℕ) → ℕ → Type 0
 ComparedTo p s negate unknown kinds records kinds′ records′ k r =
@@ -73,14 +76,14 @@ nullLeaf false l = NotBlankLeaf l
 
 -- part s is IS NULL, or IS NOT NULL
 pub record NullReady (p : List ℕ) (s : ℕ) (kinds records : List ℕ) (k : ℕ) : Type 0 where
-  pub size : length p ≡ 512
-  pub few : s < 64
+  pub size : length p ≡ partsSize
+  pub few : s < mostParts
   pub small : SmallPart p s
   pub room : Room kinds records k 1
   pub blank : Bool
   pub left : Value
-  pub kind-is : getD p (8 * s) 0 ≡ cond blank 5 6
-  pub left-is : valueBytesIn p (8 * s + 4) ≡ valueBytes left
+  pub kind-is : getD p (partSize * s) 0 ≡ cond blank nullKind notNullKind
+  pub left-is : valueBytesIn p (partSize * s + 4) ≡ valueBytes left
 
 abbrev pub NulledTo : (p : List ℕ) (s : ℕ) (negate : Bool) (kinds records kinds′ records′ : List ℕ) (k : ℕ) → ℕ → Type 0
 NulledTo p s negate kinds records kinds′ records′ k r =
@@ -89,10 +92,10 @@ NulledTo p s negate kinds records kinds′ records′ k r =
 -- the parts from number s on are those of a rule that fits its tables, and there is room for the entries of its card
 pub record Writable (p : List ℕ) (s : ℕ) (negate unknown : Bool) (kinds records : List ℕ) (k : ℕ) : Type 0 where
   pub rule : Rule
-  pub size : length p ≡ 512
+  pub size : length p ≡ partsSize
   pub stands : Stands p s rule
   pub count : ℕ
-  pub few : count ≤ 64
+  pub few : count ≤ mostParts
   pub within : s + parts rule ≤ count
   pub small : SmallParts p count
   pub columns : List ℕ

@@ -5,6 +5,9 @@
 ghost use mathlib.Core.Path.{_≡_};
 ghost use Prim.Native.Nat.{_*_, _≤_};
 ghost use lib.ListN.{getD};
+ghost use Rattle.tables.specs.Values.{And, Or, Some};
+ghost use Rattle.rule.specs.Parts.{joinKind, listKind, existsKind};
+ghost use Rattle.names.specs.Code.{partSize};
 ghost use Rattle.entries.specs.Code.{CompareReady, ComparedTo, NullReady, NulledTo, Writable, WroteTo};
 use card::MOST_ENTRIES;
 use card::RECORD_SIZE;
@@ -18,6 +21,14 @@ use names::PART_RIGHT_NUMBER;
 use names::PART_RIGHT_TAG;
 use names::PART_TABLE;
 use records::LeafNumbers;
+use rule::ALL_PART;
+use rule::AND_PART;
+use rule::COMPARISON_PART;
+use rule::EXISTS_PART;
+use rule::NOT_NULL_PART;
+use rule::NOT_PART;
+use rule::NULL_PART;
+use rule::OR_PART;
 
 // The comparison of part s, a list's too, as entry k.
 fn write_comparison(
@@ -83,12 +94,12 @@ pub fn write_part(
 {
     let kind = p[PART_FIELDS * s];
     match kind {
-        1 | 2 => write_pair(p, s, negate, unknown, kinds, records, k),
+        AND_PART | OR_PART => write_pair(p, s, negate, unknown, kinds, records, k),
         // NOT has no entry: what is under it is negated, in the other interpretation.
-        3 => write_part(p, s + 1, !negate, !unknown, kinds, records, k),
-        4 => write_comparison(p, s, negate, unknown, kinds, records, k),
-        5 | 6 => write_null(p, s, negate, kinds, records, k),
-        7 => write_exists(p, s, negate, unknown, kinds, records, k),
+        NOT_PART => write_part(p, s + 1, !negate, !unknown, kinds, records, k),
+        COMPARISON_PART => write_comparison(p, s, negate, unknown, kinds, records, k),
+        NULL_PART | NOT_NULL_PART => write_null(p, s, negate, kinds, records, k),
+        EXISTS_PART => write_exists(p, s, negate, unknown, kinds, records, k),
         _ => write_list(p, s, negate, unknown, kinds, records, k),
     }
 }
@@ -103,7 +114,7 @@ fn write_pair(
     records: &mut [u8],
     k: usize,
 ) -> usize
-    requires { ⌜ Writable (now p) s negate unknown (now kinds) (now records) k ⌝ ∗ ⌜ (1 ≤ getD (now p) (8 * s) 0) × (getD (now p) (8 * s) 0 ≤ 2) ⌝ }
+    requires { ⌜ Writable (now p) s negate unknown (now kinds) (now records) k ⌝ ∗ ⌜ (joinKind And ≤ getD (now p) (partSize * s) 0) × (getD (now p) (partSize * s) 0 ≤ joinKind Or) ⌝ }
     ensures { λ r. ⌜ WroteTo (now (p .entry)) s negate unknown (now (kinds .entry)) (now (records .entry)) (now (kinds .exit)) (now (records .exit)) k r ⌝ }
 {
     let kind = records::pair_kind(p[PART_FIELDS * s], negate);
@@ -125,7 +136,7 @@ fn write_exists(
     records: &mut [u8],
     k: usize,
 ) -> usize
-    requires { ⌜ Writable (now p) s negate unknown (now kinds) (now records) k ⌝ ∗ ⌜ getD (now p) (8 * s) 0 ≡ 7 ⌝ }
+    requires { ⌜ Writable (now p) s negate unknown (now kinds) (now records) k ⌝ ∗ ⌜ getD (now p) (partSize * s) 0 ≡ existsKind ⌝ }
     ensures { λ r. ⌜ WroteTo (now (p .entry)) s negate unknown (now (kinds .entry)) (now (records .entry)) (now (kinds .exit)) (now (records .exit)) k r ⌝ }
 {
     let kind = records::row_kind(negate);
@@ -147,13 +158,19 @@ fn write_list(
     records: &mut [u8],
     k: usize,
 ) -> usize
-    requires { ⌜ Writable (now p) s negate unknown (now kinds) (now records) k ⌝ ∗ ⌜ 8 ≤ getD (now p) (8 * s) 0 ⌝ }
+    requires { ⌜ Writable (now p) s negate unknown (now kinds) (now records) k ⌝ ∗ ⌜ listKind Some ≤ getD (now p) (partSize * s) 0 ⌝ }
     ensures { λ r. ⌜ WroteTo (now (p .entry)) s negate unknown (now (kinds .entry)) (now (records .entry)) (now (kinds .exit)) (now (records .exit)) k r ⌝ }
 {
-    let every = (p[PART_FIELDS * s] == 9) != negate;
+    let every = (p[PART_FIELDS * s] == ALL_PART) != negate;
     let table = p[PART_FIELDS * s + PART_TABLE];
     records::put_plain(kinds, records, k, records::row_kind(every), table);
-    records::put_plain(kinds, records, k + 1, records::pair_kind(1, every), 0);
+    records::put_plain(
+        kinds,
+        records,
+        k + 1,
+        records::pair_kind(AND_PART, every),
+        0,
+    );
     let last = write_part(p, s + 1, every, false, kinds, records, k + 2);
     let end = write_comparison(p, s, negate, unknown, kinds, records, last);
     records::put16(records, RECORD_SIZE * (k + 1), end);

@@ -20,9 +20,11 @@ use Rattle.values.proofs.Ranging.{NextRow, next-none, next-more, table-bounds, 
 use Rattle.rule.specs.Condition.{Atom, Join, Not, Exists, Listed, Rule, parts, fromsDeep}
 use Rattle.rule.specs.Names.{ValueFits, TestFits, TableFits, Fits}
 use Rattle.rule.specs.Meaning.{Truth, False, truth, isTrue, compare3, join3, over3, meaning, truthNumber}
+use Rattle.rule.specs.Parts.{joinKind, listKind}
 use Rattle.parser.specs.Parts.{Stands}
-use Rattle.parser.proofs.Parts.{parts-low, kind-low, kind-high, part-comparison, part-table, part-left-tag, part-left-number, part-right-tag, part-right-number, joinKind, listedKind, IsTest, IsJoin, IsNot, IsExists, IsListed, is-test, is-join, is-not, is-exists, is-listed}
-use Rattle.evaluator.specs.Code.{unlessUnknown, emptyOver, listKind, OverNone, TestReady, TestEvaluated, Evaluable, Evaluates, RowReady, RowEvaluated}
+use Rattle.tables.proofs.Rows.{any-kept}
+use Rattle.parser.proofs.Parts.{parts-low, kind-low, kind-high, part-comparison, part-table, part-left-tag, part-left-number, part-right-tag, part-right-number, IsTest, IsJoin, IsNot, IsExists, IsListed, is-test, is-join, is-not, is-exists, is-listed}
+use Rattle.evaluator.specs.Code.{unlessUnknown, emptyOver, OverNone, TestReady, TestEvaluated, Evaluable, Evaluates, RowReady, RowEvaluated}
 use Rattle.evaluator.proofs.Truths.{rank-high, and-rank, or-rank, not-rank, and-stop, or-stop, is-kept, not-kept, emptyTruth, empty-rank, over-kept, exists-some, over-more, over-stop, over-on, quantifierBy, none-rank, none-open, more-open, none-of, none-is}
 use Rattle.evaluator.proofs.Testing.{value-ready, value-seen}
 
@@ -54,7 +56,7 @@ join-kinds : (j : Connective) → (1 ≤ joinKind j) × (joinKind j ≤ 2)
 join-kinds And = (omega arith, omega arith)
 join-kinds Or = (omega arith, omega arith)
 
-same-quantifier : (i j : Quantifier) → listedKind i ≡ listKind j → i ≡ j
+same-quantifier : (i j : Quantifier) → listKind i ≡ listKind j → i ≡ j
 same-quantifier Some Some e = refl
 same-quantifier Some All e = absurd (omega arith)
 same-quantifier All Some e = absurd (omega arith)
@@ -394,6 +396,7 @@ module _ {p g file w : List ℕ} {s depth : ℕ} (h : Evaluable p g file w s dep
           ∙ sym (exists-some retained (tabulate n f))
           ∙ ap (λ rows. truth (any retained rows)) (sym (table exists-ranging there .rows-are))
           ∙ ap (λ (t : ℕ). truth (any retained (rowsOf (tablesOf file) t))) exists-table
+          ∙ ap truth (any-kept retained (rowsOf (tablesOf file) (exists-here .table)))
           ∙ means-as (exists-here .is)
 
       module _ {r first : ℕ} {v : List ℕ} (below : r < at .rows) (passed : RowsPassed p g file w s depth 0 at r first 0 v) where

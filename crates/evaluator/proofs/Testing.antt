@@ -5,11 +5,8 @@ use mathlib.Core.List.{List}
 use Prim.Native.Nat.{ℕ, _+_, _*_, _≤_}
 use native.Mathlib.Omega.{arith}
 use borrow.Author.Tests.{ne-eqb}
-use lib.Dec.{T, ltb, lt→ltb}
-use lib.Ieee.Fits.{and-i}
+use lib.Dec.{T}
 use lib.ListN.{length, getD}
-use Rattle.tables.specs.Lists.{numbered}
-use Rattle.tables.specs.Bytes.{between}
 use Rattle.tables.specs.Tables.{columnsOf}
 use Rattle.tables.specs.Values.{constantTag, Value, Constant, Column, Comparison, comparisonOf, Env, cellOf, isBlank, valueFits}
 use Rattle.tables.proofs.Values.{comparison-back}
@@ -22,6 +19,7 @@ use Rattle.rule.specs.Names.{ValueFits, TestFits}
 use Rattle.rule.specs.Parts.{taggedOf, AtomHead, partOf}
 use Rattle.rule.specs.Meaning.{truth, compare3, test3, truthNumber}
 use Rattle.parser.specs.Parts.{PartAt}
+use Rattle.rule.proofs.Fits.{value-tested}
 use Rattle.cells.proofs.Signed.{from-to}
 use Rattle.parser.proofs.Small.{heldNumber}
 use Rattle.parser.proofs.Parts.{part-kind, part-comparison, part-left-tag, part-left-number, part-right-tag, part-right-number}
@@ -35,11 +33,6 @@ pub value-held : (columns levels : List ℕ) (v : Value) → length levels ≤ 4
 unfolding valueIn
 value-held columns levels (Constant k) few f = ap Constant (from-to k f)
 value-held columns levels (Column l c) few f = let h = f .0 in rw (ne-eqb l constantTag (λ e. omega arith))
-
-value-tested : (columns levels : List ℕ) (v : Value) → ValueFits columns levels v → T (valueFits columns levels v)
-value-tested columns levels (Constant k) f = f
-value-tested columns levels (Column l c) f =
-    and-i (ltb l (length levels)) (between 1 (numbered columns (getD levels l 0) 0) c) (lt→ltb l (length levels) (f .0)) (f .1)
 
 module _ {g file w levels : List ℕ} {env : Env} (readable : Readable g file w levels env) (v : Value) (fits : ValueFits (columnsOf file) levels v)
     {tag n : ℕ} (tag-is : tag ≡ taggedOf v .tag) (number-is : n ≡ heldNumber (taggedOf v)) where

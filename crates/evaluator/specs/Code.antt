@@ -12,9 +12,10 @@ use Rattle.cells.specs.Code.{seenCell}
 use Rattle.cells.specs.declared.Seen.{Seen}
 use Rattle.values.specs.Code.{Readable}
 use Rattle.rule.specs.Condition.{Test, Rule, parts, fromsDeep}
-use Rattle.rule.specs.Names.{ValueFits, TestFits, Fits}
-use Rattle.rule.specs.Parts.{AtomHead, ListedHead, partOf}
+use Rattle.rule.specs.Names.{mostParts, ValueFits, TestFits, Fits}
+use Rattle.rule.specs.Parts.{AtomHead, ListedHead, listKind, partOf}
 use Rattle.rule.specs.Meaning.{test3, compare3, isTrue, meaning, truthNumber}
+use Rattle.names.specs.Code.{partsSize}
 use Rattle.parser.specs.Parts.{PartAt, Stands}
 
 -- ---- truth values as numbers
@@ -27,10 +28,6 @@ unlessUnknown row value = cond (eqb row 1) 1 value
 abbrev pub emptyOver : Quantifier → ℕ
 emptyOver Some = 0
 emptyOver All = 2
-
-abbrev pub listKind : Quantifier → ℕ
-listKind Some = 8
-listKind All = 9
 
 -- empty is the value over no rows of a list of this kind
 pub record OverNone (kind empty : ℕ) : Type 0 where
@@ -45,8 +42,8 @@ pub record TestReady (p g file w : List ℕ) (s : ℕ) : Type 0 where
   pub env : Env
   pub test : Test Value
   pub readable : Readable g file w levels env
-  pub size : length p ≡ 512
-  pub few : s < 64
+  pub size : length p ≡ partsSize
+  pub few : s < mostParts
   pub here : PartAt p s (partOf (s + 1) (AtomHead test))
   pub fits : TestFits (columnsOf file) levels test
 
@@ -58,8 +55,8 @@ pub record Evaluable (p g file w : List ℕ) (s depth : ℕ) : Type 0 where
   pub env : Env
   pub rule : Rule
   pub readable : Readable g file w levels env
-  pub size : length p ≡ 512
-  pub few : s + parts rule ≤ 64
+  pub size : length p ≡ partsSize
+  pub few : s + parts rule ≤ mostParts
   pub stands : Stands p s rule
   pub deep : depth ≡ length levels
   pub room : depth + fromsDeep rule ≤ 4

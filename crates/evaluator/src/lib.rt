@@ -5,9 +5,11 @@
 ghost use mathlib.Core.Path.{_≡_};
 ghost use Prim.Native.Nat.{_*_, min, max};
 ghost use lib.ListN.{getD};
-ghost use Rattle.tables.specs.Values.{comparisonOf};
+ghost use Rattle.tables.specs.Values.{comparisonOf, And, Or};
 ghost use Rattle.cells.specs.Code.{seenCell};
 ghost use Rattle.rule.specs.Meaning.{truth, compare3, truthNumber};
+ghost use Rattle.rule.specs.Parts.{joinKind, existsKind};
+ghost use Rattle.names.specs.Code.{partSize};
 ghost use Rattle.evaluator.specs.Code.{unlessUnknown, TestReady, TestEvaluated, Evaluable, Evaluates, RowReady, RowEvaluated, OverNone};
 use cells::PLACES;
 use cells::Seen;
@@ -20,6 +22,15 @@ use names::PART_NUMBERS;
 use names::PART_RIGHT_NUMBER;
 use names::PART_RIGHT_TAG;
 use names::PART_TABLE;
+use rule::ALL_PART;
+use rule::AND_PART;
+use rule::COMPARISON_PART;
+use rule::EXISTS_PART;
+use rule::NOT_NULL_PART;
+use rule::NOT_PART;
+use rule::NULL_PART;
+use rule::OR_PART;
+use rule::SOME_PART;
 use values::LEVELS;
 
 const FALSE: usize = 0;
@@ -85,10 +96,10 @@ fn evaluate_test(
         p[PART_FIELDS * s + PART_LEFT_TAG],
         p[PART_FIELDS * s + PART_LEFT_NUMBER],
     );
-    if kind == 5 {
+    if kind == NULL_PART {
         return truth_of(x.blank);
     }
-    if kind == 6 {
+    if kind == NOT_NULL_PART {
         return truth_of(!x.blank);
     }
     let y = values::look(
@@ -115,15 +126,15 @@ pub fn evaluate_part(
 {
     let kind = p[PART_FIELDS * s];
     match kind {
-        1 => evaluate_and(p, g, file, s, w, depth),
-        2 => evaluate_or(p, g, file, s, w, depth),
-        3 => {
+        AND_PART => evaluate_and(p, g, file, s, w, depth),
+        OR_PART => evaluate_or(p, g, file, s, w, depth),
+        NOT_PART => {
             let inner = evaluate_part(p, g, file, s + 1, w, depth);
             TRUE - inner
         }
-        7 => evaluate_exists(p, g, file, s, w, depth),
-        8 => evaluate_list(p, g, file, s, w, depth, FALSE),
-        9 => evaluate_list(p, g, file, s, w, depth, TRUE),
+        EXISTS_PART => evaluate_exists(p, g, file, s, w, depth),
+        SOME_PART => evaluate_list(p, g, file, s, w, depth, FALSE),
+        ALL_PART => evaluate_list(p, g, file, s, w, depth, TRUE),
         _ => evaluate_test(p, g, file, s, w),
     }
 }
@@ -136,7 +147,7 @@ fn evaluate_and(
     w: &[usize; LEVELS],
     depth: usize,
 ) -> usize
-    requires { ⌜ Evaluable (now p) (now g) (now file) (now w) s depth ⌝ ∗ ⌜ getD (now p) (8 * s) 0 ≡ 1 ⌝ }
+    requires { ⌜ Evaluable (now p) (now g) (now file) (now w) s depth ⌝ ∗ ⌜ getD (now p) (partSize * s) 0 ≡ joinKind And ⌝ }
     ensures { λ r. ⌜ Evaluates (now (p .entry)) (now (g .entry)) (now (file .entry)) (now (w .entry)) s depth r ⌝ }
 {
     let left = evaluate_part(p, g, file, s + 1, w, depth);
@@ -156,7 +167,7 @@ fn evaluate_or(
     w: &[usize; LEVELS],
     depth: usize,
 ) -> usize
-    requires { ⌜ Evaluable (now p) (now g) (now file) (now w) s depth ⌝ ∗ ⌜ getD (now p) (8 * s) 0 ≡ 2 ⌝ }
+    requires { ⌜ Evaluable (now p) (now g) (now file) (now w) s depth ⌝ ∗ ⌜ getD (now p) (partSize * s) 0 ≡ joinKind Or ⌝ }
     ensures { λ r. ⌜ Evaluates (now (p .entry)) (now (g .entry)) (now (file .entry)) (now (w .entry)) s depth r ⌝ }
 {
     let left = evaluate_part(p, g, file, s + 1, w, depth);
@@ -168,6 +179,25 @@ fn evaluate_or(
     greater(left, right)
 }
 
+// The value of part s, the WHERE of EXISTS or of a list, at a row. Where it is a single test, no recursive call is made for each row.
+fn evaluate_where(
+    p: &[usize; PART_NUMBERS],
+    g: &[usize; PLACES],
+    file: &[u8],
+    s: usize,
+    v: &[usize; LEVELS],
+    depth: usize,
+) -> usize
+    requires { ⌜ Evaluable (now p) (now g) (now file) (now v) s depth ⌝ }
+    ensures { λ r. ⌜ Evaluates (now (p .entry)) (now (g .entry)) (now (file .entry)) (now (v .entry)) s depth r ⌝ }
+{
+    let kind = p[PART_FIELDS * s];
+    match kind {
+        COMPARISON_PART | NULL_PART | NOT_NULL_PART => evaluate_test(p, g, file, s, v),
+        _ => evaluate_part(p, g, file, s, v, depth),
+    }
+}
+
 // EXISTS: true as soon as its WHERE is true on a row.
 fn evaluate_exists(
     p: &[usize; PART_NUMBERS],
@@ -177,7 +207,7 @@ fn evaluate_exists(
     w: &[usize; LEVELS],
     depth: usize,
 ) -> usize
-    requires { ⌜ Evaluable (now p) (now g) (now file) (now w) s depth ⌝ ∗ ⌜ getD (now p) (8 * s) 0 ≡ 7 ⌝ }
+    requires { ⌜ Evaluable (now p) (now g) (now file) (now w) s depth ⌝ ∗ ⌜ getD (now p) (partSize * s) 0 ≡ existsKind ⌝ }
     ensures { λ r. ⌜ Evaluates (now (p .entry)) (now (g .entry)) (now (file .entry)) (now (w .entry)) s depth r ⌝ }
 {
     let table = cells::table_place(g, p[PART_FIELDS * s + PART_TABLE]);
@@ -186,7 +216,7 @@ fn evaluate_exists(
     let mut r: usize = 0;
     while r < table.rows {
         v[depth] = first;
-        let kept = evaluate_part(p, g, file, s + 1, &v, depth + 1);
+        let kept = evaluate_where(p, g, file, s + 1, &v, depth + 1);
         if kept == TRUE {
             return TRUE;
         }
@@ -211,7 +241,7 @@ fn evaluate_row(
     requires { ⌜ RowReady (now p) (now g) (now file) (now v) s depth empty x ⌝ }
     ensures { λ r. ⌜ RowEvaluated (now (p .entry)) (now (g .entry)) (now (file .entry)) (now (v .entry)) s depth empty x r ⌝ }
 {
-    let kept = evaluate_part(p, g, file, s + 1, v, depth);
+    let kept = evaluate_where(p, g, file, s + 1, v, depth);
     if kept != TRUE {
         return empty;
     }
@@ -245,7 +275,7 @@ fn evaluate_list(
     depth: usize,
     empty: usize,
 ) -> usize
-    requires { ⌜ Evaluable (now p) (now g) (now file) (now w) s depth ⌝ ∗ ⌜ OverNone (getD (now p) (8 * s) 0) empty ⌝ }
+    requires { ⌜ Evaluable (now p) (now g) (now file) (now w) s depth ⌝ ∗ ⌜ OverNone (getD (now p) (partSize * s) 0) empty ⌝ }
     ensures { λ r. ⌜ Evaluates (now (p .entry)) (now (g .entry)) (now (file .entry)) (now (w .entry)) s depth r ⌝ }
 {
     let table = cells::table_place(g, p[PART_FIELDS * s + PART_TABLE]);

@@ -60,7 +60,7 @@ module _ (card file d g : List ℕ) (o : Opened card file d g) (place : Place) (
         readable = row-readable file g (o .sized) (o .places) row first (rw is at below) (rw is at starts) w size stands;
         coded = rw whole whole-card;
         deep = refl;
-        few = omega (arith, laid-out card (o .sound-is) .entries-high);
+        room = rw whole (o .decoded .room);
         fits = fits-file;
       }
 

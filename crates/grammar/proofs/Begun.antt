@@ -14,8 +14,9 @@ use Rattle.tables.proofs.Values.{comparison-number}
 use Rattle.cells.specs.Code.{fromExcess}
 use Rattle.cells.proofs.Signed.{to-from}
 use Rattle.rule.specs.Condition.{Over, WrittenValue, parts, fromsDeep}
+use Rattle.rule.specs.Parts.{listKind}
 use Rattle.rule.specs.Reader.{readValue, readFrom, Around, OfList, startList}
-use Rattle.grammar.specs.Code.{tokensFrom, writtenNumbers, writtenOf, noteNumbers, listKind, noted, ValueIs, ValueAt, FromIs, FromAt, AroundIs}
+use Rattle.grammar.specs.Code.{tokensFrom, writtenNumbers, writtenOf, noteNumbers, noted, ValueIs, ValueAt, FromIs, FromAt, AroundIs}
 use Rattle.grammar.specs.declared.Note.{Note}
 use Rattle.grammar.specs.declared.ValueRead.{ValueRead}
 use Rattle.grammar.specs.declared.ValueRead.the-variants.{Value as ReadValue, NoValue}

@@ -12,6 +12,8 @@ use Rattle.tables.specs.Values.{comparisonNumber, comparisonOf, And, Or, Quanti
 use Rattle.cells.specs.Code.{fromExcess, toExcess}
 use Rattle.rule.specs.Tokens.{Close}
 use Rattle.rule.specs.Condition.{Compare, IsNull, IsNotNull, Atom, Join, Not, Exists, Listed, WrittenValue, Plain, Named, Over, WrittenCondition, parts, fromsDeep}
+use Rattle.rule.specs.Names.{mostParts}
+use Rattle.rule.specs.Parts.{listKind}
 use Rattle.rule.specs.Grammar.{Tokens}
 use Rattle.rule.specs.Reader.{expect, readValue, readFrom, Opening, Bracket, closed, Start, Whole, Around, startList, startValue, start, Goal, condition, factor, test, Found, reading, readAll}
 use Rattle.lexer.specs.Code.{tokensIn}
@@ -24,6 +26,14 @@ use Rattle.grammar.specs.declared.Start.{Start as Started}
 use Rattle.grammar.specs.declared.Start.the-variants.{Whole as StartedWhole, Around as StartedAround, Bracket as StartedBracket, NoTest}
 use Rattle.grammar.specs.declared.Step.{Step}
 use Rattle.grammar.specs.declared.Step.the-variants.{Next, NoReading}
+
+-- ---- how many numbers a part is noted as, and those of as many as a rule may have
+
+abbrev pub noteSize : ℕ
+noteSize = 8
+
+abbrev pub notesSize : ℕ
+notesSize = noteSize * mostParts
 
 -- ---- a part as numbers
 
@@ -51,10 +61,6 @@ plainNoteNumbers kind = leftNumbers kind 0 0
 abbrev pub notNumbers : ℕ → List ℕ
 notNumbers zero = []
 notNumbers (suc k) = notNumbers k ++ plainNoteNumbers 3
-
-abbrev pub listKind : Quantifier → ℕ
-listKind Some = 8
-listKind All = 9
 
 -- the parts of a condition as they are written, each after its inner parts
 unfoldable pub noted : WrittenCondition → List ℕ
@@ -157,7 +163,7 @@ pub record Ready (s : List ℕ) (at w : ℕ) (out : List ℕ) : Type 0 where
   pub short : length s ≤ 4096
   pub within : at ≤ length s
   pub few : w ≤ at
-  pub size : length out ≡ 512
+  pub size : length out ≡ notesSize
 
 -- a reading from one place up to another: w parts were noted before, n are now, and `deep` FROMs stand around one another
 pub record Reads (found : Found) (s : List ℕ) (at w : ℕ) (old new : List ℕ) (next n deep : ℕ) : Type 0 where
@@ -167,7 +173,7 @@ pub record Reads (found : Found) (s : List ℕ) (at w : ℕ) (old new : List ℕ
   pub count : n ≡ w + parts tree
   pub froms : deep ≡ fromsDeep tree
   pub used : n + at ≤ next + w
-  pub notes : n ≤ 64 → take (8 * n) new ≡ take (8 * w) old ++ noted tree
+  pub notes : n ≤ mostParts → take (noteSize * n) new ≡ take (noteSize * w) old ++ noted tree
 
 abbrev pub ReadsAs : Found → (s : List ℕ) (at w : ℕ) (old new : List ℕ) → Step → Type 0
 ReadsAs found s at w old new (Next next n deep) = Reads found s at w old new next n deep
@@ -189,7 +195,7 @@ pub record WholeReading (s new : List ℕ) (n deep : ℕ) : Type 0 where
   pub reads : readAll (tokensIn s) ≡ some tree
   pub count : n ≡ parts tree
   pub froms : deep ≡ fromsDeep tree
-  pub notes : n ≤ 64 → take (8 * n) new ≡ noted tree
+  pub notes : n ≤ mostParts → take (noteSize * n) new ≡ noted tree
 
 abbrev pub ReadsAll : List ℕ → List ℕ → Step → Type 0
 ReadsAll s new (Next next n deep) = WholeReading s new n deep

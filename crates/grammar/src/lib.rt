@@ -4,8 +4,9 @@ ghost use mathlib.Core.Path.{_≡_};
 ghost use mathlib.Core.List.{_++_};
 ghost use Prim.Native.Nat.{max, _+_, _*_, _<_, _≤_};
 ghost use lib.ListN.{length, take, getD};
+ghost use Rattle.rule.specs.Names.{mostParts};
 ghost use Rattle.rule.specs.Reader.{condition, conjunction, factor, test};
-ghost use Rattle.grammar.specs.Code.{noteNumbers, leftNumbers, notNumbers, ValueAt, FromAt, ListAt, BehindAt, TestAt, NotsTo, Ready, ReadsTo, ReadsClosed, ReadsAll};
+ghost use Rattle.grammar.specs.Code.{noteSize, notesSize, noteNumbers, leftNumbers, notNumbers, ValueAt, FromAt, ListAt, BehindAt, TestAt, NotsTo, Ready, ReadsTo, ReadsClosed, ReadsAll};
 use lexer::ALL;
 use lexer::AND;
 use lexer::CLOSE;
@@ -23,11 +24,25 @@ use lexer::POINT;
 use lexer::SELECT;
 use lexer::SOME;
 use lexer::WHERE;
+use rule::ALL_PART;
+use rule::AND_PART;
+use rule::COMPARISON_PART;
+use rule::EXISTS_PART;
+use rule::NOT_NULL_PART;
+use rule::NOT_PART;
+use rule::NULL_PART;
+use rule::OR_PART;
+use rule::SOME_PART;
 
 // Limits on a rule.
 pub const MOST_PARTS: usize = 64;
 
 pub const MOST_FROMS: usize = 3;
+
+// The numbers of the comparisons that IN and NOT IN stand for.
+const EQUAL: usize = 1;
+
+const NOT_EQUAL: usize = 2;
 
 // The numbers that a part is noted as, and those of all parts.
 pub const NOTE_FIELDS: usize = 8;
@@ -225,7 +240,7 @@ fn start_null(s: &[usize], at: usize, letter: usize, number: usize) -> Start
     let t = token(s, at + 1);
     if t == NULL {
         return Start::Whole {
-            note: null_note(5, letter, number),
+            note: left_note(NULL_PART, letter, number),
             next: at + 2,
         };
     }
@@ -236,13 +251,13 @@ fn start_null(s: &[usize], at: usize, letter: usize, number: usize) -> Start
         return Start::NoTest;
     }
     Start::Whole {
-        note: null_note(6, letter, number),
+        note: left_note(NOT_NULL_PART, letter, number),
         next: at + 3,
     }
 }
 
-// What IS NULL and IS NOT NULL say.
-fn null_note(kind: usize, letter: usize, number: usize) -> Note
+// What a part says that has a left value alone: IS NULL and IS NOT NULL.
+fn left_note(kind: usize, letter: usize, number: usize) -> Note
     ensures { λ r. ⌜ noteNumbers r ≡ leftNumbers kind letter number ⌝ }
 {
     Note {
@@ -265,10 +280,10 @@ fn start_comparison(s: &[usize], at: usize, letter: usize, number: usize) -> Sta
     let comparison = token(s, at) - COMPARES;
     let t = token(s, at + 1);
     if t == SOME {
-        return start_list(s, at + 2, 8, comparison, letter, number);
+        return start_list(s, at + 2, SOME_PART, comparison, letter, number);
     }
     if t == ALL {
-        return start_list(s, at + 2, 9, comparison, letter, number);
+        return start_list(s, at + 2, ALL_PART, comparison, letter, number);
     }
     let ValueRead::Value {
         letter: right_letter,
@@ -279,7 +294,7 @@ fn start_comparison(s: &[usize], at: usize, letter: usize, number: usize) -> Sta
         return Start::NoTest;
     };
     let note = Note {
-        kind: 4,
+        kind: COMPARISON_PART,
         comparison,
         table: 0,
         letter: 0,
@@ -301,13 +316,13 @@ fn start_value(s: &[usize], at: usize, letter: usize, number: usize) -> Start
         return start_null(s, at, letter, number);
     }
     if t == IN {
-        return start_list(s, at + 1, 8, 1, letter, number);
+        return start_list(s, at + 1, SOME_PART, EQUAL, letter, number);
     }
     if t == NOT {
         if token(s, at + 1) != IN {
             return Start::NoTest;
         }
-        return start_list(s, at + 2, 9, 2, letter, number);
+        return start_list(s, at + 2, ALL_PART, NOT_EQUAL, letter, number);
     }
     if t <= COMPARES {
         return Start::NoTest;
@@ -335,7 +350,7 @@ fn start_exists(s: &[usize], at: usize) -> Start
         return Start::NoTest;
     };
     let note = Note {
-        kind: 7,
+        kind: EXISTS_PART,
         comparison: 0,
         table,
         letter,
@@ -372,9 +387,9 @@ fn start_test(s: &[usize], at: usize) -> Start
 
 // Part number w, as long as there is room: a text may have more parts than a rule may.
 fn note_part(out: &mut [usize; NOTE_NUMBERS], w: usize, note: Note)
-    requires { ⌜ length (now out) ≡ 512 ⌝ }
-    ensures noted { λ _. ⌜ (w < 64 → take (8 * (w + 1)) (now (out .exit)) ≡ take (8 * w) (now (out .entry)) ++ noteNumbers note) ⌝ }
-    ensures size { λ _. ⌜ length (now (out .exit)) ≡ 512 ⌝ }
+    requires { ⌜ length (now out) ≡ notesSize ⌝ }
+    ensures noted { λ _. ⌜ (w < mostParts → take (noteSize * (w + 1)) (now (out .exit)) ≡ take (noteSize * w) (now (out .entry)) ++ noteNumbers note) ⌝ }
+    ensures size { λ _. ⌜ length (now (out .exit)) ≡ notesSize ⌝ }
 {
     if MOST_PARTS <= w {
         return;
@@ -394,7 +409,7 @@ fn note_part(out: &mut [usize; NOTE_NUMBERS], w: usize, note: Note)
 fn plain_note(kind: usize) -> Note
     ensures { λ r. ⌜ noteNumbers r ≡ leftNumbers kind 0 0 ⌝ }
 {
-    null_note(kind, 0, 0)
+    left_note(kind, 0, 0)
 }
 
 fn larger(a: usize, b: usize) -> usize
@@ -410,7 +425,7 @@ fn larger(a: usize, b: usize) -> usize
 fn read_condition(s: &[usize], at: usize, out: &mut [usize; NOTE_NUMBERS], w: usize) -> Step
     requires { ⌜ Ready (now s) at w (now out) ⌝ }
     ensures reads { λ r. ⌜ ReadsTo condition (now (s .entry)) at w (now (out .entry)) (now (out .exit)) r ⌝ }
-    ensures size { λ _. ⌜ length (now (out .exit)) ≡ 512 ⌝ }
+    ensures size { λ _. ⌜ length (now (out .exit)) ≡ notesSize ⌝ }
 {
     let Step::Next {
         at: first,
@@ -432,7 +447,7 @@ fn read_condition(s: &[usize], at: usize, out: &mut [usize; NOTE_NUMBERS], w: us
         else {
             return Step::NoReading;
         };
-        note_part(out, more, plain_note(2));
+        note_part(out, more, plain_note(OR_PART));
         next = behind;
         n = more + 1;
         d = larger(d, other);
@@ -448,7 +463,7 @@ fn read_condition(s: &[usize], at: usize, out: &mut [usize; NOTE_NUMBERS], w: us
 fn read_conjunction(s: &[usize], at: usize, out: &mut [usize; NOTE_NUMBERS], w: usize) -> Step
     requires { ⌜ Ready (now s) at w (now out) ⌝ }
     ensures reads { λ r. ⌜ ReadsTo conjunction (now (s .entry)) at w (now (out .entry)) (now (out .exit)) r ⌝ }
-    ensures size { λ _. ⌜ length (now (out .exit)) ≡ 512 ⌝ }
+    ensures size { λ _. ⌜ length (now (out .exit)) ≡ notesSize ⌝ }
 {
     let Step::Next {
         at: first,
@@ -470,7 +485,7 @@ fn read_conjunction(s: &[usize], at: usize, out: &mut [usize; NOTE_NUMBERS], w: 
         else {
             return Step::NoReading;
         };
-        note_part(out, more, plain_note(1));
+        note_part(out, more, plain_note(AND_PART));
         next = behind;
         n = more + 1;
         d = larger(d, other);
@@ -496,13 +511,13 @@ fn after_nots(s: &[usize], at: usize) -> usize
 
 // The NOTs around a test, k of them, once its parts are noted.
 fn note_nots(out: &mut [usize; NOTE_NUMBERS], w: usize, k: usize)
-    requires { ⌜ length (now out) ≡ 512 ⌝ ∗ ⌜ w + k ≤ 4096 ⌝ }
-    ensures noted { λ _. ⌜ (w + k ≤ 64 → take (8 * (w + k)) (now (out .exit)) ≡ take (8 * w) (now (out .entry)) ++ notNumbers k) ⌝ }
-    ensures size { λ _. ⌜ length (now (out .exit)) ≡ 512 ⌝ }
+    requires { ⌜ length (now out) ≡ notesSize ⌝ ∗ ⌜ w + k ≤ 4096 ⌝ }
+    ensures noted { λ _. ⌜ (w + k ≤ mostParts → take (noteSize * (w + k)) (now (out .exit)) ≡ take (noteSize * w) (now (out .entry)) ++ notNumbers k) ⌝ }
+    ensures size { λ _. ⌜ length (now (out .exit)) ≡ notesSize ⌝ }
 {
     let mut j: usize = 0;
     while j < k {
-        note_part(out, w + j, plain_note(3));
+        note_part(out, w + j, plain_note(NOT_PART));
         j += 1;
     }
 }
@@ -511,7 +526,7 @@ fn note_nots(out: &mut [usize; NOTE_NUMBERS], w: usize, k: usize)
 fn read_factor(s: &[usize], at: usize, out: &mut [usize; NOTE_NUMBERS], w: usize) -> Step
     requires { ⌜ Ready (now s) at w (now out) ⌝ }
     ensures reads { λ r. ⌜ ReadsTo factor (now (s .entry)) at w (now (out .entry)) (now (out .exit)) r ⌝ }
-    ensures size { λ _. ⌜ length (now (out .exit)) ≡ 512 ⌝ }
+    ensures size { λ _. ⌜ length (now (out .exit)) ≡ notesSize ⌝ }
 {
     let i = after_nots(s, at);
     let Step::Next {
@@ -534,7 +549,7 @@ fn read_factor(s: &[usize], at: usize, out: &mut [usize; NOTE_NUMBERS], w: usize
 fn read_test(s: &[usize], at: usize, out: &mut [usize; NOTE_NUMBERS], w: usize) -> Step
     requires { ⌜ Ready (now s) at w (now out) ⌝ }
     ensures reads { λ r. ⌜ ReadsTo test (now (s .entry)) at w (now (out .entry)) (now (out .exit)) r ⌝ }
-    ensures size { λ _. ⌜ length (now (out .exit)) ≡ 512 ⌝ }
+    ensures size { λ _. ⌜ length (now (out .exit)) ≡ notesSize ⌝ }
 {
     match start_test(s, at) {
         Start::Whole { note, next } => {
@@ -570,7 +585,7 @@ fn read_test(s: &[usize], at: usize, out: &mut [usize; NOTE_NUMBERS], w: usize) 
 fn read_closed(s: &[usize], at: usize, out: &mut [usize; NOTE_NUMBERS], w: usize) -> Step
     requires { ⌜ Ready (now s) at w (now out) ⌝ }
     ensures reads { λ r. ⌜ ReadsClosed (now (s .entry)) at w (now (out .entry)) (now (out .exit)) r ⌝ }
-    ensures size { λ _. ⌜ length (now (out .exit)) ≡ 512 ⌝ }
+    ensures size { λ _. ⌜ length (now (out .exit)) ≡ notesSize ⌝ }
 {
     let Step::Next {
         at: behind,
@@ -592,9 +607,9 @@ fn read_closed(s: &[usize], at: usize, out: &mut [usize; NOTE_NUMBERS], w: usize
 
 // All the tokens as one condition.
 pub fn read_tokens(s: &[usize], out: &mut [usize; NOTE_NUMBERS]) -> Step
-    requires { ⌜ length (now s) ≤ 4096 ⌝ ∗ ⌜ length (now out) ≡ 512 ⌝ }
+    requires { ⌜ length (now s) ≤ 4096 ⌝ ∗ ⌜ length (now out) ≡ notesSize ⌝ }
     ensures reads { λ r. ⌜ ReadsAll (now (s .entry)) (now (out .exit)) r ⌝ }
-    ensures size { λ _. ⌜ length (now (out .exit)) ≡ 512 ⌝ }
+    ensures size { λ _. ⌜ length (now (out .exit)) ≡ notesSize ⌝ }
 {
     let Step::Next { at, count, deep } = read_condition(s, 0, out, 0) else {
         return Step::NoReading;

@@ -9,6 +9,7 @@ use cells::Reason;
 use names::PART_NUMBERS;
 use parser::Parsed;
 
+// The value of the rule on the row, or why it was not judged.
 pub enum Judged {
     True,
     False,

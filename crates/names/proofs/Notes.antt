@@ -1,5 +1,5 @@
 -- The notes of a condition: where its last part's numbers stand, and those of its inner conditions; the kind tells its shape.
-use mathlib.Core.Path.{_≡_, refl, sym, ap, subst, _∙_}
+use mathlib.Core.Path.{_≡_, refl, sym, ap, ap₂, subst, _∙_}
 use mathlib.Core.Bool.{Bool, true, false}
 use mathlib.Core.List.{List, [], _∷_, _++_, append-assoc}
 use Prim.Native.Nat.{ℕ, _+_, _*_, _-_, _<_, _≤_}
@@ -12,8 +12,9 @@ use lib.Seq.{length-take-le, take-at, take-take, getD-take, getD-append-add}
 use Rattle.tables.specs.Values.{Comparison, comparisonNumber, Connective, And, Or, Quantifier, Some, All}
 use Rattle.cells.specs.Code.{toExcess}
 use Rattle.rule.specs.Condition.{Test, Compare, IsNull, IsNotNull, Atom, Join, Not, Exists, Listed, WrittenValue, Plain, Named, Over, WrittenCondition, parts, fromsDeep}
-use Rattle.grammar.specs.Code.{writtenNumbers, writtenOf, listKind, noted}
-use Rattle.names.specs.Code.{ValueKept, Kept, kindAt, Placeable}
+use Rattle.rule.specs.Parts.{listKind}
+use Rattle.grammar.specs.Code.{writtenNumbers, writtenOf, noted}
+use Rattle.names.specs.Code.{writtenAt, ValueKept, Kept, kindAt, Placeable}
 
 -- ---- the front of a list, taken apart
 
@@ -115,7 +116,7 @@ value-back (Named x k) h =
 -- ---- the notes of a condition among others, with room for its parts and for the letters that it binds
 
 pub record Standing (notes : List ℕ) (h : ℕ) (before : List ℕ) (t : WrittenCondition) (e levels : ℕ) : Type 0 where
-  pub notes-size : length notes ≡ 512
+  pub notes-room : 8 * h ≤ length notes
   pub few-notes : h ≤ 64
   pub notes-are : take (8 * h) notes ≡ before ++ noted t
   pub fits : parts t ≤ e
@@ -126,7 +127,7 @@ pub stands : {file notes : List ℕ} {h : ℕ} {room : List ℕ} {e : ℕ} {scop
     (t : WrittenCondition) → q .tree ≡ t → Standing notes h (q .before) t e levels
 stands {notes = notes} {h = h} {e = e} {levels = levels} q t is =
     subst (λ t. Standing notes h (q .before) t e levels) is
-    record { notes-size = q .notes-size; few-notes = q .few-notes; notes-are = q .notes-are; fits = q .fits; deep = q .deep; kept = q .kept }
+    record { notes-room = q .notes-room; few-notes = q .few-notes; notes-are = q .notes-are; fits = q .fits; deep = q .deep; kept = q .kept }
 
 -- a condition has a part
 pub some-parts : (t : WrittenCondition) → 1 ≤ parts t
@@ -138,13 +139,10 @@ some-parts (Exists f w) = omega arith
 some-parts (Listed q op l s f w) = omega arith
 
 module _ {notes : List ℕ} {h : ℕ} {before : List ℕ} {t : WrittenCondition} {e levels : ℕ} (q : Standing notes h before t e levels) where
-  long : 8 * h ≤ length notes
-  long = omega (arith, q .notes-size, q .few-notes)
-
   -- there are as many notes
   pub enough : parts t ≤ h
   enough =
-      omega (arith, length-take-le (8 * h) notes long, ap length (q .notes-are), length-append before (noted t), noted-length t)
+      omega (arith, length-take-le (8 * h) notes (q .notes-room), ap length (q .notes-are), length-append before (noted t), noted-length t)
 
   pub some-notes : 1 ≤ h
   some-notes = omega (arith, enough, some-parts t)
@@ -156,11 +154,17 @@ module _ {notes : List ℕ} {h : ℕ} {before : List ℕ} {t : WrittenCondition}
   eight-less = omega (arith, some-notes, own-eight t)
 
   pub inner-are : take (8 * (h - 1)) notes ≡ before ++ innerNumbers t
-  inner-are = front notes (before ++ innerNumbers t) (ownNumbers t) (8 * h) (8 * (h - 1)) long are eight-less
+  inner-are = front notes (before ++ innerNumbers t) (ownNumbers t) (8 * h) (8 * (h - 1)) (q .notes-room) are eight-less
 
   -- each number of the last part
   pub number-is : (i : ℕ) → i < 8 → getD notes (8 * (h - 1) + i) 0 ≡ getD (ownNumbers t) i 0
-  number-is i l = behind notes (before ++ innerNumbers t) (ownNumbers t) (8 * h) (8 * (h - 1)) long are eight-less i (omega (arith, own-eight t))
+  number-is i l = behind notes (before ++ innerNumbers t) (ownNumbers t) (8 * h) (8 * (h - 1)) (q .notes-room) are eight-less i (omega (arith, own-eight t))
+
+  -- each value that it has
+  pub value-at : (i : ℕ) → i + 1 < 8 → writtenAt notes (8 * (h - 1) + i) ≡ writtenAt (ownNumbers t) i
+  value-at i l =
+      let z : 8 * (h - 1) + i + 1 ≡ 8 * (h - 1) + (i + 1) = omega arith in
+      ap₂ writtenOf (number-is i (omega arith)) (ap (λ (j : ℕ). getD notes j 0) z ∙ number-is (i + 1) l)
 
   pub kind-is : kindAt notes h ≡ getD (ownNumbers t) 0 0
   kind-is = ap (λ (i : ℕ). getD notes i 0) (sym (add-zero (8 * (h - 1)))) ∙ number-is 0 (omega arith)
@@ -172,7 +176,7 @@ module _ {notes : List ℕ} {h : ℕ} {before : List ℕ} {e levels : ℕ} where
   unfolding parts fromsDeep Kept
   not-inner a q =
       record {
-        notes-size = q .notes-size;
+        notes-room = omega (arith, q .notes-room);
         few-notes = omega (arith, q .few-notes);
         notes-are = inner-are q;
         fits = omega (arith, q .fits);
@@ -184,7 +188,7 @@ module _ {notes : List ℕ} {h : ℕ} {before : List ℕ} {e levels : ℕ} where
   unfolding parts fromsDeep Kept
   exists-inner n x w q =
       record {
-        notes-size = q .notes-size;
+        notes-room = omega (arith, q .notes-room);
         few-notes = omega (arith, q .few-notes);
         notes-are = inner-are q;
         fits = omega (arith, q .fits);
@@ -197,7 +201,7 @@ module _ {notes : List ℕ} {h : ℕ} {before : List ℕ} {e levels : ℕ} where
   unfolding parts fromsDeep Kept
   list-inner j op l s n x w q =
       record {
-        notes-size = q .notes-size;
+        notes-room = omega (arith, q .notes-room);
         few-notes = omega (arith, q .few-notes);
         notes-are = inner-are q;
         fits = omega (arith, q .fits);
@@ -213,7 +217,7 @@ module _ {notes : List ℕ} {h : ℕ} {before : List ℕ} {e levels : ℕ} where
     unfolding parts fromsDeep Kept
     right-inner =
         record {
-          notes-size = q .notes-size;
+          notes-room = omega (arith, q .notes-room);
           few-notes = omega (arith, q .few-notes);
           notes-are = both-are;
           fits = omega (arith, q .fits);
@@ -230,7 +234,7 @@ module _ {notes : List ℕ} {h : ℕ} {before : List ℕ} {e levels : ℕ} where
       left-are : take (8 * (h - 1 - (e - p))) notes ≡ before ++ noted a
       left-are =
           front notes (before ++ noted a) (noted b) (8 * (h - 1)) (8 * (h - 1 - (e - p)))
-          (omega (arith, q .notes-size, q .few-notes))
+          (omega (arith, q .notes-room))
           both-are
           (omega (arith, left-enough, noted-length b))
 
@@ -238,7 +242,7 @@ module _ {notes : List ℕ} {h : ℕ} {before : List ℕ} {e levels : ℕ} where
       unfolding parts fromsDeep Kept
       left-inner =
           record {
-            notes-size = q .notes-size;
+            notes-room = omega (arith, q .notes-room);
             few-notes = omega (arith, q .few-notes);
             notes-are = left-are;
             fits = omega (arith, q .fits);

@@ -15,21 +15,22 @@ use Rattle.tables.proofs.Sizes.{columns-count}
 use Rattle.cells.specs.Code.{fromExcess, toExcess}
 use Rattle.rule.specs.Condition.{Compare, Atom, Join, Not, Exists, Listed, WrittenValue, Over, WrittenCondition, Rule, parts, fromsDeep}
 use Rattle.rule.specs.Names.{Scope, outermost, bound, existing, valueIn, testIn, ruleIn}
-use Rattle.rule.specs.Parts.{Head, AtomHead, JoinHead, NotHead, ExistsHead, ListedHead, partOf, partsFrom, partsOf}
+use Rattle.rule.specs.Parts.{listKind, Head, AtomHead, JoinHead, NotHead, ExistsHead, ListedHead, partOf, partsFrom, partsOf}
 use Rattle.rule.specs.declared.Part.{Part}
-use Rattle.grammar.specs.Code.{writtenOf, listKind, noted}
+use Rattle.grammar.specs.Code.{noted}
 use Rattle.rule.proofs.Parts.{parts-length}
-use Rattle.names.specs.Code.{partNumbers, partsNumbers, plainPartNumbers, valueNumbers, existingAs, scopeIn, binding, ScopeFits, resolvedAs, leftWritten, rightWritten, bothNumbers, bothAs, ValueKept, Kept, kindAt, Placeable, PlacedAt, PlacedAs, Nameable, NamedAt}
+use Rattle.names.specs.Code.{partFields, partNumbers, partsNumbers, plainPartNumbers, valueNumbers, existingAs, scopeIn, binding, ScopeFits, resolvedAs, writtenAt, leftWritten, rightWritten, comparedNumbers, comparedAs, ValueKept, Kept, kindAt, Placeable, PlacedAt, PlacedAs, Nameable, NamedAt}
 use Rattle.names.specs.declared.Resolved.{Resolved}
 use Rattle.names.specs.declared.Resolved.the-variants.{Value as ResolvedValue, Unresolved}
-use Rattle.names.specs.declared.ResolvedBoth.{ResolvedBoth}
-use Rattle.names.specs.declared.ResolvedBoth.the-variants.{Values, NoValues}
+use Rattle.names.specs.declared.Compared.{Compared}
+use Rattle.names.specs.declared.Compared.the-variants.{Part as ComparedPart, NoValues}
+use Rattle.names.specs.declared.Fields.{Fields}
 use Rattle.names.specs.declared.Placed.{Placed}
 use Rattle.names.specs.declared.Placed.the-variants.{At, Unplaced}
 use Rattle.names.proofs.Looking.{none-there, some-there}
-use Rattle.names.proofs.Resolving.{Valued, value-lost, value-found, one-missing, both-there}
+use Rattle.names.proofs.Resolving.{value-lost, value-found, BothValued, one-missing, both-there}
 use Rattle.names.proofs.Scopes.{bound-below, bound-is, fits-fewer, room-for, fits-deeper, outerScope, outer-is, outer-fits}
-use Rattle.names.proofs.Notes.{ownNumbers, own-low, value-back, Standing, stands, some-parts, some-notes, number-is, kind-is, not-inner, exists-inner, list-inner, right-inner, left-enough, left-inner, pairKind, PairShape, pair-shape, NotShape, not-shape, CompareShape, compare-shape, letterOf, numberOf, nullTest, nullKind, NullShape, null-shape, ExistsShape, exists-shape, ListShape, list-shape}
+use Rattle.names.proofs.Notes.{ownNumbers, own-low, value-back, Standing, stands, some-parts, some-notes, number-is, value-at, kind-is, not-inner, exists-inner, list-inner, right-inner, left-enough, left-inner, pairKind, PairShape, pair-shape, NotShape, not-shape, CompareShape, compare-shape, letterOf, numberOf, nullTest, nullKind, NullShape, null-shape, ExistsShape, exists-shape, ListShape, list-shape}
 
 -- ---- what may be missing
 
@@ -66,10 +67,6 @@ part-alone-at H own old new k e z o d =
     d
     ∙ (ap (_++ drop (8 * (k + 1)) old) (o ∙ ap (λ (m : ℕ). partNumbers (partOf m H)) (sym z))
     ∙ ap (λ (m : ℕ). partNumbers (partOf (k + 1) H) ++ drop (8 * m) old) z)
-
-values-are : (k op t e lt ln rt rn : ℕ) (v w : Value) → valueNumbers v ≡ lt ∷ ln ∷ [] → valueNumbers w ≡ rt ∷ rn ∷ []
-    → k ∷ op ∷ t ∷ e ∷ lt ∷ ln ∷ rt ∷ rn ∷ [] ≡ k ∷ op ∷ t ∷ e ∷ (valueNumbers v ++ valueNumbers w)
-values-are k op t e lt ln rt rn v w p q = ap₂ (λ (a b : List ℕ). k ∷ op ∷ t ∷ e ∷ (a ++ b)) (sym p) (sym q)
 
 value-is : (k e lt ln : ℕ) (v : Value) → valueNumbers v ≡ lt ∷ ln ∷ []
     → k ∷ 0 ∷ 0 ∷ e ∷ lt ∷ ln ∷ 0 ∷ 0 ∷ [] ≡ k ∷ 0 ∷ 0 ∷ e ∷ (valueNumbers v ++ (0 ∷ 0 ∷ []))
@@ -137,9 +134,19 @@ module _ {file notes : List ℕ} {h : ℕ} {room : List ℕ} {e : ℕ} {scope : 
   abbrev rightHere : WrittenValue
   rightHere = rightWritten notes (8 * (h - 1))
 
+  -- the numbers of a part with two values
+  abbrev kindHere : ℕ
+  kindHere = kindAt notes h
+
+  abbrev opHere : ℕ
+  opHere = getD notes (8 * (h - 1) + 1) 0
+
+  abbrev comparedHere : ℕ → Option Value → Option Value → Option (List ℕ)
+  comparedHere t = comparedNumbers kindHere opHere t e
+
   -- so many elements are noted from the last note on
-  pub note-room : 8 * (h - 1) + 8 ≤ 512
-  note-room = omega (arith, has-notes)
+  pub note-room : 8 * (h - 1) + 8 ≤ length notes
+  note-room = omega (arith, has-notes, q .notes-room)
 
   -- ---- NOT
 
@@ -161,7 +168,7 @@ module _ {file notes : List ℕ} {h : ℕ} {room : List ℕ} {e : ℕ} {scope : 
         record {
           sized = q .sized;
           scope-fits = q .scope-fits;
-          notes-size = q .notes-size;
+          notes-room = not-in .notes-room;
           parts-size = q .parts-size;
           few-notes = not-in .few-notes;
           few-parts = q .few-parts;
@@ -231,7 +238,7 @@ module _ {file notes : List ℕ} {h : ℕ} {room : List ℕ} {e : ℕ} {scope : 
         record {
           sized = q .sized;
           scope-fits = q .scope-fits;
-          notes-size = q .notes-size;
+          notes-room = right-in .notes-room;
           parts-size = q .parts-size;
           few-notes = right-in .few-notes;
           few-parts = q .few-parts;
@@ -268,7 +275,7 @@ module _ {file notes : List ℕ} {h : ℕ} {room : List ℕ} {e : ℕ} {scope : 
             record {
               sized = q .sized;
               scope-fits = q .scope-fits;
-              notes-size = q .notes-size;
+              notes-room = left-in .notes-room;
               parts-size = size;
               few-notes = left-in .few-notes;
               few-parts = left-few;
@@ -352,50 +359,47 @@ module _ {file notes : List ℕ} {h : ℕ} {room : List ℕ} {e : ℕ} {scope : 
 
     compare-left : leftHere ≡ compare-here .left
     unfolding Kept
-    compare-left = ap₂ writtenOf (number-is compare-stands 4 (omega arith)) (number-is compare-stands 5 (omega arith)) ∙ value-back (compare-here .left) (compare-stands .kept .0)
+    compare-left = value-at compare-stands 4 (omega arith) ∙ value-back (compare-here .left) (compare-stands .kept .0)
 
     compare-right : rightHere ≡ compare-here .right
     unfolding Kept
-    compare-right = ap₂ writtenOf (number-is compare-stands 6 (omega arith)) (number-is compare-stands 7 (omega arith)) ∙ value-back (compare-here .right) (compare-stands .kept .1)
+    compare-right = value-at compare-stands 6 (omega arith) ∙ value-back (compare-here .right) (compare-stands .kept .1)
 
-    module _ (r : ResolvedBoth) (came : bothAs r ≡ bothNumbers (valueIn columns around leftHere) (valueIn columns around rightHere)) where
+    module _ (r : Compared) (came : comparedAs r ≡ comparedHere 0 (valueIn columns around leftHere) (valueIn columns around rightHere)) where
       abbrev left-value : Option Value
       left-value = valueIn columns around (compare-here .left)
 
       abbrev right-value : Option Value
       right-value = valueIn columns around (compare-here .right)
 
-      came-compared : bothAs r ≡ bothNumbers left-value right-value
-      came-compared = came ∙ ap₂ (λ (l w : WrittenValue). bothNumbers (valueIn columns around l) (valueIn columns around w)) compare-left compare-right
+      came-compared : comparedAs r ≡ comparedHere 0 left-value right-value
+      came-compared = came ∙ ap₂ (λ (l w : WrittenValue). comparedHere 0 (valueIn columns around l) (valueIn columns around w)) compare-left compare-right
 
       pub compare-missing : r ≡ NoValues → ruleIn columns around (q .tree) ≡ none
       unfolding ruleIn testIn
       compare-missing u =
           missing-as compare-tree (compare-here .is)
-          (ap (_>>= (λ y. some (Atom y))) (one-missing left-value right-value r came-compared u (λ v w. some (Compare (compare-here .op) v w))))
+          (ap (_>>= (λ y. some (Atom y))) (one-missing kindHere opHere 0 e left-value right-value r came-compared u (λ v w. some (Compare (compare-here .op) v w))))
 
-      module _ (lt ln rt rn : ℕ) (u : r ≡ Values lt ln rt rn) where
-        found-compared : Valued left-value lt ln × Valued right-value rt rn
-        found-compared = both-there left-value right-value r came-compared lt ln rt rn u
+      module _ (p : Fields) (u : r ≡ ComparedPart p) where
+        found-compared : BothValued kindHere opHere 0 e left-value right-value (partFields p)
+        found-compared = both-there kindHere opHere 0 e left-value right-value r came-compared p u
 
-        pub compare-placed : (new : List ℕ)
-            → drop (8 * (e - 1)) new ≡ (4 ∷ getD notes (8 * (h - 1) + 1) 0 ∷ 0 ∷ e ∷ lt ∷ ln ∷ rt ∷ rn ∷ []) ++ drop (8 * (e - 1 + 1)) room
+        pub compare-placed : (new : List ℕ) → drop (8 * (e - 1)) new ≡ partFields p ++ drop (8 * (e - 1 + 1)) room
             → PlacedAt file scope levels (q .tree) room new (e - 1) e
         unfolding ruleIn testIn parts partsFrom
         compare-placed new d =
-            let v = found-compared .0 in
-            let w = found-compared .1 in
+            let v = found-compared in
             let y = compare-stands .fits in
             let z : e - 1 + 1 ≡ e = omega arith in
             placed-as compare-tree (compare-here .is) new (e - 1) record {
-              rule = Atom (Compare (compare-here .op) (v .value) (w .value));
-              named = rw (v .is, w .is);
+              rule = Atom (Compare (compare-here .op) (v .left) (v .right));
+              named = rw (v .left-is, v .right-is);
               same-parts = refl;
               start = z;
               written =
-                  part-alone-at (AtomHead (Compare (compare-here .op) (v .value) (w .value))) _ room new (e - 1) e z
-                  (ap (λ (n : ℕ). 4 ∷ n ∷ 0 ∷ e ∷ lt ∷ ln ∷ rt ∷ rn ∷ []) (number-is compare-stands 1 (omega arith))
-                  ∙ values-are 4 (comparisonNumber (compare-here .op)) 0 e lt ln rt rn (v .value) (w .value) (v .numbers) (w .numbers))
+                  part-alone-at (AtomHead (Compare (compare-here .op) (v .left) (v .right))) (partFields p) room new (e - 1) e z
+                  (v .are ∙ ap₂ (λ (a b : ℕ). a ∷ b ∷ 0 ∷ e ∷ (valueNumbers (v .left) ++ valueNumbers (v .right))) k (number-is compare-stands 1 (omega arith)))
                   d;
             }
 
@@ -420,17 +424,14 @@ module _ {file notes : List ℕ} {h : ℕ} {room : List ℕ} {e : ℕ} {scope : 
     null-numbers true l = refl
     null-numbers false l = refl
 
-    null-is : (i : ℕ) → i < 8
-        → getD notes (8 * (h - 1) + i) 0 ≡ getD (nullKind (null-here .null) ∷ 0 ∷ 0 ∷ 0 ∷ letterOf (null-here .left) ∷ numberOf (null-here .left) ∷ 0 ∷ 0 ∷ []) i 0
-    null-is i l = number-is null-stands i l ∙ ap (λ (xs : List ℕ). getD xs i 0) (null-numbers (null-here .null) (null-here .left))
-
     null-kind : kindAt notes h ≡ nullKind (null-here .null)
     null-kind = kind-is null-stands ∙ ap (λ (xs : List ℕ). getD xs 0 0) (null-numbers (null-here .null) (null-here .left))
 
     null-left : leftHere ≡ null-here .left
     null-left =
-        ap₂ writtenOf (null-is 4 (omega arith)) (null-is 5 (omega arith))
-        ∙ value-back (null-here .left) (null-kept (null-here .null) (null-here .left) (null-stands .kept))
+        value-at null-stands 4 (omega arith)
+        ∙ (ap (λ (xs : List ℕ). writtenAt xs 4) (null-numbers (null-here .null) (null-here .left))
+        ∙ value-back (null-here .left) (null-kept (null-here .null) (null-here .left) (null-stands .kept)))
 
     null-found : (b : Bool) (l : WrittenValue) (v : Value) → valueIn columns around l ≡ some v
         → ruleIn columns around (Atom (nullTest b l)) ≡ some (Atom (nullTest b v))
@@ -551,7 +552,7 @@ module _ {file notes : List ℕ} {h : ℕ} {room : List ℕ} {e : ℕ} {scope : 
             record {
               sized = q .sized;
               scope-fits = exists-fits;
-              notes-size = q .notes-size;
+              notes-room = exists-in .notes-room;
               parts-size = q .parts-size;
               few-notes = exists-in .few-notes;
               few-parts = q .few-parts;
@@ -623,11 +624,11 @@ module _ {file notes : List ℕ} {h : ℕ} {room : List ℕ} {e : ℕ} {scope : 
 
     list-left : leftHere ≡ list-here .left
     unfolding Kept
-    list-left = ap₂ writtenOf (number-is list-stands 4 (omega arith)) (number-is list-stands 5 (omega arith)) ∙ value-back (list-here .left) (list-stands .kept .0)
+    list-left = value-at list-stands 4 (omega arith) ∙ value-back (list-here .left) (list-stands .kept .0)
 
     list-right : rightHere ≡ list-here .selected
     unfolding Kept
-    list-right = ap₂ writtenOf (number-is list-stands 6 (omega arith)) (number-is list-stands 7 (omega arith)) ∙ value-back (list-here .selected) (list-stands .kept .1)
+    list-right = value-at list-stands 6 (omega arith) ∙ value-back (list-here .selected) (list-stands .kept .1)
 
     module _ (most : ℕ) (count : most ≡ tableCount file) (t : ℕ) (came : existingAs t ≡ existing most (fromExcess (getD notes (8 * (h - 1) + 2) 0))) where
       pub list-unknown : t ≡ 0 → ruleIn columns around (q .tree) ≡ none
@@ -653,7 +654,7 @@ module _ {file notes : List ℕ} {h : ℕ} {room : List ℕ} {e : ℕ} {scope : 
             record {
               sized = q .sized;
               scope-fits = list-fits (levels + 1) (omega arith);
-              notes-size = q .notes-size;
+              notes-room = list-in .notes-room;
               parts-size = q .parts-size;
               few-notes = list-in .few-notes;
               few-parts = q .few-parts;
@@ -665,8 +666,8 @@ module _ {file notes : List ℕ} {h : ℕ} {room : List ℕ} {e : ℕ} {scope : 
               kept = list-in .kept;
             }
 
-        module _ (both : ResolvedBoth)
-            (came-both : bothAs both ≡ bothNumbers (valueIn columns (scopeIn inside levels) leftHere) (valueIn columns (scopeIn inside (levels + 1)) rightHere)) where
+        module _ (both : Compared)
+            (came-both : comparedAs both ≡ comparedHere t (valueIn columns (scopeIn inside levels) leftHere) (valueIn columns (scopeIn inside (levels + 1)) rightHere)) where
           -- the left value does not see the letter that is bound here
           left-scope : scopeIn inside levels ≡ around
           left-scope = ap (λ (s : List ℕ). scopeIn s levels) made ∙ bound-below scope levels (getD notes (8 * (h - 1) + 3) 0) t
@@ -677,19 +678,19 @@ module _ {file notes : List ℕ} {h : ℕ} {room : List ℕ} {e : ℕ} {scope : 
           abbrev selected-value : Option Value
           selected-value = valueIn columns (bound around (list-here .letter) t) (list-here .selected)
 
-          came-listed : bothAs both ≡ bothNumbers outer-value selected-value
-          came-listed = came-both ∙ ap₂ bothNumbers (ap₂ (valueIn columns) left-scope list-left) (ap₂ (valueIn columns) list-scope list-right)
+          came-listed : comparedAs both ≡ comparedHere t outer-value selected-value
+          came-listed = came-both ∙ ap₂ (comparedHere t) (ap₂ (valueIn columns) left-scope list-left) (ap₂ (valueIn columns) list-scope list-right)
 
           pub list-values-missing : both ≡ NoValues → ruleIn columns around (q .tree) ≡ none
           unfolding ruleIn
           list-values-missing u =
               missing-as list-whole (list-here .is)
               (rw list-table
-              (one-missing outer-value selected-value both came-listed u (λ v w. ruleIn columns (bound around (list-here .letter) t) list-tree >>= (λ x. some (Listed (list-here .quantifier) (list-here .op) v w t x)))))
+              (one-missing kindHere opHere t e outer-value selected-value both came-listed u (λ v w. ruleIn columns (bound around (list-here .letter) t) list-tree >>= (λ x. some (Listed (list-here .quantifier) (list-here .op) v w t x)))))
 
-          module _ (lt ln rt rn : ℕ) (u1 : both ≡ Values lt ln rt rn) where
-            found-both : Valued outer-value lt ln × Valued selected-value rt rn
-            found-both = both-there outer-value selected-value both came-listed lt ln rt rn u1
+          module _ (own : Fields) (u1 : both ≡ ComparedPart own) where
+            found-both : BothValued kindHere opHere t e outer-value selected-value (partFields own)
+            found-both = both-there kindHere opHere t e outer-value selected-value both came-listed own u1
 
             module _ (mid : List ℕ) (r : Placed) (placed : PlacedAs file inside (levels + 1) list-tree room mid e r) where
               pub list-missing : r ≡ Unplaced → ruleIn columns around (q .tree) ≡ none
@@ -698,8 +699,8 @@ module _ {file notes : List ℕ} {h : ℕ} {room : List ℕ} {e : ℕ} {scope : 
                   missing-as list-whole (list-here .is)
                   (rw (
                     list-table,
-                    found-both .0 .is,
-                    found-both .1 .is,
+                    found-both .left-is,
+                    found-both .right-is,
                     inside-rule list-few (list-here .letter) (number-is list-stands 3 (omega arith)) t inside made list-tree
                         (was-missing file inside (levels + 1) list-tree room mid e r placed u),
                   ))
@@ -712,13 +713,12 @@ module _ {file notes : List ℕ} {h : ℕ} {room : List ℕ} {e : ℕ} {scope : 
                 unfolding parts
                 list-room = (omega (arith, list-at .start, list-stands .fits), omega (arith, list-at .start, q .few-parts))
 
-                own-list : (j : Quantifier) (op : Comparison) (v w : Value) → valueNumbers v ≡ lt ∷ ln ∷ [] → valueNumbers w ≡ rt ∷ rn ∷ []
-                    → listKind j ∷ comparisonNumber op ∷ t ∷ e ∷ lt ∷ ln ∷ rt ∷ rn ∷ [] ≡ partNumbers (partOf e (ListedHead j op v w t))
-                own-list Some op v w a b = values-are 8 (comparisonNumber op) t e lt ln rt rn v w a b
-                own-list All op v w a b = values-are 9 (comparisonNumber op) t e lt ln rt rn v w a b
+                own-list : (j : Quantifier) (op : Comparison) (v w : Value)
+                    → listKind j ∷ comparisonNumber op ∷ t ∷ e ∷ (valueNumbers v ++ valueNumbers w) ≡ partNumbers (partOf e (ListedHead j op v w t))
+                own-list Some op v w = refl
+                own-list All op v w = refl
 
-                pub list-placed : (new : List ℕ)
-                    → drop (8 * (p - 1)) new ≡ (kindAt notes h ∷ getD notes (8 * (h - 1) + 1) 0 ∷ t ∷ e ∷ lt ∷ ln ∷ rt ∷ rn ∷ []) ++ drop (8 * (p - 1 + 1)) mid
+                pub list-placed : (new : List ℕ) → drop (8 * (p - 1)) new ≡ partFields own ++ drop (8 * (p - 1 + 1)) mid
                     → PlacedAt file scope levels (q .tree) room new (p - 1) e
                 unfolding ruleIn parts partsFrom
                 list-placed new d =
@@ -728,23 +728,23 @@ module _ {file notes : List ℕ} {h : ℕ} {room : List ℕ} {e : ℕ} {scope : 
                     let sp = w .same-parts in
                     let j = list-here .quantifier in
                     let op = list-here .op in
-                    let v1 = found-both .0 in
-                    let v2 = found-both .1 in
+                    let v = found-both in
                     placed-as list-whole (list-here .is) new (p - 1) record {
-                      rule = Listed j op (v1 .value) (v2 .value) t (w .rule);
+                      rule = Listed j op (v .left) (v .right) t (w .rule);
                       named =
                           rw (
                             list-table,
-                            v1 .is,
-                            v2 .is,
+                            v .left-is,
+                            v .right-is,
                             inside-rule list-few (list-here .letter) (number-is list-stands 3 (omega arith)) t inside made list-tree (w .named),
                           );
                       same-parts = ap (1 +_) sp;
                       start = omega arith;
                       written =
-                          around-written room mid new (p - 1) e p (omega arith) (w .rule) (ListedHead j op (v1 .value) (v2 .value) t) _ (omega arith) (w .written)
-                          (ap₂ (λ (a b : ℕ). a ∷ b ∷ t ∷ e ∷ lt ∷ ln ∷ rt ∷ rn ∷ []) (kind-is list-stands) (number-is list-stands 1 (omega arith))
-                          ∙ own-list j op (v1 .value) (v2 .value) (v1 .numbers) (v2 .numbers))
+                          around-written room mid new (p - 1) e p (omega arith) (w .rule) (ListedHead j op (v .left) (v .right) t) (partFields own) (omega arith) (w .written)
+                          (v .are
+                          ∙ (ap₂ (λ (a b : ℕ). a ∷ b ∷ t ∷ e ∷ (valueNumbers (v .left) ++ valueNumbers (v .right))) (kind-is list-stands) (number-is list-stands 1 (omega arith))
+                          ∙ own-list j op (v .left) (v .right)))
                           d;
                     }
 
@@ -770,7 +770,7 @@ module _ {file notes : List ℕ} {n : ℕ} (q : Nameable file notes n) (room : L
       record {
         sized = q .sized;
         scope-fits = outer-fitting;
-        notes-size = q .notes-size;
+        notes-room = q .notes-room;
         parts-size = size;
         few-notes = q .few-notes;
         few-parts = q .few-notes;

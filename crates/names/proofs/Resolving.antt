@@ -2,18 +2,20 @@
 use mathlib.Core.Path.{_≡_, refl, sym, ap, ap₂, subst, _∙_}
 use mathlib.Core.List.{List, [], _∷_, _++_}
 use mathlib.Core.Option.{Option, none, some, Option·map}
-use Prim.Native.Nat.{ℕ}
+use Prim.Native.Nat.{ℕ, _+_}
 use native.Mathlib.Omega.{arith}
+use lib.ListN.{getD}
 use Rattle.tables.specs.Lists.{_>>=_}
 use Rattle.tables.specs.Tables.{columnsOf}
 use Rattle.tables.specs.Values.{Value}
 use Rattle.rule.specs.Condition.{WrittenValue}
 use Rattle.rule.specs.Names.{Scope, valueIn}
-use Rattle.names.specs.Code.{valueNumbers, scopeIn, resolvedAs, leftWritten, rightWritten, bothNumbers, bothAs}
+use Rattle.names.specs.Code.{partFields, valueNumbers, scopeIn, resolvedAs, leftWritten, rightWritten, comparedNumbers, comparedAs}
+use Rattle.names.specs.declared.Fields.{Fields}
 use Rattle.names.specs.declared.Resolved.{Resolved}
 use Rattle.names.specs.declared.Resolved.the-variants.{Value as ResolvedValue, Unresolved}
-use Rattle.names.specs.declared.ResolvedBoth.{ResolvedBoth}
-use Rattle.names.specs.declared.ResolvedBoth.the-variants.{Values, NoValues}
+use Rattle.names.specs.declared.Compared.{Compared}
+use Rattle.names.specs.declared.Compared.the-variants.{Part as ComparedPart, NoValues}
 
 -- ---- one value
 
@@ -49,51 +51,61 @@ module _ (columns : List ℕ) (scope : Scope) {x : WrittenValue} {l : WrittenVal
   pub value-found : (t n : ℕ) → r ≡ ResolvedValue t n → Valued (valueIn columns scope l) t n
   value-found t n u = subst (λ (l : WrittenValue). Valued (valueIn columns scope l) t n) is (value-there (valueIn columns scope x) r came t n u)
 
--- ---- both values of a part
+-- ---- a part with two values
 
 -- the part that is noted from element b on, from what each of its values came to
-module _ (file notes : List ℕ) (b : ℕ) (scope : List ℕ) (left-levels right-levels : ℕ) where
+module _ (file notes : List ℕ) (b : ℕ) (scope : List ℕ) (left-levels right-levels t e : ℕ) where
   abbrev left-value : Option Value
   left-value = valueIn (columnsOf file) (scopeIn scope left-levels) (leftWritten notes b)
 
   abbrev right-value : Option Value
   right-value = valueIn (columnsOf file) (scopeIn scope right-levels) (rightWritten notes b)
 
+  abbrev compared : Option Value → Option Value → Option (List ℕ)
+  compared = comparedNumbers (getD notes b 0) (getD notes (b + 1) 0) t e
+
   module _ (r : Resolved) (came : resolvedAs r ≡ Option·map valueNumbers left-value) where
-    pub left-gone : r ≡ Unresolved → none ≡ bothNumbers left-value right-value
-    left-gone u = sym (ap (λ (o : Option Value). bothNumbers o right-value) (value-missing left-value r came u))
+    pub left-gone : r ≡ Unresolved → none ≡ compared left-value right-value
+    left-gone u = sym (ap (λ (o : Option Value). compared o right-value) (value-missing left-value r came u))
 
     module _ (lt ln : ℕ) (u : r ≡ ResolvedValue lt ln) (r2 : Resolved) (came2 : resolvedAs r2 ≡ Option·map valueNumbers right-value) where
-      pub right-gone : r2 ≡ Unresolved → none ≡ bothNumbers left-value right-value
-      right-gone u2 = sym (ap₂ bothNumbers (value-there left-value r came lt ln u .is) (value-missing right-value r2 came2 u2))
+      pub right-gone : r2 ≡ Unresolved → none ≡ compared left-value right-value
+      right-gone u2 = sym (ap₂ compared (value-there left-value r came lt ln u .is) (value-missing right-value r2 came2 u2))
 
-      pub both-found : (rt rn : ℕ) → r2 ≡ ResolvedValue rt rn → some (lt ∷ ln ∷ rt ∷ rn ∷ []) ≡ bothNumbers left-value right-value
+      pub both-found : (rt rn : ℕ) → r2 ≡ ResolvedValue rt rn
+          → some (getD notes b 0 ∷ getD notes (b + 1) 0 ∷ t ∷ e ∷ lt ∷ ln ∷ rt ∷ rn ∷ []) ≡ compared left-value right-value
       both-found rt rn u2 =
           let v = value-there left-value r came lt ln u in
           let w = value-there right-value r2 came2 rt rn u2 in
-          sym (ap₂ bothNumbers (v .is) (w .is) ∙ ap₂ (λ (x y : List ℕ). some (x ++ y)) (v .numbers) (w .numbers))
+          sym
+          (ap₂ compared (v .is) (w .is)
+          ∙ ap₂ (λ (x y : List ℕ). some (getD notes b 0 ∷ getD notes (b + 1) 0 ∷ t ∷ e ∷ (x ++ y))) (v .numbers) (w .numbers))
+
+-- both values were found, and these are the part's numbers
+pub record BothValued (kind op t e : ℕ) (a b : Option Value) (numbers : List ℕ) : Type 0 where
+  pub left : Value
+  pub left-is : a ≡ some left
+  pub right : Value
+  pub right-is : b ≡ some right
+  pub are : numbers ≡ kind ∷ op ∷ t ∷ e ∷ (valueNumbers left ++ valueNumbers right)
 
 -- what a part with two values comes to
-module _ (a b : Option Value) (r : ResolvedBoth) (e : bothAs r ≡ bothNumbers a b) where
+module _ (kind op t e : ℕ) (a b : Option Value) (r : Compared) (is : comparedAs r ≡ comparedNumbers kind op t e a b) where
   pub one-missing : r ≡ NoValues → {C : Type 0} (f : Value → Value → Option C) → (a >>= (λ v. b >>= f v)) ≡ none
-  one-missing u f = go a b (sym (ap bothAs u) ∙ e)
+  one-missing u f = go a b (sym (ap comparedAs u) ∙ is)
     where
-      go : (a b : Option Value) → none ≡ bothNumbers a b → (a >>= (λ v. b >>= f v)) ≡ none
+      go : (a b : Option Value) → none ≡ comparedNumbers kind op t e a b → (a >>= (λ v. b >>= f v)) ≡ none
       go none b g = refl
       go (some v) none g = refl
       go (some v) (some w) g = let z : _≡_ {A = ℕ} 0 1 = cc in absurd (omega arith)
 
-  pub both-there : (lt ln rt rn : ℕ) → r ≡ Values lt ln rt rn → Valued a lt ln × Valued b rt rn
-  both-there lt ln rt rn u = go a b (sym (ap bothAs u) ∙ e)
+  pub both-there : (p : Fields) → r ≡ ComparedPart p → BothValued kind op t e a b (partFields p)
+  both-there p u = go a b (partFields p) (sym (ap comparedAs u) ∙ is)
     where
-      go : (a b : Option Value) → some (lt ∷ ln ∷ rt ∷ rn ∷ []) ≡ bothNumbers a b → Valued a lt ln × Valued b rt rn
-      go none b g = let z : _≡_ {A = ℕ} 0 1 = cc in absurd (omega arith)
-      go (some v) none g = let z : _≡_ {A = ℕ} 0 1 = cc in absurd (omega arith)
-      go (some v) (some w) g =
-          (record { value = v; is = refl; numbers = firsts _ _ _ _ g }, record { value = w; is = refl; numbers = lasts _ _ _ _ g })
+      go : (a b : Option Value) (own : List ℕ) → some own ≡ comparedNumbers kind op t e a b → BothValued kind op t e a b own
+      go none b own g = let z : _≡_ {A = ℕ} 0 1 = cc in absurd (omega arith)
+      go (some v) none own g = let z : _≡_ {A = ℕ} 0 1 = cc in absurd (omega arith)
+      go (some v) (some w) own g = record { left = v; left-is = refl; right = w; right-is = refl; are = some-is _ _ g }
         where
-          firsts : (t n t2 n2 : ℕ) → some (lt ∷ ln ∷ rt ∷ rn ∷ []) ≡ some (t ∷ n ∷ t2 ∷ n2 ∷ []) → t ∷ n ∷ [] ≡ lt ∷ ln ∷ []
-          firsts t n t2 n2 g = cc
-
-          lasts : (t n t2 n2 : ℕ) → some (lt ∷ ln ∷ rt ∷ rn ∷ []) ≡ some (t ∷ n ∷ t2 ∷ n2 ∷ []) → t2 ∷ n2 ∷ [] ≡ rt ∷ rn ∷ []
-          lasts t n t2 n2 g = cc
+          some-is : (x y : List ℕ) → some x ≡ some y → x ≡ y
+          some-is x y g = cc

@@ -12,18 +12,26 @@ use Rattle.tables.specs.Tables.{tableCount, columnsOf}
 use Rattle.tables.specs.Values.{constantTag, Value}
 use Rattle.cells.specs.Code.{fromExcess, toExcess, Sized}
 use Rattle.rule.specs.Condition.{Compare, IsNull, IsNotNull, Atom, Join, Not, Exists, Listed, WrittenValue, Plain, Named, From, Over, WrittenCondition, Rule, parts, fromsDeep}
-use Rattle.rule.specs.Names.{Binding, Scope, outermost, nearest, ruleIn}
+use Rattle.rule.specs.Names.{mostParts, Binding, Scope, outermost, nearest, ruleIn}
 use Rattle.rule.specs.Parts.{taggedOf, naturalOf, partsFrom, partsOf}
 use Rattle.rule.specs.declared.TaggedValue.{TaggedValue}
 use Rattle.rule.specs.declared.Part.{Part}
-use Rattle.grammar.specs.Code.{writtenOf, noted}
+use Rattle.grammar.specs.Code.{noteSize, writtenOf, noted}
 use Rattle.names.specs.declared.Fields.{Fields}
 use Rattle.names.specs.declared.Resolved.{Resolved}
 use Rattle.names.specs.declared.Resolved.the-variants.{Value as ResolvedValue, Unresolved}
-use Rattle.names.specs.declared.ResolvedBoth.{ResolvedBoth}
-use Rattle.names.specs.declared.ResolvedBoth.the-variants.{Values, NoValues}
+use Rattle.names.specs.declared.Compared.{Compared}
+use Rattle.names.specs.declared.Compared.the-variants.{Part as ComparedPart, NoValues}
 use Rattle.names.specs.declared.Placed.{Placed}
 use Rattle.names.specs.declared.Placed.the-variants.{At, Unplaced}
+
+-- ---- how many numbers a part has, and those of as many as a rule may have
+
+abbrev pub partSize : ℕ
+partSize = 8
+
+abbrev pub partsSize : ℕ
+partsSize = partSize * mostParts
 
 -- ---- parts as numbers
 
@@ -86,23 +94,27 @@ abbrev pub resolvedAs : Resolved → Option (List ℕ)
 resolvedAs (ResolvedValue t n) = some (t ∷ n ∷ [])
 resolvedAs Unresolved = none
 
+-- the value that is noted from element i on
+abbrev pub writtenAt : List ℕ → ℕ → WrittenValue
+writtenAt notes i = writtenOf (getD notes i 0) (getD notes (i + 1) 0)
+
 -- the left and the right value of the part that is noted from element b on
 abbrev pub leftWritten : List ℕ → ℕ → WrittenValue
-leftWritten notes b = writtenOf (getD notes (b + 4) 0) (getD notes (b + 5) 0)
+leftWritten notes b = writtenAt notes (b + 4)
 
 abbrev pub rightWritten : List ℕ → ℕ → WrittenValue
-rightWritten notes b = writtenOf (getD notes (b + 6) 0) (getD notes (b + 7) 0)
+rightWritten notes b = writtenAt notes (b + 6)
 
--- the numbers of a part's two values, or one of them means nothing
-abbrev pub bothNumbers : Option Value → Option Value → Option (List ℕ)
-bothNumbers (some v) (some w) = some (valueNumbers v ++ valueNumbers w)
-bothNumbers (some v) none = none
-bothNumbers none w = none
+-- the numbers of a part with two values: its kind, comparison, table and end, and its values; or one of them means nothing
+abbrev pub comparedNumbers : ℕ → ℕ → ℕ → ℕ → Option Value → Option Value → Option (List ℕ)
+comparedNumbers kind op t e (some v) (some w) = some (kind ∷ op ∷ t ∷ e ∷ (valueNumbers v ++ valueNumbers w))
+comparedNumbers kind op t e (some v) none = none
+comparedNumbers kind op t e none w = none
 
--- what both came to
-abbrev pub bothAs : ResolvedBoth → Option (List ℕ)
-bothAs (Values lt ln rt rn) = some (lt ∷ ln ∷ rt ∷ rn ∷ [])
-bothAs NoValues = none
+-- what it came to
+abbrev pub comparedAs : Compared → Option (List ℕ)
+comparedAs (ComparedPart p) = some (partFields p)
+comparedAs NoValues = none
 
 -- ---- what notes keep of a condition
 
@@ -133,19 +145,19 @@ Kept (Listed q op l s f w) = ValueKept l × ValueKept s × FromKept f × Kept w
 
 -- the kind of the last of the first h notes
 abbrev pub kindAt : List ℕ → ℕ → ℕ
-kindAt notes h = getD notes (8 * (h - 1)) 0
+kindAt notes h = getD notes (noteSize * (h - 1)) 0
 
 -- the last of the first h notes are those of a condition, and there is room for its parts before number e and for the letters that it binds
 pub record Placeable (file notes : List ℕ) (h : ℕ) (room : List ℕ) (e : ℕ) (scope : List ℕ) (levels : ℕ) : Type 0 where
   pub sized : Sized file
   pub scope-fits : ScopeFits file scope levels
-  pub notes-size : length notes ≡ 512
-  pub parts-size : length room ≡ 512
-  pub few-notes : h ≤ 64
-  pub few-parts : e ≤ 64
+  pub notes-room : noteSize * h ≤ length notes
+  pub parts-size : length room ≡ partsSize
+  pub few-notes : h ≤ mostParts
+  pub few-parts : e ≤ mostParts
   pub before : List ℕ
   pub tree : WrittenCondition
-  pub notes-are : take (8 * h) notes ≡ before ++ noted tree
+  pub notes-are : take (noteSize * h) notes ≡ before ++ noted tree
   pub fits : parts tree ≤ e
   pub deep : levels + fromsDeep tree ≤ 4
   pub kept : Kept tree
@@ -156,7 +168,7 @@ pub record PlacedAt (file scope : List ℕ) (levels : ℕ) (tree : WrittenCondit
   pub named : ruleIn (columnsOf file) (scopeIn scope levels) tree ≡ some rule
   pub same-parts : parts rule ≡ parts tree
   pub start : p + parts tree ≡ e
-  pub written : drop (8 * p) new ≡ partsNumbers (partsFrom p rule) ++ drop (8 * e) old
+  pub written : drop (partSize * p) new ≡ partsNumbers (partsFrom p rule) ++ drop (partSize * e) old
 
 -- or some name means nothing
 abbrev pub PlacedAs : (file scope : List ℕ) (levels : ℕ) → WrittenCondition → (old new : List ℕ) (e : ℕ) → Placed → Type 0
@@ -173,19 +185,19 @@ PlacedTo file notes h old new e scope levels r =
 -- the first n notes are those of a condition that is within the limits
 pub record Nameable (file notes : List ℕ) (n : ℕ) : Type 0 where
   pub sized : Sized file
-  pub notes-size : length notes ≡ 512
-  pub few-notes : n ≤ 64
+  pub notes-room : noteSize * n ≤ length notes
+  pub few-notes : n ≤ mostParts
   pub tree : WrittenCondition
   pub count : n ≡ parts tree
   pub shallow : fromsDeep tree ≤ 3
-  pub notes-are : take (8 * n) notes ≡ noted tree
+  pub notes-are : take (noteSize * n) notes ≡ noted tree
   pub kept : Kept tree
 
 -- the first n parts are those of the rule that the condition stands for
 pub record NamedAt (file : List ℕ) (tree : WrittenCondition) (n : ℕ) (new : List ℕ) : Type 0 where
   pub rule : Rule
   pub named : ruleIn (columnsOf file) outermost tree ≡ some rule
-  pub written : take (8 * n) new ≡ partsNumbers (partsOf rule)
+  pub written : take (partSize * n) new ≡ partsNumbers (partsOf rule)
 
 -- or some name means nothing
 abbrev pub NamedAs : List ℕ → WrittenCondition → ℕ → List ℕ → Bool → Type 0

@@ -6,12 +6,14 @@ ghost use mathlib.Core.Path.{_≡_};
 ghost use mathlib.Core.List.{_++_};
 ghost use mathlib.Core.Option.{Option·map};
 ghost use Prim.Native.Nat.{_+_, _*_, _-_, _<_, _≤_};
-ghost use lib.ListN.{length, drop};
+ghost use lib.ListN.{length, drop, getD};
+ghost use Rattle.tables.specs.Values.{And, Or, Some};
 ghost use Rattle.tables.specs.Tables.{columnsOf};
 ghost use Rattle.cells.specs.Code.{fromExcess, Sized};
-ghost use Rattle.rule.specs.Names.{existing, valueIn};
-ghost use Rattle.grammar.specs.Code.{writtenOf};
-ghost use Rattle.names.specs.Code.{existingAs, scopeIn, binding, NearestAt, ScopeFits, valueNumbers, resolvedAs, bothNumbers, bothAs, leftWritten, rightWritten, partFields, plainPartNumbers, kindAt, Placeable, PlacedTo, Nameable, NamedTo};
+ghost use Rattle.rule.specs.Names.{mostParts, existing, valueIn};
+ghost use Rattle.rule.specs.Parts.{joinKind, listKind, notKind, compareKind, nullKind, notNullKind, existsKind};
+ghost use Rattle.grammar.specs.Code.{noteSize, writtenOf};
+ghost use Rattle.names.specs.Code.{partSize, partsSize, existingAs, scopeIn, binding, NearestAt, ScopeFits, valueNumbers, resolvedAs, writtenAt, leftWritten, rightWritten, comparedNumbers, comparedAs, partFields, plainPartNumbers, kindAt, Placeable, PlacedTo, Nameable, NamedTo};
 use cells::EXCESS;
 use cells::byte;
 use grammar::MOST_FROMS;
@@ -19,13 +21,20 @@ use grammar::MOST_PARTS;
 use grammar::NOTE_COMPARISON;
 use grammar::NOTE_FIELDS;
 use grammar::NOTE_LEFT_LETTER;
-use grammar::NOTE_LEFT_NUMBER;
 use grammar::NOTE_LETTER;
-use grammar::NOTE_NUMBERS;
 use grammar::NOTE_RIGHT_LETTER;
-use grammar::NOTE_RIGHT_NUMBER;
 use grammar::NOTE_TABLE;
+use rule::AND_PART;
+use rule::COMPARISON_PART;
+use rule::EXISTS_PART;
+use rule::NOT_NULL_PART;
+use rule::NOT_PART;
+use rule::NULL_PART;
+use rule::OR_PART;
 use values::CONSTANT;
+
+// The letter of the judged row: m.
+const JUDGED_LETTER: usize = 109;
 
 // The judged row's letter and those of the FROMs around a part: a letter and a table for each.
 const SCOPE_NUMBERS: usize = 2 * (1 + MOST_FROMS);
@@ -62,20 +71,15 @@ pub struct Fields {
     pub right_number: usize,
 }
 
-// What a value stands for.
+// What a value stands for: its tag and its number.
 pub enum Resolved {
-    Value { tag: usize, number: usize },
+    Value(usize, usize),
     Unresolved,
 }
 
-// What both values of a part stand for, or one of them means nothing.
-pub enum ResolvedBoth {
-    Values {
-        left_tag: usize,
-        left_number: usize,
-        right_tag: usize,
-        right_number: usize,
-    },
+// A part with two values, or one of them means nothing.
+pub enum Compared {
+    Part(Fields),
     NoValues,
 }
 
@@ -127,10 +131,7 @@ fn resolve(
     ensures { λ r. ⌜ resolvedAs r ≡ Option·map valueNumbers (valueIn (columnsOf (now (file .entry))) (scopeIn (now (scope .entry)) levels) (writtenOf letter number)) ⌝ }
 {
     if letter == 0 {
-        return Resolved::Value {
-            tag: CONSTANT,
-            number,
-        };
+        return Resolved::Value(CONSTANT, number);
     }
     let level = find_letter(scope, levels, letter);
     if level == levels {
@@ -141,56 +142,56 @@ fn resolve(
     if column == 0 {
         return Resolved::Unresolved;
     }
-    Resolved::Value {
-        tag: level,
-        number: column,
-    }
+    Resolved::Value(level, column)
 }
 
-// The left and the right value of the part that is noted from element b on; each sees so many levels of the scope.
-fn resolve_both(
+// What the value that is noted from element i on stands for; its number stands behind its letter.
+fn resolve_noted(
     file: &[u8],
-    notes: &[usize; NOTE_NUMBERS],
+    notes: &[usize],
+    i: usize,
+    scope: &[usize; SCOPE_NUMBERS],
+    levels: usize,
+) -> Resolved
+    requires { ⌜ Sized (now file) ⌝ ∗ ⌜ i + 2 ≤ length (now notes) ⌝ ∗ ⌜ ScopeFits (now file) (now scope) levels ⌝ }
+    ensures { λ r. ⌜ resolvedAs r ≡ Option·map valueNumbers (valueIn (columnsOf (now (file .entry))) (scopeIn (now (scope .entry)) levels) (writtenAt (now (notes .entry)) i)) ⌝ }
+{
+    resolve(file, scope, levels, notes[i], notes[i + 1])
+}
+
+// The part with two values that is noted from element b on, with this table and this end; each value sees so many levels of the scope.
+fn compared_part(
+    file: &[u8],
+    notes: &[usize],
     b: usize,
     scope: &[usize; SCOPE_NUMBERS],
     left_levels: usize,
     right_levels: usize,
-) -> ResolvedBoth
-    requires { ⌜ Sized (now file) ⌝ ∗ ⌜ length (now notes) ≡ 512 ⌝ ∗ ⌜ b + 8 ≤ 512 ⌝ ∗ ⌜ ScopeFits (now file) (now scope) «right_levels» ⌝ ∗ ⌜ «left_levels» ≤ «right_levels» ⌝ }
-    ensures { λ r. ⌜ bothAs r ≡ bothNumbers (valueIn (columnsOf (now (file .entry))) (scopeIn (now (scope .entry)) «left_levels») (leftWritten (now (notes .entry)) b)) (valueIn (columnsOf (now (file .entry))) (scopeIn (now (scope .entry)) «right_levels») (rightWritten (now (notes .entry)) b)) ⌝ }
+    table: usize,
+    e: usize,
+) -> Compared
+    requires { ⌜ Sized (now file) ⌝ ∗ ⌜ b + noteSize ≤ length (now notes) ⌝ ∗ ⌜ ScopeFits (now file) (now scope) «right_levels» ⌝ ∗ ⌜ «left_levels» ≤ «right_levels» ⌝ }
+    ensures { λ r. ⌜ comparedAs r ≡ comparedNumbers (getD (now (notes .entry)) b 0) (getD (now (notes .entry)) (b + 1) 0) table e (valueIn (columnsOf (now (file .entry))) (scopeIn (now (scope .entry)) «left_levels») (leftWritten (now (notes .entry)) b)) (valueIn (columnsOf (now (file .entry))) (scopeIn (now (scope .entry)) «right_levels») (rightWritten (now (notes .entry)) b)) ⌝ }
 {
-    let Resolved::Value {
-        tag: left_tag,
-        number: left_number,
-    } = resolve(
-        file,
-        scope,
-        left_levels,
-        notes[b + NOTE_LEFT_LETTER],
-        notes[b + NOTE_LEFT_NUMBER],
-    )
-    else {
-        return ResolvedBoth::NoValues;
+    let left = resolve_noted(file, notes, b + NOTE_LEFT_LETTER, scope, left_levels);
+    let Resolved::Value(left_tag, left_number) = left else {
+        return Compared::NoValues;
     };
-    let Resolved::Value {
-        tag: right_tag,
-        number: right_number,
-    } = resolve(
-        file,
-        scope,
-        right_levels,
-        notes[b + NOTE_RIGHT_LETTER],
-        notes[b + NOTE_RIGHT_NUMBER],
-    )
-    else {
-        return ResolvedBoth::NoValues;
+    let right = resolve_noted(file, notes, b + NOTE_RIGHT_LETTER, scope, right_levels);
+    let Resolved::Value(right_tag, right_number) = right else {
+        return Compared::NoValues;
     };
-    ResolvedBoth::Values {
+    let part = Fields {
+        kind: notes[b],
+        comparison: notes[b + NOTE_COMPARISON],
+        table,
+        end: e,
         left_tag,
         left_number,
         right_tag,
         right_number,
-    }
+    };
+    Compared::Part(part)
 }
 
 // The scope with one letter more, which ranges over this table.
@@ -211,9 +212,9 @@ fn bind(
 
 // Part number p.
 fn put_part(parts: &mut [usize; PART_NUMBERS], p: usize, part: Fields)
-    requires { ⌜ length (now parts) ≡ 512 ⌝ ∗ ⌜ p < 64 ⌝ }
-    ensures written { λ _. ⌜ drop (8 * p) (now (parts .exit)) ≡ partFields part ++ drop (8 * (p + 1)) (now (parts .entry)) ⌝ }
-    ensures size { λ _. ⌜ length (now (parts .exit)) ≡ 512 ⌝ }
+    requires { ⌜ length (now parts) ≡ partsSize ⌝ ∗ ⌜ p < mostParts ⌝ }
+    ensures written { λ _. ⌜ drop (partSize * p) (now (parts .exit)) ≡ partFields part ++ drop (partSize * (p + 1)) (now (parts .entry)) ⌝ }
+    ensures size { λ _. ⌜ length (now (parts .exit)) ≡ partsSize ⌝ }
 {
     let q = PART_FIELDS * p;
     parts[q] = part.kind;
@@ -246,7 +247,7 @@ fn plain_part(kind: usize, end: usize) -> Fields
 // placed first, the right ones before the left ones.
 fn place(
     file: &[u8],
-    notes: &[usize; NOTE_NUMBERS],
+    notes: &[usize],
     h: usize,
     parts: &mut [usize; PART_NUMBERS],
     e: usize,
@@ -255,15 +256,15 @@ fn place(
 ) -> Placed
     requires { ⌜ Placeable (now file) (now notes) h (now parts) e (now scope) levels ⌝ }
     ensures placed { λ r. ⌜ PlacedTo (now (file .entry)) (now (notes .entry)) h (now (parts .entry)) (now (parts .exit)) e (now (scope .entry)) levels r ⌝ }
-    ensures size { λ _. ⌜ length (now (parts .exit)) ≡ 512 ⌝ }
+    ensures size { λ _. ⌜ length (now (parts .exit)) ≡ partsSize ⌝ }
 {
     let kind = notes[NOTE_FIELDS * (h - 1)];
     match kind {
-        1 | 2 => place_pair(file, notes, h, parts, e, scope, levels),
-        3 => place_not(file, notes, h, parts, e, scope, levels),
-        4 => place_comparison(file, notes, h, parts, e, scope, levels),
-        5 | 6 => place_null(file, notes, h, parts, e, scope, levels),
-        7 => place_exists(file, notes, h, parts, e, scope, levels),
+        AND_PART | OR_PART => place_pair(file, notes, h, parts, e, scope, levels),
+        NOT_PART => place_not(file, notes, h, parts, e, scope, levels),
+        COMPARISON_PART => place_comparison(file, notes, h, parts, e, scope, levels),
+        NULL_PART | NOT_NULL_PART => place_null(file, notes, h, parts, e, scope, levels),
+        EXISTS_PART => place_exists(file, notes, h, parts, e, scope, levels),
         _ => place_list(file, notes, h, parts, e, scope, levels),
     }
 }
@@ -271,16 +272,16 @@ fn place(
 // AND and OR.
 fn place_pair(
     file: &[u8],
-    notes: &[usize; NOTE_NUMBERS],
+    notes: &[usize],
     h: usize,
     parts: &mut [usize; PART_NUMBERS],
     e: usize,
     scope: &[usize; SCOPE_NUMBERS],
     levels: usize,
 ) -> Placed
-    requires { ⌜ Placeable (now file) (now notes) h (now parts) e (now scope) levels ⌝ ∗ ⌜ (1 ≤ kindAt (now notes) h) × (kindAt (now notes) h ≤ 2) ⌝ }
+    requires { ⌜ Placeable (now file) (now notes) h (now parts) e (now scope) levels ⌝ ∗ ⌜ (joinKind And ≤ kindAt (now notes) h) × (kindAt (now notes) h ≤ joinKind Or) ⌝ }
     ensures placed { λ r. ⌜ PlacedTo (now (file .entry)) (now (notes .entry)) h (now (parts .entry)) (now (parts .exit)) e (now (scope .entry)) levels r ⌝ }
-    ensures size { λ _. ⌜ length (now (parts .exit)) ≡ 512 ⌝ }
+    ensures size { λ _. ⌜ length (now (parts .exit)) ≡ partsSize ⌝ }
 {
     let kind = notes[NOTE_FIELDS * (h - 1)];
     let Placed::At(right) = place(file, notes, h - 1, parts, e, scope, levels) else {
@@ -297,57 +298,41 @@ fn place_pair(
 // NOT.
 fn place_not(
     file: &[u8],
-    notes: &[usize; NOTE_NUMBERS],
+    notes: &[usize],
     h: usize,
     parts: &mut [usize; PART_NUMBERS],
     e: usize,
     scope: &[usize; SCOPE_NUMBERS],
     levels: usize,
 ) -> Placed
-    requires { ⌜ Placeable (now file) (now notes) h (now parts) e (now scope) levels ⌝ ∗ ⌜ kindAt (now notes) h ≡ 3 ⌝ }
+    requires { ⌜ Placeable (now file) (now notes) h (now parts) e (now scope) levels ⌝ ∗ ⌜ kindAt (now notes) h ≡ notKind ⌝ }
     ensures placed { λ r. ⌜ PlacedTo (now (file .entry)) (now (notes .entry)) h (now (parts .entry)) (now (parts .exit)) e (now (scope .entry)) levels r ⌝ }
-    ensures size { λ _. ⌜ length (now (parts .exit)) ≡ 512 ⌝ }
+    ensures size { λ _. ⌜ length (now (parts .exit)) ≡ partsSize ⌝ }
 {
     let Placed::At(inner) = place(file, notes, h - 1, parts, e, scope, levels) else {
         return Placed::Unplaced;
     };
-    put_part(parts, inner - 1, plain_part(3, e));
+    put_part(parts, inner - 1, plain_part(NOT_PART, e));
     Placed::At(inner - 1)
 }
 
 // A comparison of two values.
 fn place_comparison(
     file: &[u8],
-    notes: &[usize; NOTE_NUMBERS],
+    notes: &[usize],
     h: usize,
     parts: &mut [usize; PART_NUMBERS],
     e: usize,
     scope: &[usize; SCOPE_NUMBERS],
     levels: usize,
 ) -> Placed
-    requires { ⌜ Placeable (now file) (now notes) h (now parts) e (now scope) levels ⌝ ∗ ⌜ kindAt (now notes) h ≡ 4 ⌝ }
+    requires { ⌜ Placeable (now file) (now notes) h (now parts) e (now scope) levels ⌝ ∗ ⌜ kindAt (now notes) h ≡ compareKind ⌝ }
     ensures placed { λ r. ⌜ PlacedTo (now (file .entry)) (now (notes .entry)) h (now (parts .entry)) (now (parts .exit)) e (now (scope .entry)) levels r ⌝ }
-    ensures size { λ _. ⌜ length (now (parts .exit)) ≡ 512 ⌝ }
+    ensures size { λ _. ⌜ length (now (parts .exit)) ≡ partsSize ⌝ }
 {
     let b = NOTE_FIELDS * (h - 1);
-    let ResolvedBoth::Values {
-        left_tag,
-        left_number,
-        right_tag,
-        right_number,
-    } = resolve_both(file, notes, b, scope, levels, levels)
-    else {
+    let Compared::Part(part) = compared_part(file, notes, b, scope, levels, levels, 0, e) else {
         return Placed::Unplaced;
-    };
-    let part = Fields {
-        kind: 4,
-        comparison: notes[b + NOTE_COMPARISON],
-        table: 0,
-        end: e,
-        left_tag,
-        left_number,
-        right_tag,
-        right_number,
     };
     put_part(parts, e - 1, part);
     Placed::At(e - 1)
@@ -356,29 +341,20 @@ fn place_comparison(
 // IS NULL and IS NOT NULL.
 fn place_null(
     file: &[u8],
-    notes: &[usize; NOTE_NUMBERS],
+    notes: &[usize],
     h: usize,
     parts: &mut [usize; PART_NUMBERS],
     e: usize,
     scope: &[usize; SCOPE_NUMBERS],
     levels: usize,
 ) -> Placed
-    requires { ⌜ Placeable (now file) (now notes) h (now parts) e (now scope) levels ⌝ ∗ ⌜ (5 ≤ kindAt (now notes) h) × (kindAt (now notes) h ≤ 6) ⌝ }
+    requires { ⌜ Placeable (now file) (now notes) h (now parts) e (now scope) levels ⌝ ∗ ⌜ (nullKind ≤ kindAt (now notes) h) × (kindAt (now notes) h ≤ notNullKind) ⌝ }
     ensures placed { λ r. ⌜ PlacedTo (now (file .entry)) (now (notes .entry)) h (now (parts .entry)) (now (parts .exit)) e (now (scope .entry)) levels r ⌝ }
-    ensures size { λ _. ⌜ length (now (parts .exit)) ≡ 512 ⌝ }
+    ensures size { λ _. ⌜ length (now (parts .exit)) ≡ partsSize ⌝ }
 {
     let b = NOTE_FIELDS * (h - 1);
-    let Resolved::Value {
-        tag: left_tag,
-        number: left_number,
-    } = resolve(
-        file,
-        scope,
-        levels,
-        notes[b + NOTE_LEFT_LETTER],
-        notes[b + NOTE_LEFT_NUMBER],
-    )
-    else {
+    let left = resolve_noted(file, notes, b + NOTE_LEFT_LETTER, scope, levels);
+    let Resolved::Value(left_tag, left_number) = left else {
         return Placed::Unplaced;
     };
     let part = Fields {
@@ -398,16 +374,16 @@ fn place_null(
 // EXISTS: its letter is bound one level deeper, for its WHERE.
 fn place_exists(
     file: &[u8],
-    notes: &[usize; NOTE_NUMBERS],
+    notes: &[usize],
     h: usize,
     parts: &mut [usize; PART_NUMBERS],
     e: usize,
     scope: &[usize; SCOPE_NUMBERS],
     levels: usize,
 ) -> Placed
-    requires { ⌜ Placeable (now file) (now notes) h (now parts) e (now scope) levels ⌝ ∗ ⌜ kindAt (now notes) h ≡ 7 ⌝ }
+    requires { ⌜ Placeable (now file) (now notes) h (now parts) e (now scope) levels ⌝ ∗ ⌜ kindAt (now notes) h ≡ existsKind ⌝ }
     ensures placed { λ r. ⌜ PlacedTo (now (file .entry)) (now (notes .entry)) h (now (parts .entry)) (now (parts .exit)) e (now (scope .entry)) levels r ⌝ }
-    ensures size { λ _. ⌜ length (now (parts .exit)) ≡ 512 ⌝ }
+    ensures size { λ _. ⌜ length (now (parts .exit)) ≡ partsSize ⌝ }
 {
     let b = NOTE_FIELDS * (h - 1);
     let table = find_numbered(notes[b + NOTE_TABLE], byte(file, 0));
@@ -420,7 +396,7 @@ fn place_exists(
         return Placed::Unplaced;
     };
     let part = Fields {
-        kind: 7,
+        kind: EXISTS_PART,
         comparison: 0,
         table,
         end: e,
@@ -436,16 +412,16 @@ fn place_exists(
 // SOME and ALL: the left value is looked up outside, the selected one and the WHERE inside.
 fn place_list(
     file: &[u8],
-    notes: &[usize; NOTE_NUMBERS],
+    notes: &[usize],
     h: usize,
     parts: &mut [usize; PART_NUMBERS],
     e: usize,
     scope: &[usize; SCOPE_NUMBERS],
     levels: usize,
 ) -> Placed
-    requires { ⌜ Placeable (now file) (now notes) h (now parts) e (now scope) levels ⌝ ∗ ⌜ 8 ≤ kindAt (now notes) h ⌝ }
+    requires { ⌜ Placeable (now file) (now notes) h (now parts) e (now scope) levels ⌝ ∗ ⌜ listKind Some ≤ kindAt (now notes) h ⌝ }
     ensures placed { λ r. ⌜ PlacedTo (now (file .entry)) (now (notes .entry)) h (now (parts .entry)) (now (parts .exit)) e (now (scope .entry)) levels r ⌝ }
-    ensures size { λ _. ⌜ length (now (parts .exit)) ≡ 512 ⌝ }
+    ensures size { λ _. ⌜ length (now (parts .exit)) ≡ partsSize ⌝ }
 {
     let b = NOTE_FIELDS * (h - 1);
     let table = find_numbered(notes[b + NOTE_TABLE], byte(file, 0));
@@ -455,44 +431,24 @@ fn place_list(
     let inside = bind(scope, levels, notes[b + NOTE_LETTER], table);
     let deeper = levels + 1;
     // The value left of the list does not see the letter that is bound here.
-    let ResolvedBoth::Values {
-        left_tag,
-        left_number,
-        right_tag,
-        right_number,
-    } = resolve_both(file, notes, b, &inside, levels, deeper)
+    let Compared::Part(part) = compared_part(file, notes, b, &inside, levels, deeper, table, e)
     else {
         return Placed::Unplaced;
     };
     let Placed::At(inner) = place(file, notes, h - 1, parts, e, &inside, deeper) else {
         return Placed::Unplaced;
     };
-    let part = Fields {
-        kind: notes[b],
-        comparison: notes[b + NOTE_COMPARISON],
-        table,
-        end: e,
-        left_tag,
-        left_number,
-        right_tag,
-        right_number,
-    };
     put_part(parts, inner - 1, part);
     Placed::At(inner - 1)
 }
 
 // The parts of the rule whose condition is noted, n of them; or some name means nothing. Around a whole rule m is bound, to table 1.
-pub fn name_parts(
-    file: &[u8],
-    notes: &[usize; NOTE_NUMBERS],
-    n: usize,
-    parts: &mut [usize; PART_NUMBERS],
-) -> bool
-    requires { ⌜ Nameable (now file) (now notes) n ⌝ ∗ ⌜ length (now parts) ≡ 512 ⌝ }
+pub fn name_parts(file: &[u8], notes: &[usize], n: usize, parts: &mut [usize; PART_NUMBERS]) -> bool
+    requires { ⌜ Nameable (now file) (now notes) n ⌝ ∗ ⌜ length (now parts) ≡ partsSize ⌝ }
     ensures named { λ r. ⌜ NamedTo (now (file .entry)) (now (notes .entry)) n (now (parts .exit)) r ⌝ }
-    ensures size { λ _. ⌜ length (now (parts .exit)) ≡ 512 ⌝ }
+    ensures size { λ _. ⌜ length (now (parts .exit)) ≡ partsSize ⌝ }
 {
-    let scope = [109usize, 1, 0, 0, 0, 0, 0, 0];
+    let scope = [JUDGED_LETTER, 1, 0, 0, 0, 0, 0, 0];
     let placed = place(file, notes, n, parts, n, &scope, 1);
     match placed {
         Placed::At(_) => true,

@@ -23,7 +23,7 @@ use Rattle.rule.specs.Condition.{WrittenCondition, Rule, parts, fromsDeep}
 use Rattle.rule.specs.Grammar.{Tokens}
 use Rattle.rule.specs.Reader.{readAll}
 use Rattle.rule.specs.Names.{mostParts, mostFroms, limitsFit, outermost, ruleIn}
-use Rattle.rule.specs.Calls.{mostBytes, conditionOf, ruleOf, readingRefusals, Accepted, withRule}
+use Rattle.rule.specs.Calls.{mostBytes, conditionOf, ruleOf, textRefusals, tokensRefusals, readingRefusals, Accepted, withRule}
 use Rattle.rule.proofs.Accepted.{limits-of}
 use Rattle.lexer.specs.Code.{tokensIn, tokenizedAs, tokensFit}
 use Rattle.lexer.specs.declared.Tokenized.{Tokenized}
@@ -31,7 +31,7 @@ use Rattle.grammar.specs.Code.{WholeReading, ReadsAll}
 use Rattle.grammar.specs.declared.Step.{Step}
 use Rattle.names.specs.Code.{Nameable, NamedAt, NamedTo}
 use Rattle.names.proofs.Keeping.{read-kept}
-use Rattle.parser.specs.Code.{scanRefusals, TextReady, tokensRefusals, TokensParsing, TokensParsedTo, parsedAnswer, parseCall, Parsing, ParsedTo}
+use Rattle.parser.specs.Code.{TextReady, TokensParsing, TokensParsedTo, parsedAnswer, parseCall, Parsing, ParsedTo}
 use Rattle.parser.proofs.Sizes.{written-count}
 use Rattle.parser.specs.declared.Parsed.{Parsed}
 use Rattle.parser.specs.declared.Parsed.the-variants.{Rule as ParsedRule, Refused as ParsedRefused}
@@ -39,18 +39,18 @@ use Rattle.parser.specs.declared.Parsed.the-variants.{Rule as ParsedRule
 -- ---- bytes: refusals 3 and 4
 
 module _ (text : List ℕ) where
-  too-long : mostBytes < length text → firstApplying (scanRefusals text) ≡ some 3
+  too-long : mostBytes < length text → firstApplying (textRefusals text) ≡ some 3
   too-long h = first-one 3 (ltb mostBytes (length text)) _ (lt-ltb mostBytes (length text) h)
 
   module _ (short : length text ≤ mostBytes) where
     short-enough : ltb mostBytes (length text) ≡ false
     short-enough = le-ltb mostBytes (length text) short
 
-    no-tokens : tokensOf text ≡ none → firstApplying (scanRefusals text) ≡ some 4
+    no-tokens : tokensOf text ≡ none → firstApplying (textRefusals text) ≡ some 4
     unfolding firstApplying
     no-tokens e = rw (short-enough, e)
 
-    scan-passes : (ts : Tokens) → tokensOf text ≡ some ts → firstApplying (scanRefusals text) ≡ none
+    scan-passes : (ts : Tokens) → tokensOf text ≡ some ts → firstApplying (textRefusals text) ≡ none
     scan-passes ts e = first-none 3 _ _ short-enough (first-none 4 _ [] (ap isMissing e) first-nil)
 
 -- ---- tokens: refusals 5 to 8
@@ -65,7 +65,7 @@ limits-deep a h d = rw (le-leb (parts a) mostParts h, lt-leb (fromsDeep a) mostF
 
 module _ (s file : List ℕ) where
   abbrev pub FirstOfTokens : ℕ → Type 0
-  FirstOfTokens n = firstApplying (tokensRefusals (tokensIn s) (columnsOf file)) ≡ some n
+  FirstOfTokens n = firstApplying (tokensRefusals (columnsOf file) (some (tokensIn s)) (readAll (tokensIn s))) ≡ some n
 
   pub unfit-brackets : opensFit (pos 0) (tokensIn s) ≡ false → FirstOfTokens 5
   unfolding firstApplying
@@ -92,7 +92,7 @@ module _ (s file : List ℕ) where
         nameable =
             record {
               sized = sized;
-              notes-size = size;
+              notes-room = omega arith;
               few-notes = few;
               tree = w .tree;
               count = w .count;
@@ -148,7 +148,7 @@ module _ (s new : List ℕ) (r : Step) (told : ReadsAll s new r) where
 -- ---- all of them
 
 module _ (text file : List ℕ) where
-  in-groups : (ts : Tokens) → tokensOf text ≡ some ts → readingRefusals text file ≡ tablesRefusals file ++ (scanRefusals text ++ tokensRefusals ts (columnsOf file))
+  in-groups : (ts : Tokens) → tokensOf text ≡ some ts → readingRefusals text file ≡ tablesRefusals file ++ (textRefusals text ++ tokensRefusals (columnsOf file) (some ts) (readAll ts))
   unfolding readingRefusals conditionOf
   in-groups ts e = rw e
 
@@ -161,9 +161,9 @@ module _ (text file : List ℕ) where
   parse-tables r x e p = refused-first (first-found (tablesRefusals file) _ (tables-refuse file r x e p))
 
   module _ (pass : firstApplying (tablesRefusals file) ≡ none) where
-    bytes-decide : {n : ℕ} → firstApplying (scanRefusals text) ≡ some n → Refused n ≡ parseCall text file
+    bytes-decide : {n : ℕ} → firstApplying (textRefusals text) ≡ some n → Refused n ≡ parseCall text file
     unfolding readingRefusals
-    bytes-decide f = refused-first (first-append (tablesRefusals file) _ pass ∙ first-found (scanRefusals text) _ f)
+    bytes-decide f = refused-first (first-append (tablesRefusals file) _ pass ∙ first-found (textRefusals text) _ f)
 
   -- tables that were found valid
   module _ (r : Validity) (e : r ≡ Validity.Valid) (p : validityAnswer r ≡ tablesCall file) where
@@ -178,11 +178,11 @@ module _ (text file : List ℕ) where
     parse-untokenized e = bytes-decide (ready .tables-pass) (no-tokens text (ready .short) e)
 
     module _ (s : List ℕ) (are : tokensOf text ≡ some (tokensIn s)) where
-      tokens-decide : firstApplying (readingRefusals text file) ≡ firstApplying (tokensRefusals (tokensIn s) (columnsOf file))
+      tokens-decide : firstApplying (readingRefusals text file) ≡ firstApplying (tokensRefusals (columnsOf file) (some (tokensIn s)) (readAll (tokensIn s)))
       tokens-decide =
           ap firstApplying (in-groups _ are)
           ∙ first-append (tablesRefusals file) _ (ready .tables-pass)
-          ∙ first-append (scanRefusals text) _ (scan-passes text (ready .short) _ are)
+          ∙ first-append (textRefusals text) _ (scan-passes text (ready .short) _ are)
 
       module _ (written : List ℕ) (m : ℕ) (q : TokensParsing s file written m) where
         accepted : Accepted text file

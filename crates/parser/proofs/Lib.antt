@@ -1,4 +1,5 @@
 pub mod Sizes
+pub mod Copying
 pub mod Groups
 pub mod Small
 pub mod Known

@@ -7,7 +7,7 @@ use lib.ListN.{length, getD, take, drop}
 use lib.Seq.{drop-drop, getD-take, getD-drop}
 use Rattle.tables.specs.Values.{Value, Comparison, Connective, And, Or, Quantifier, Some, All}
 use Rattle.rule.specs.Condition.{Test, Compare, IsNull, IsNotNull, Atom, Join, Not, Exists, Listed, Rule, parts}
-use Rattle.rule.specs.Parts.{Head, AtomHead, JoinHead, NotHead, ExistsHead, ListedHead, kindOf, partOf, partsFrom, partsOf}
+use Rattle.rule.specs.Parts.{Head, AtomHead, JoinHead, NotHead, ExistsHead, ListedHead, joinKind, listKind, kindOf, partOf, partsFrom, partsOf}
 use Rattle.rule.specs.declared.Part.{Part}
 use Rattle.rule.proofs.Parts.{parts-length}
 use Rattle.names.specs.Code.{partNumbers, partsNumbers}
@@ -151,23 +151,6 @@ module _ (p : List ℕ) (s : ℕ) where
 
 -- ---- the rule, by the kind of its first part
 
--- the kinds of AND and OR, and of SOME and ALL
-abbrev pub joinKind : Connective → ℕ
-joinKind And = 1
-joinKind Or = 2
-
-abbrev pub listedKind : Quantifier → ℕ
-listedKind Some = 8
-listedKind All = 9
-
-join-kind-of : (j : Connective) → kindOf (JoinHead j) ≡ joinKind j
-join-kind-of And = refl
-join-kind-of Or = refl
-
-listed-kind-of : (q : Quantifier) (op : Comparison) (l r : Value) (t : ℕ) → kindOf (ListedHead q op l r t) ≡ listedKind q
-listed-kind-of Some op l r t = refl
-listed-kind-of All op l r t = refl
-
 module _ (p : List ℕ) (s : ℕ) where
   pub record IsTest (r : Rule) : Type 0 where
     pub test : Test Value
@@ -225,7 +208,7 @@ module _ (p : List ℕ) (s : ℕ) where
     pub inner : Rule
     pub is : r ≡ Listed quantifier op left selected table inner
     pub here : PartAt p s (partOf (s + (1 + parts inner)) (ListedHead quantifier op left selected table))
-    pub kind-is : getD p (8 * s) 0 ≡ listedKind quantifier
+    pub kind-is : getD p (8 * s) 0 ≡ listKind quantifier
     pub inner-stands : Stands p (s + 1) inner
 
   -- one of the forms, with the bounds of its kind
@@ -243,7 +226,7 @@ module _ (p : List ℕ) (s : ℕ) where
   low-kind And e = (omega arith, omega arith)
   low-kind Or e = (omega arith, omega arith)
 
-  high-kind : (q : Quantifier) → getD p (8 * s) 0 ≡ listedKind q → (8 ≤ getD p (8 * s) 0) × (getD p (8 * s) 0 ≤ 9)
+  high-kind : (q : Quantifier) → getD p (8 * s) 0 ≡ listKind q → (8 ≤ getD p (8 * s) 0) × (getD p (8 * s) 0 ≤ 9)
   high-kind Some e = (omega arith, omega arith)
   high-kind All e = (omega arith, omega arith)
 
@@ -253,7 +236,7 @@ module _ (p : List ℕ) (s : ℕ) where
   by-kind (Atom (IsNull l)) h = by-blank (kind-stands p s (Atom (IsNull l)) h) record { left = l; is = refl; here = h }
   by-kind (Atom (IsNotNull l)) h = by-present (kind-stands p s (Atom (IsNotNull l)) h) record { left = l; is = refl; here = h }
   by-kind (Join j a b) h =
-      let k = kind-stands p s (Join j a b) h ∙ join-kind-of j in
+      let k = kind-stands p s (Join j a b) h in
       by-join (low-kind j k .0) (low-kind j k .1) record {
         connective = j;
         left = a;
@@ -269,7 +252,7 @@ module _ (p : List ℕ) (s : ℕ) where
   by-kind (Exists t w) h =
       by-exists (kind-stands p s (Exists t w) h) record { table = t; inner = w; is = refl; here = h .0; inner-stands = h .1 }
   by-kind (Listed q op l r t w) h =
-      let k = kind-stands p s (Listed q op l r t w) h ∙ listed-kind-of q op l r t in
+      let k = kind-stands p s (Listed q op l r t w) h in
       by-listed (high-kind q k .0) (high-kind q k .1) record {
         quantifier = q;
         op = op;

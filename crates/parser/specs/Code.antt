@@ -1,47 +1,31 @@
 -- What the functions of src/ promise one another and their callers. The contract of a public call cites nothing of this file.
 use mathlib.Core.Path.{_≡_}
-use mathlib.Core.Bool.{true, not}
-use mathlib.Core.List.{List, [], _∷_}
+use mathlib.Core.Bool.{true}
+use mathlib.Core.List.{List}
 use mathlib.Core.Option.{none, some}
 use Prim.Native.Nat.{ℕ, _*_, _≤_}
-use lib.Dec.{ltb}
 use lib.IntN.{pos}
 use lib.ListN.{length, take}
-use Rattle.tables.specs.Lists.{isMissing}
 use Rattle.tables.specs.Tables.{columnsOf}
-use Rattle.tables.specs.Refusals.{Refusal, _if_, firstApplying, Answer, Refused, Given, unless, tablesRefusals}
+use Rattle.tables.specs.Refusals.{firstApplying, Answer, Refused, Given, unless, tablesRefusals}
 use Rattle.cells.specs.Reasons.{reasonNumber}
 use Rattle.cells.specs.Code.{Sized}
-use Rattle.rule.specs.Tokens.{tokensOf, opensFit}
+use Rattle.rule.specs.Tokens.{opensFit}
 use Rattle.rule.specs.Condition.{WrittenCondition, Rule, parts}
-use Rattle.rule.specs.Grammar.{Tokens}
 use Rattle.rule.specs.Reader.{readAll}
 use Rattle.rule.specs.Names.{limitsFit, outermost, ruleIn}
 use Rattle.rule.specs.Parts.{partsOf}
-use Rattle.rule.specs.Calls.{mostBytes, fails, isThere, ruleOf, readingRefusals, Accepted, withRule}
+use Rattle.rule.specs.Calls.{mostBytes, tokensRefusals, ruleOf, readingRefusals, Accepted, withRule}
 use Rattle.lexer.specs.Code.{tokensIn}
-use Rattle.names.specs.Code.{partsNumbers}
+use Rattle.names.specs.Code.{partSize, partsNumbers}
 use Rattle.parser.specs.declared.Parsed.{Parsed}
 use Rattle.parser.specs.declared.Parsed.the-variants.{Rule as ParsedRule, Refused as ParsedRefused}
-
--- ---- reading in three steps: the refusals of tables are tried first, then these two groups
-
-abbrev pub scanRefusals : List ℕ → List Refusal
-scanRefusals text = (3 if ltb mostBytes (length text)) ∷ (4 if isMissing (tokensOf text)) ∷ []
 
 -- a text that is not too long, with tables that are not refused
 pub record TextReady (text file : List ℕ) : Type 0 where
   pub short : length text ≤ mostBytes
   pub sized : Sized file
   pub tables-pass : firstApplying (tablesRefusals file) ≡ none
-
-abbrev pub tokensRefusals : Tokens → List ℕ → List Refusal
-tokensRefusals ts columns =
-    (5 if not (opensFit (pos 0) ts))
-    ∷ (6 if not (isThere (readAll ts)))
-    ∷ (7 if fails limitsFit (readAll ts))
-    ∷ (8 if fails (λ a. isThere (ruleIn columns outermost a)) (readAll ts))
-    ∷ []
 
 -- the rule of some tokens, and its parts at the front of an array
 pub record TokensParsing (s file new : List ℕ) (n : ℕ) : Type 0 where
@@ -52,11 +36,11 @@ pub record TokensParsing (s file new : List ℕ) (n : ℕ) : Type 0 where
   pub rule : Rule
   pub named : ruleIn (columnsOf file) outermost tree ≡ some rule
   pub count : n ≡ parts rule
-  pub written : take (8 * n) new ≡ partsNumbers (partsOf rule)
+  pub written : take (partSize * n) new ≡ partsNumbers (partsOf rule)
 
 abbrev pub TokensParsedTo : (s file new : List ℕ) → Parsed → Type 0
 TokensParsedTo s file new (ParsedRule n) = TokensParsing s file new n
-TokensParsedTo s file new (ParsedRefused x) = firstApplying (tokensRefusals (tokensIn s) (columnsOf file)) ≡ some (reasonNumber x)
+TokensParsedTo s file new (ParsedRefused x) = firstApplying (tokensRefusals (columnsOf file) (some (tokensIn s)) (readAll (tokensIn s))) ≡ some (reasonNumber x)
 
 -- ---- reading as a whole
 
@@ -74,7 +58,7 @@ pub record Parsing (text file new : List ℕ) (n : ℕ) : Type 0 where
   pub rule : Rule
   pub is-rule : ruleOf text (columnsOf file) ≡ some rule
   pub count : n ≡ parts rule
-  pub written : take (8 * n) new ≡ partsNumbers (partsOf rule)
+  pub written : take (partSize * n) new ≡ partsNumbers (partsOf rule)
 
 abbrev pub ParsedTo : (text file new : List ℕ) → Parsed → Type 0
 ParsedTo text file new (ParsedRule n) = Parsing text file new n

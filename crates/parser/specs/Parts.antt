@@ -13,11 +13,11 @@ use Rattle.rule.specs.Condition.{Atom, Join, Not, Exists, Listed, Rule, parts}
 use Rattle.rule.specs.Parts.{AtomHead, JoinHead, NotHead, ExistsHead, ListedHead, partOf}
 use Rattle.rule.specs.declared.TaggedValue.{TaggedValue}
 use Rattle.rule.specs.declared.Part.{Part}
-use Rattle.names.specs.Code.{partNumbers}
+use Rattle.names.specs.Code.{partSize, partNumbers}
 
 -- part s is this one
 pub record PartAt (p : List ℕ) (s : ℕ) (x : Part) : Type 0 where
-  pub field : (k : ℕ) → k < 8 → getD p (8 * s + k) 0 ≡ getD (partNumbers x) k 0
+  pub field : (k : ℕ) → k < partSize → getD p (partSize * s + k) 0 ≡ getD (partNumbers x) k 0
 
 -- the parts from number s on are those of a rule
 unfoldable pub Stands : List ℕ → ℕ → Rule → Type 0
@@ -40,12 +40,12 @@ taggedFrom tag n = record { tag = tag; number = signedOf tag n }
 -- the part that stands at number i, and the first n
 abbrev pub partIn : List ℕ → ℕ → Part
 partIn l i = record {
-  kind = getD l (8 * i) 0;
-  comparison = getD l (8 * i + 1) 0;
-  table = getD l (8 * i + 2) 0;
-  end = getD l (8 * i + 3) 0;
-  left = taggedFrom (getD l (8 * i + 4) 0) (getD l (8 * i + 5) 0);
-  right = taggedFrom (getD l (8 * i + 6) 0) (getD l (8 * i + 7) 0);
+  kind = getD l (partSize * i) 0;
+  comparison = getD l (partSize * i + 1) 0;
+  table = getD l (partSize * i + 2) 0;
+  end = getD l (partSize * i + 3) 0;
+  left = taggedFrom (getD l (partSize * i + 4) 0) (getD l (partSize * i + 5) 0);
+  right = taggedFrom (getD l (partSize * i + 6) 0) (getD l (partSize * i + 7) 0);
 }
 
 unfoldable pub partsIn : List ℕ → ℕ → List Part
@@ -59,14 +59,14 @@ pub record Signable (tag n : ℕ) : Type 0 where
 
 -- its fields have a byte each, but for the numbers of its values
 pub record SmallPart (l : List ℕ) (i : ℕ) : Type 0 where
-  pub kind : getD l (8 * i) 0 < 256
-  pub comparison : getD l (8 * i + 1) 0 < 256
-  pub table : getD l (8 * i + 2) 0 < 256
-  pub end : getD l (8 * i + 3) 0 < 256
-  pub left-tag : getD l (8 * i + 4) 0 < 256
-  pub left-number : Signable (getD l (8 * i + 4) 0) (getD l (8 * i + 5) 0)
-  pub right-tag : getD l (8 * i + 6) 0 < 256
-  pub right-number : Signable (getD l (8 * i + 6) 0) (getD l (8 * i + 7) 0)
+  pub kind : getD l (partSize * i) 0 < 256
+  pub comparison : getD l (partSize * i + 1) 0 < 256
+  pub table : getD l (partSize * i + 2) 0 < 256
+  pub end : getD l (partSize * i + 3) 0 < 256
+  pub left-tag : getD l (partSize * i + 4) 0 < 256
+  pub left-number : Signable (getD l (partSize * i + 4) 0) (getD l (partSize * i + 5) 0)
+  pub right-tag : getD l (partSize * i + 6) 0 < 256
+  pub right-number : Signable (getD l (partSize * i + 6) 0) (getD l (partSize * i + 7) 0)
 
 abbrev pub SmallParts : List ℕ → ℕ → Type 0
 SmallParts l n = (i : ℕ) → i < n → SmallPart l i

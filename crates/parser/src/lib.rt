@@ -1,13 +1,16 @@
 // The rule of a text: its parts as numbers, or the first refusal of reading that applies. READ, JUDGE and CARD go on from here.
 ghost use mathlib.Core.Path.{_≡_};
 ghost use Prim.Native.Nat.{_≤_};
-ghost use lib.ListN.{length};
+ghost use lib.ListN.{length, take};
 ghost use Rattle.cells.specs.Code.{Sized};
+ghost use Rattle.grammar.specs.Code.{notesSize};
+ghost use Rattle.names.specs.Code.{partsSize, Nameable, NamedTo};
 ghost use Rattle.parser.specs.Code.{TextReady, TokensParsedTo, parsedAnswer, parseCall, ParsedTo};
 use cells::Reason;
 use cells::Validity;
 use grammar::MOST_FROMS;
 use grammar::MOST_PARTS;
+use grammar::NOTE_FIELDS;
 use grammar::NOTE_NUMBERS;
 use grammar::Step;
 use lexer::MOST_BYTES;
@@ -20,24 +23,58 @@ const SHORT_TEXT: usize = 128;
 
 const MIDDLE_TEXT: usize = 1024;
 
+// The notes of a rule of at most so many parts are copied to an array that has no more room than that: setting up one for the most notes takes longer than
+// reading a short rule.
+const FEW_PARTS: usize = 16;
+
+const FEW_NUMBERS: usize = NOTE_FIELDS * FEW_PARTS;
+
 // What reading gives: the number of a rule's parts, or why there is no rule.
 pub enum Parsed {
     Rule(usize),
     Refused(Reason),
 }
 
-// The rule of some tokens: refusals 5 to 8. The grammar is judged to the end before the limits, and these before the names.
+// The first n numbers of from, at the start of notes.
+fn copy_few(from: &[usize; NOTE_NUMBERS], n: usize, notes: &mut [usize; FEW_NUMBERS])
+    requires { ⌜ length (now from) ≡ notesSize ⌝ ∗ ⌜ n ≤ 128 ⌝ ∗ ⌜ length (now notes) ≡ 128 ⌝ }
+    ensures copied { λ _. ⌜ take n (now (notes .exit)) ≡ take n (now (from .entry)) ⌝ }
+    ensures size { λ _. ⌜ length (now (notes .exit)) ≡ 128 ⌝ }
+{
+    let mut k: usize = 0;
+    while k < n {
+        notes[k] = from[k];
+        k += 1;
+    }
+}
+
+// The parts of the rule whose notes stand in parts, count of them. The parts are written over the notes, so these are copied first.
+fn name_noted(file: &[u8], count: usize, parts: &mut [usize; PART_NUMBERS]) -> bool
+    requires { ⌜ Nameable (now file) (now parts) count ⌝ ∗ ⌜ length (now parts) ≡ partsSize ⌝ }
+    ensures named { λ r. ⌜ NamedTo (now (file .entry)) (now (parts .entry)) count (now (parts .exit)) r ⌝ }
+    ensures size { λ _. ⌜ length (now (parts .exit)) ≡ partsSize ⌝ }
+{
+    if count <= FEW_PARTS {
+        let mut notes = [0usize; FEW_NUMBERS];
+        copy_few(parts, NOTE_FIELDS * count, &mut notes);
+        return names::name_parts(file, &notes, count, parts);
+    }
+    let notes = *parts;
+    names::name_parts(file, &notes, count, parts)
+}
+
+// The rule of some tokens: refusals 5 to 8. The grammar is judged to the end before the limits, and these before the names. The grammar writes its notes
+// where the parts are to stand.
 fn parse_tokens(s: &[usize], file: &[u8], parts: &mut [usize; PART_NUMBERS]) -> Parsed
-    requires { ⌜ length (now s) ≤ 4096 ⌝ ∗ ⌜ Sized (now file) ⌝ ∗ ⌜ length (now parts) ≡ 512 ⌝ }
+    requires { ⌜ length (now s) ≤ 4096 ⌝ ∗ ⌜ Sized (now file) ⌝ ∗ ⌜ length (now parts) ≡ partsSize ⌝ }
     ensures parsed { λ r. ⌜ TokensParsedTo (now (s .entry)) (now (file .entry)) (now (parts .exit)) r ⌝ }
-    ensures size { λ _. ⌜ length (now (parts .exit)) ≡ 512 ⌝ }
+    ensures size { λ _. ⌜ length (now (parts .exit)) ≡ partsSize ⌝ }
 {
     let fits = lexer::brackets_fit(s);
     if !fits {
         return Parsed::Refused(Reason::Brackets);
     }
-    let mut notes = [0usize; NOTE_NUMBERS];
-    let Step::Next { at: _, count, deep } = grammar::read_tokens(s, &mut notes) else {
+    let Step::Next { at: _, count, deep } = grammar::read_tokens(s, parts) else {
         return Parsed::Refused(Reason::Grammar);
     };
     if MOST_PARTS < count {
@@ -46,7 +83,7 @@ fn parse_tokens(s: &[usize], file: &[u8], parts: &mut [usize; PART_NUMBERS]) -> 
     if MOST_FROMS < deep {
         return Parsed::Refused(Reason::Limits);
     }
-    let named = names::name_parts(file, &notes, count, parts);
+    let named = name_noted(file, count, parts);
     if !named {
         return Parsed::Refused(Reason::Names);
     }
@@ -60,10 +97,10 @@ fn parse_text(
     tokens: &mut [usize],
     parts: &mut [usize; PART_NUMBERS],
 ) -> Parsed
-    requires { ⌜ TextReady (now text) (now file) ⌝ ∗ ⌜ length (now text) ≤ length (now tokens) ⌝ ∗ ⌜ length (now parts) ≡ 512 ⌝ }
+    requires { ⌜ TextReady (now text) (now file) ⌝ ∗ ⌜ length (now text) ≤ length (now tokens) ⌝ ∗ ⌜ length (now parts) ≡ partsSize ⌝ }
     ensures answer { λ r. ⌜ parsedAnswer r ≡ parseCall (now (text .entry)) (now (file .entry)) ⌝ }
     ensures parsed { λ r. ⌜ ParsedTo (now (text .entry)) (now (file .entry)) (now (parts .exit)) r ⌝ }
-    ensures size { λ _. ⌜ length (now (parts .exit)) ≡ 512 ⌝ }
+    ensures size { λ _. ⌜ length (now (parts .exit)) ≡ partsSize ⌝ }
 {
     let Tokenized::Tokens(n) = lexer::tokenize(text, tokens) else {
         return Parsed::Refused(Reason::Token);
@@ -73,10 +110,10 @@ fn parse_text(
 
 // The rule of a text, for every call that reads one: the numbers of its parts, from the start of parts on.
 pub fn parse(text: &[u8], file: &[u8], parts: &mut [usize; PART_NUMBERS]) -> Parsed
-    requires { ⌜ length (now parts) ≡ 512 ⌝ }
+    requires { ⌜ length (now parts) ≡ partsSize ⌝ }
     ensures answer { λ r. ⌜ parsedAnswer r ≡ parseCall (now (text .entry)) (now (file .entry)) ⌝ }
     ensures parsed { λ r. ⌜ ParsedTo (now (text .entry)) (now (file .entry)) (now (parts .exit)) r ⌝ }
-    ensures size { λ _. ⌜ length (now (parts .exit)) ≡ 512 ⌝ }
+    ensures size { λ _. ⌜ length (now (parts .exit)) ≡ partsSize ⌝ }
 {
     let valid = cells::check_tables(file);
     if let Validity::Invalid(x) = valid {

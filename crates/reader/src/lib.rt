@@ -6,6 +6,7 @@ ghost use mathlib.Core.List.{_++_};
 ghost use Prim.Native.Nat.{_+_, _*_, _<_, _≤_};
 ghost use lib.ListN.{length, drop};
 ghost use Rattle.rule.specs.Calls.{readCall};
+ghost use Rattle.names.specs.Code.{partSize, partsSize};
 ghost use Rattle.parser.specs.Parts.{signedOf, taggedFrom, partIn, partsIn, Signable, SmallPart, SmallParts};
 ghost use Rattle.reader.specs.Answers.{readAnswer};
 ghost use Rattle.reader.specs.Code.{passedUp, storedBy, ReadTo};
@@ -48,9 +49,9 @@ fn read_numbers(
     numbers: &mut [usize; PART_NUMBERS],
     room: usize,
 ) -> Reading
-    requires { ⌜ length (now numbers) ≡ 512 ⌝ }
+    requires { ⌜ length (now numbers) ≡ partsSize ⌝ }
     ensures read { λ r. ⌜ ReadTo (now (text .entry)) (now (file .entry)) room (now (numbers .exit)) r ⌝ }
-    ensures size { λ _. ⌜ length (now (numbers .exit)) ≡ 512 ⌝ }
+    ensures size { λ _. ⌜ length (now (numbers .exit)) ≡ partsSize ⌝ }
 {
     let parsed = parser::parse(text, file, numbers);
     let Parsed::Rule(n) = parsed else {
@@ -100,7 +101,7 @@ fn tagged_value(tag: usize, n: usize) -> TaggedValue
 
 // Part i.
 fn part_at(numbers: &[usize], i: usize) -> Part
-    requires { ⌜ 8 * i + 8 ≤ length (now numbers) ⌝ ∗ ⌜ SmallPart (now numbers) i ⌝ }
+    requires { ⌜ partSize * i + partSize ≤ length (now numbers) ⌝ ∗ ⌜ SmallPart (now numbers) i ⌝ }
     ensures { λ r. ⌜ r ≡ partIn (now (numbers .entry)) i ⌝ }
 {
     let p = PART_FIELDS * i;
@@ -118,7 +119,7 @@ fn part_at(numbers: &[usize], i: usize) -> Part
 
 // The first n parts to the start of the list.
 fn write_parts(parts: &mut [Part], numbers: &[usize], n: usize)
-    requires { ⌜ (n ≤ length (now parts)) × ((8 * n ≤ length (now numbers)) × SmallParts (now numbers) n) ⌝ }
+    requires { ⌜ (n ≤ length (now parts)) × ((partSize * n ≤ length (now numbers)) × SmallParts (now numbers) n) ⌝ }
     ensures { λ _. ⌜ now (parts .exit) ≡ partsIn (now (numbers .entry)) n ++ drop n (now (parts .entry)) ⌝ }
 {
     let mut i = 0;

@@ -10,7 +10,8 @@ use Rattle.tables.specs.Lists.{placed}
 use Rattle.tables.specs.Bytes.{bytes16, bytes32}
 use Rattle.tables.specs.Values.{constantTag}
 use Rattle.cells.specs.Code.{excess}
-use Rattle.card.specs.Layout.{noValue}
+use Rattle.card.specs.Layout.{recordSize, noValue}
+use Rattle.card.specs.Sound.{mostEntries}
 use Rattle.records.specs.declared.LeafNumbers.{LeafNumbers}
 
 -- ---- bytes
@@ -33,9 +34,9 @@ leafRecord end′ x =
 
 -- there is room for entry k, and the numbers of a leaf are as small as their fields
 pub record LeafAt (kinds records : List ℕ) (k : ℕ) (x : LeafNumbers) : Type 0 where
-  pub kinds-size : length kinds ≡ 192
-  pub few : k < 192
-  pub room : 14 * k + 14 ≤ length records
+  pub kinds-size : length kinds ≡ mostEntries
+  pub few : k < mostEntries
+  pub room : recordSize * k + recordSize ≤ length records
   pub kind-small : x .kind < 256
   pub comparison-small : x .comparison < 256
   pub left-tag-small : x .«left_tag» < 256
@@ -45,7 +46,7 @@ pub record LeafAt (kinds records : List ℕ) (k : ℕ) (x : LeafNumbers) : Type 
 
 pub record LeafWritten (kinds records kinds′ records′ : List ℕ) (k : ℕ) (x : LeafNumbers) : Type 0 where
   pub kinds-are : kinds′ ≡ placed kinds k (x .kind ∷ [])
-  pub records-are : records′ ≡ placed records (14 * k) (leafRecord (k + 1) x)
+  pub records-are : records′ ≡ placed records (recordSize * k) (leafRecord (k + 1) x)
 
 -- ---- kinds and comparisons, negated or not
 

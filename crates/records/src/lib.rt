@@ -6,14 +6,26 @@ ghost use Prim.Native.Nat.{_+_, _*_, _<_, _≤_};
 ghost use lib.ListN.{length};
 ghost use Rattle.tables.specs.Lists.{placed};
 ghost use Rattle.tables.specs.Bytes.{bytes16, bytes32};
+ghost use Rattle.card.specs.Layout.{recordSize};
+ghost use Rattle.card.specs.Sound.{mostEntries};
 ghost use Rattle.records.specs.Code.{byteNumber, plainRecord, LeafAt, LeafWritten, comparisonAs, pairKindAs, rowKindAs, compareKindAs, nullKindAs};
+use card::AND_ENTRY;
+use card::BLANK;
+use card::COMPARISON_OR_NO;
+use card::COMPARISON_OR_YES;
 use card::COMPARISON_PLACE;
+use card::EVERY_ROW;
 use card::LEFT_PLACE;
 use card::MOST_ENTRIES;
+use card::NOT_BLANK;
+use card::OR_ENTRY;
 use card::RECORD_SIZE;
 use card::RIGHT_PLACE;
+use card::SOME_ROW;
 use card::TABLE_PLACE;
 use cells::EXCESS;
+use rule::NOT_NULL_PART;
+use rule::OR_PART;
 use values::CONSTANT;
 
 // A number of two bytes, from place i on.
@@ -55,9 +67,9 @@ pub fn put_plain(
     kind: usize,
     table: usize,
 )
-    requires { ⌜ length (now kinds) ≡ 192 ⌝ ∗ ⌜ k < 192 ⌝ ∗ ⌜ kind < 256 ⌝ ∗ ⌜ table < 256 ⌝ ∗ ⌜ 14 * k + 14 ≤ length (now records) ⌝ }
+    requires { ⌜ length (now kinds) ≡ mostEntries ⌝ ∗ ⌜ k < mostEntries ⌝ ∗ ⌜ kind < 256 ⌝ ∗ ⌜ table < 256 ⌝ ∗ ⌜ recordSize * k + recordSize ≤ length (now records) ⌝ }
     ensures kinds { λ _. ⌜ now (kinds .exit) ≡ placed (now (kinds .entry)) k (kind ∷ []) ⌝ }
-    ensures records { λ _. ⌜ now (records .exit) ≡ placed (now (records .entry)) (14 * k) (plainRecord 0 table) ⌝ }
+    ensures records { λ _. ⌜ now (records .exit) ≡ placed (now (records .entry)) (recordSize * k) (plainRecord 0 table) ⌝ }
 {
     let r = RECORD_SIZE * k;
     kinds[k] = kind as u8;
@@ -114,10 +126,10 @@ pub fn comparison_as(op: usize, negate: bool) -> usize
 pub fn pair_kind(kind: usize, negate: bool) -> usize
     ensures { λ r. ⌜ r ≡ pairKindAs negate kind ⌝ }
 {
-    if (kind == 2) == negate {
-        return 1;
+    if (kind == OR_PART) == negate {
+        return AND_ENTRY;
     }
-    2
+    OR_ENTRY
 }
 
 // A test of every row, or of some row.
@@ -125,9 +137,9 @@ pub fn row_kind(every: bool) -> usize
     ensures { λ r. ⌜ r ≡ rowKindAs every ⌝ }
 {
     if every {
-        return 4;
+        return EVERY_ROW;
     }
-    3
+    SOME_ROW
 }
 
 // A comparison where unknown counts as yes, or as no; negating swaps these.
@@ -135,17 +147,17 @@ pub fn compare_kind(negate: bool, unknown: bool) -> usize
     ensures { λ r. ⌜ r ≡ compareKindAs negate unknown ⌝ }
 {
     if negate == unknown {
-        return 5;
+        return COMPARISON_OR_NO;
     }
-    6
+    COMPARISON_OR_YES
 }
 
 // Blank and not blank, from IS NULL and IS NOT NULL, which negating swaps.
 pub fn null_kind(kind: usize, negate: bool) -> usize
     ensures { λ r. ⌜ r ≡ nullKindAs negate kind ⌝ }
 {
-    if (kind == 6) == negate {
-        return 7;
+    if (kind == NOT_NULL_PART) == negate {
+        return BLANK;
     }
-    8
+    NOT_BLANK
 }

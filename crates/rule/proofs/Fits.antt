@@ -5,17 +5,23 @@ use mathlib.Core.List.{List, [], _∷_, _++_}
 use mathlib.Core.Option.{some}
 use Prim.Native.Nat.{ℕ, suc, _<_, _+_, max}
 use native.Mathlib.Omega.{arith}
-use lib.Dec.{T, eqb}
+use lib.Dec.{T, eqb, ltb, lt→ltb}
+use lib.Ieee.Fits.{and-i}
 use lib.IntN.{ℤ, pos, negsuc}
 use lib.ListN.{length, getD, length-append, List·getD-append}
 use lib.Seq.{getD-append-seam}
 use Rattle.tables.specs.Lists.{numbered, only}
 use Rattle.tables.specs.Bytes.{between}
-use Rattle.tables.specs.Values.{judgedLevels, Value, Constant, Column}
+use Rattle.tables.specs.Values.{judgedLevels, Value, Constant, Column, valueFits}
 use Rattle.rule.specs.Condition.{Test, Compare, IsNull, IsNotNull, Atom, Join, Not, Exists, Listed, WrittenValue, Plain, Named, Over, WrittenCondition, Rule, parts, fromsDeep}
 use Rattle.rule.specs.Names.{Binding, Scope, outermost, bound, nearest, existing, valueIn, testIn, ruleIn, ValueFits, TestFits, TableFits, Fits, ValueScoped, Scoped}
 use Rattle.rule.proofs.Every.{Every, missing, there, found, every-bind}
 use Rattle.rule.proofs.Constants.{WrittenFits, TestConstants, Constants}
+
+-- a value that exists passes the test which a card's value has to pass
+pub value-tested : (columns levels : List ℕ) (v : Value) → ValueFits columns levels v → T (valueFits columns levels v)
+value-tested columns levels (Constant k) f = f
+value-tested columns levels (Column l c) f = and-i (ltb l (length levels)) _ (lt→ltb l (length levels) (f .0)) (f .1)
 
 -- a binding's level has the binding's table
 abbrev InPlace : List ℕ → Binding → Type 0

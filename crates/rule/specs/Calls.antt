@@ -12,6 +12,7 @@ use Rattle.tables.specs.Tables.{columnsOf, tablesOf, rowsWhere}
 use Rattle.tables.specs.Refusals.{Refusal, _if_, firstApplying, Answer, unless, Lent, lend, tablesRefusals, rowRefusal}
 use Rattle.rule.specs.Tokens.{tokensOf, opensFit}
 use Rattle.rule.specs.Condition.{WrittenCondition, Rule}
+use Rattle.rule.specs.Grammar.{Tokens}
 use Rattle.rule.specs.Reader.{readAll}
 use Rattle.rule.specs.Names.{limitsFit, outermost, ruleIn}
 use Rattle.rule.specs.Parts.{partsOf}
@@ -37,17 +38,23 @@ conditionOf text = tokensOf text >>= readAll
 unfoldable pub ruleOf : List ℕ → List ℕ → Option Rule
 ruleOf text columns = conditionOf text >>= ruleIn columns outermost
 
--- ---- the refusals of reading, in the order in which they are tried: 1 to 8
+-- ---- the refusals of reading, in the order in which they are tried: those of the tables, 1 and 2, then these
+
+-- 3 and 4, of a text's bytes
+abbrev pub textRefusals : List ℕ → List Refusal
+textRefusals text = (3 if ltb mostBytes (length text)) ∷ (4 if isMissing (tokensOf text)) ∷ []
+
+-- 5 to 8, of its tokens and of the condition that they read as, with the columns of the tables
+abbrev pub tokensRefusals : List ℕ → Option Tokens → Option WrittenCondition → List Refusal
+tokensRefusals columns tokens condition =
+    (5 if fails (opensFit (pos 0)) tokens)
+    ∷ (6 if fails (λ ts. isThere (readAll ts)) tokens)
+    ∷ (7 if fails limitsFit condition)
+    ∷ (8 if fails (λ a. isThere (ruleIn columns outermost a)) condition)
+    ∷ []
+
 unfoldable pub readingRefusals : List ℕ → List ℕ → List Refusal
-readingRefusals text file =
-    tablesRefusals file
-    ++ ((3 if ltb mostBytes (length text))
-    ∷ (4 if isMissing (tokensOf text))
-    ∷ (5 if fails (opensFit (pos 0)) (tokensOf text))
-    ∷ (6 if fails (λ ts. isThere (readAll ts)) (tokensOf text))
-    ∷ (7 if fails limitsFit (conditionOf text))
-    ∷ (8 if fails (λ a. isThere (ruleIn (columnsOf file) outermost a)) (conditionOf text))
-    ∷ [])
+readingRefusals text file = tablesRefusals file ++ (textRefusals text ++ tokensRefusals (columnsOf file) (tokensOf text) (conditionOf text))
 
 -- What demand 3 compares, first sentence: accepted with a tables file
 abbrev pub Accepted : List ℕ → List ℕ → Type 0

@@ -8,7 +8,7 @@ use Prim.Native.Nat.{ℕ, _+_, _≤_, _<_}
 use lib.IntN.{pos}
 use lib.ListN.{length, getD, drop}
 use Rattle.tables.specs.Tables.{sizesFit, marksFit, columnsOf, rowCount, tablesOf}
-use Rattle.tables.specs.Refusals.{Refused, Given, firstApplying}
+use Rattle.tables.specs.Refusals.{Refused, Given, firstApplying, shortRefusal}
 use Rattle.tables.specs.Values.{judgedLevels}
 use Rattle.rule.specs.Tokens.{tokensOf, opensFit}
 use Rattle.rule.specs.Condition.{WrittenCondition, Rule, parts, fromsDeep}
@@ -79,9 +79,13 @@ pub record CallsClaim : Type 0 where
   pub judge-given : (text file : List ℕ) (row : ℕ) → Accepted text file → (r : Rule) → ruleOf text (columnsOf file) ≡ some r
       → row < rowCount file 1 → judgeCall text file row ≡ Given (judged (tablesOf file) row r)
 
--- the numbers of the refusals of READ and CARD but for 12, and of JUDGE, in the order in which they are tried
+-- the numbers of the refusals of READ and CARD, and of JUDGE, in the order in which they are tried: they rise, so the lowest that applies is given
+-- (LowestClaim of the crate tables)
 pub record OrderClaim : Type 0 where
-  pub reading : (text file : List ℕ) → map (λ r. r .number) (readingRefusals text file) ≡ 1 ∷ 2 ∷ 3 ∷ 4 ∷ 5 ∷ 6 ∷ 7 ∷ 8 ∷ []
+  pub reading : (text file : List ℕ) (answer buffer : List Part)
+      → map (λ r. r .number) (readingRefusals text file ++ (shortRefusal answer buffer ∷ [])) ≡ 1 ∷ 2 ∷ 3 ∷ 4 ∷ 5 ∷ 6 ∷ 7 ∷ 8 ∷ 12 ∷ []
+  pub carding : (text file answer buffer : List ℕ)
+      → map (λ r. r .number) (readingRefusals text file ++ (shortRefusal answer buffer ∷ [])) ≡ 1 ∷ 2 ∷ 3 ∷ 4 ∷ 5 ∷ 6 ∷ 7 ∷ 8 ∷ 12 ∷ []
   pub judging : (text file : List ℕ) (row : ℕ) → map (λ r. r .number) (judgeRefusals text file row) ≡ 1 ∷ 2 ∷ 3 ∷ 4 ∷ 5 ∷ 6 ∷ 7 ∷ 8 ∷ 11 ∷ []
 
 -- cases 1 to 12, together

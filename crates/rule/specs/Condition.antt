@@ -49,18 +49,3 @@ module _ {A F : Type 0} where
   fromsDeep (Not a) = fromsDeep a
   fromsDeep (Exists f w) = 1 + fromsDeep w
   fromsDeep (Listed q op l s f w) = 1 + fromsDeep w
-
-  -- the parts of kind 3, and those of kinds 8 and 9
-  unfoldable pub nots : Condition A F → ℕ
-  nots (Atom x) = 0
-  nots (Join j a b) = nots a + nots b
-  nots (Not a) = 1 + nots a
-  nots (Exists f w) = nots w
-  nots (Listed q op l s f w) = nots w
-
-  unfoldable pub lists : Condition A F → ℕ
-  lists (Atom x) = 0
-  lists (Join j a b) = lists a + lists b
-  lists (Not a) = lists a
-  lists (Exists f w) = lists w
-  lists (Listed q op l s f w) = 1 + lists w

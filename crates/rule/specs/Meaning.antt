@@ -2,8 +2,8 @@
 use mathlib.Core.Bool.{Bool, true, false, not, cond}
 use mathlib.Core.List.{List, map}
 use Prim.Native.Nat.{ℕ}
-use Rattle.tables.specs.Lists.{any, keep}
-use Rattle.tables.specs.Tables.{Cell, Tables, rowsOf}
+use Rattle.tables.specs.Lists.{any, keep, isThereOne}
+use Rattle.tables.specs.Tables.{Cell, Row, Tables, rowsOf}
 use Rattle.tables.specs.Values.{Value, Comparison, holds, Connective, And, Or, Quantifier, Some, All, Env, judgedRow, _▸_, cellOf, byNumbers, isBlank}
 use Rattle.rule.specs.Condition.{Test, Compare, IsNull, IsNotNull, Atom, Join, Not, Exists, Listed, Rule}
 
@@ -77,25 +77,27 @@ test3 env (IsNotNull l) = truth (not (isBlank (cellOf env l)))
 
 -- ---- subqueries
 
--- the values that a comparison takes over the retained rows, as one.
+-- one value of those that a comparison takes over the retained rows.
 -- SOME: true if one is true, else unknown if one is unknown, else false. ALL: false if one is false, else unknown if one is unknown, else
 -- true. So over no rows SOME is false and ALL is true.
 abbrev pub over3 : Quantifier → List Truth → Truth
 over3 Some vs = cond (any isTrue vs) True (cond (any isUnknown vs) Unknown False)
 over3 All vs = cond (any isFalse vs) False (cond (any isUnknown vs) Unknown True)
 
+-- 'a subquery retains the rows whose WHERE is true': those of some rows on which what is asked of each is true
+abbrev pub retained : (Row → Truth) → List Row → List Row
+retained asked rows = keep (λ row. isTrue (asked row)) rows
+
 -- ---- rules
 
--- A subquery keeps just the rows on which its WHERE is true; EXISTS asks whether it keeps one.
--- The value left of a list is read outside it, the selected one at the retained row.
+-- EXISTS asks whether a row is retained. The value left of a list is read outside it, the selected one at the retained row.
 unfoldable pub meaning : Tables → Env → Rule → Truth
 meaning ts env (Atom x) = test3 env x
 meaning ts env (Join j a b) = join3 j (meaning ts env a) (meaning ts env b)
 meaning ts env (Not a) = not3 (meaning ts env a)
-meaning ts env (Exists t w) = truth (any (λ row. isTrue (meaning ts (env ▸ row) w)) (rowsOf ts t))
+meaning ts env (Exists t w) = truth (isThereOne (retained (λ row. meaning ts (env ▸ row) w) (rowsOf ts t)))
 meaning ts env (Listed q op l s t w) =
-    let retained = keep (λ row. isTrue (meaning ts (env ▸ row) w)) (rowsOf ts t) in
-    over3 q (map (λ row. compare3 op (cellOf env l) (cellOf (env ▸ row) s)) retained)
+    over3 q (map (λ row. compare3 op (cellOf env l) (cellOf (env ▸ row) s)) (retained (λ row. meaning ts (env ▸ row) w) (rowsOf ts t)))
 
 -- the value on a row of table 1
 unfoldable pub judged : Tables → ℕ → Rule → Truth

@@ -19,6 +19,7 @@ mostParts = 64
 abbrev pub mostFroms : ℕ
 mostFroms = 3
 
+-- refusal 7 does not apply: 'at most 64 parts, at most three FROMs around one another'
 unfoldable pub limitsFit : WrittenCondition → Bool
 limitsFit a = leb (parts a) mostParts && leb (fromsDeep a) mostFroms
 
@@ -54,10 +55,12 @@ existing most (negsuc n) = none
 
 -- columns has the columns of each table
 module _ (columns : List ℕ) where
+  -- a written value, if its letter is bound and its column exists: a letter's value belongs to its binding's level
   unfoldable pub valueIn : Scope → WrittenValue → Option Value
   valueIn scope (Plain k) = some (Constant k)
   valueIn scope (Named x n) = nearest scope x >>= (λ b. existing (numbered columns (b .table) 0) n >>= (λ c. some (Column (b .level) c)))
 
+  -- a test, if its values do
   unfoldable pub testIn : Scope → Test WrittenValue → Option (Test Value)
   testIn scope (Compare op l r) = valueIn scope l >>= (λ x. valueIn scope r >>= (λ y. some (Compare op x y)))
   testIn scope (IsNull l) = valueIn scope l >>= (λ x. some (IsNull x))

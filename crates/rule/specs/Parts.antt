@@ -12,6 +12,7 @@ use Rattle.rule.specs.declared.TaggedValue.{TaggedValue}
 use Rattle.rule.specs.declared.Part.{Part}
 use Rattle.rule.specs.Condition.{Test, Compare, IsNull, IsNotNull, Atom, Join, Not, Exists, Listed, Rule, parts}
 
+-- 'a value is a tag (255 constant, else level 0 to 3) and a number'
 abbrev pub taggedOf : Value → TaggedValue
 taggedOf (Constant k) = record { tag = constantTag; number = k }
 taggedOf (Column l c) = record { tag = l; number = pos c }
@@ -29,17 +30,38 @@ pub data Head : Type 0 where
   ExistsHead : ℕ → Head
   ListedHead : Quantifier → Comparison → Value → Value → ℕ → Head
 
--- the numbers of the nine kinds
+-- the numbers of the kinds
+abbrev pub joinKind : Connective → ℕ
+joinKind And = 1
+joinKind Or = 2
+
+abbrev pub listKind : Quantifier → ℕ
+listKind Some = 8
+listKind All = 9
+
+abbrev pub notKind : ℕ
+notKind = 3
+
+abbrev pub compareKind : ℕ
+compareKind = 4
+
+abbrev pub nullKind : ℕ
+nullKind = 5
+
+abbrev pub notNullKind : ℕ
+notNullKind = 6
+
+abbrev pub existsKind : ℕ
+existsKind = 7
+
 abbrev pub kindOf : Head → ℕ
-kindOf (JoinHead And) = 1
-kindOf (JoinHead Or) = 2
-kindOf NotHead = 3
-kindOf (AtomHead (Compare op l r)) = 4
-kindOf (AtomHead (IsNull l)) = 5
-kindOf (AtomHead (IsNotNull l)) = 6
-kindOf (ExistsHead t) = 7
-kindOf (ListedHead Some op l s t) = 8
-kindOf (ListedHead All op l s t) = 9
+kindOf (JoinHead j) = joinKind j
+kindOf NotHead = notKind
+kindOf (AtomHead (Compare op l r)) = compareKind
+kindOf (AtomHead (IsNull l)) = nullKind
+kindOf (AtomHead (IsNotNull l)) = notNullKind
+kindOf (ExistsHead t) = existsKind
+kindOf (ListedHead q op l s t) = listKind q
 
 -- a part by its fields: kind, comparison, table, end, left and right value
 abbrev pub partWith : ℕ → ℕ → ℕ → ℕ → TaggedValue → TaggedValue → Part
@@ -70,10 +92,12 @@ partsOf r = partsFrom 0 r
 
 -- ---- the rule of some parts
 
+-- a column's number, which is never negative
 abbrev pub naturalOf : ℤ → ℕ
 naturalOf (pos n) = n
 naturalOf (negsuc n) = 0
 
+-- the value with a tag and a number
 abbrev pub valueOf : TaggedValue → Value
 valueOf f = cond (eqb (f .tag) constantTag) (Constant (f .number)) (Column (f .tag) (naturalOf (f .number)))
 

@@ -140,7 +140,7 @@ depthFor test ts = 8 * length ts + 2
 depthFor (more-or a) ts = 8 * length ts + 1
 depthFor (more-and a) ts = 8 * length ts + 1
 
--- a reading at a depth that is enough: how deep is never used up
+-- a reading, at a depth that is always enough (ReadingClaim)
 unfoldable pub reading : Goal → Tokens → Found
 reading goal ts = read (depthFor goal ts) goal ts
 

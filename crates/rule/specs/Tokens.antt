@@ -198,7 +198,7 @@ bracketStep (Compares c) = pos 0
 bracketStep (Letter b) = pos 0
 bracketStep (Number n) = pos 0
 
--- with n more ( than ) before these tokens, there are at most 32 more up to each of them; n may be negative
+-- with n more ( than ) before these tokens, there are never more than the limit up to one of them; n may be negative
 unfoldable pub opensFit : ℤ → List Token → Bool
 opensFit n [] = true
 opensFit n (t ∷ ts) = let m = n +ℤ bracketStep t in elim (ltZ mostOpen m) [ true ↦ false | false ↦ opensFit m ts ]

@@ -1,4 +1,4 @@
-// What a rule is, from its text to its value. The definitions are in specs/; this is the record of a part, as the definitions and the code have it.
+// What a rule is, from its text to its value. The definitions are in specs/; this is the record of a part, as the definitions and the code have it, and the numbers of its kinds.
 // Laid out as C lays out the same struct, for callers in C.
 
 // A value: a tag, 255 for a constant, else the level of a column; and the constant, or the column's number.
@@ -19,3 +19,22 @@ pub struct Part {
     pub left: TaggedValue,
     pub right: TaggedValue,
 }
+
+// The kinds of parts, as they are published.
+pub const AND_PART: usize = 1;
+
+pub const OR_PART: usize = 2;
+
+pub const NOT_PART: usize = 3;
+
+pub const COMPARISON_PART: usize = 4;
+
+pub const NULL_PART: usize = 5;
+
+pub const NOT_NULL_PART: usize = 6;
+
+pub const EXISTS_PART: usize = 7;
+
+pub const SOME_PART: usize = 8;
+
+pub const ALL_PART: usize = 9;

@@ -20,7 +20,6 @@ use Rattle.cells.specs.declared.Seen.{Seen}
 use Rattle.tables.proofs.Tests.{both}
 use Rattle.card.specs.Card.{AsNo, AsYes, Leaf, CompareLeaf, BlankLeaf, NotBlankLeaf, Card, LeafEntry, PairEntry, RowEntry, leafSays, joined, overRows, answer, leafFits, rowEntryFits, cardFits}
 use Rattle.card.specs.Layout.{LeafHead, PairHead, RowHead}
-use Rattle.card.specs.Sound.{mostEntries}
 use Rattle.decoder.specs.Code.{kindIn, tableIn, comparisonIn, leftIn, rightIn, headIn, Coded, coded-leaf, coded-pair, coded-row}
 use Rattle.decoder.proofs.Coded.{head-1, head-2, head-3, head-4, head-5, head-6, head-7, head-8, kind-is, kind-pair, kind-row, kind-leaf, coded-less, coded-end, PairParts, RowParts, pair-of, row-of}
 use Rattle.values.specs.Code.{rowFrom, Readable, ValueReady}
@@ -197,12 +196,12 @@ rowSays file env (PairEntry j a b) k columns = false
 rowSays file env (RowEntry q t c) k columns = answer (tablesOf file) (env ▸ rowFrom file k columns) c
 
 -- the bounds of a row entry's numbers
-pub record RowBounds (s e depth t : ℕ) : Type 0 where
+pub record RowBounds (d : List ℕ) (s e depth t : ℕ) : Type 0 where
   pub low : 1 ≤ t
   pub high : t ≤ mostTables
   pub deep : depth < 4
   pub next : s + 1 < e
-  pub last : e ≤ mostEntries
+  pub room : 8 * e ≤ length d
 
 -- the place is that of the entry's table, the first r rows of it have passed, and each says q
 pub record RowsPassed (d g file w : List ℕ) (s e depth : ℕ) (q : Bool) (place : Place) (r first : ℕ) (v : List ℕ) : Type 0 where
@@ -212,8 +211,8 @@ pub record RowsPassed (d g file w : List ℕ) (s e depth : ℕ) (q : Bool) (plac
       → rowSays file (h .env) (h .card) (firstAt g (tableIn d s) + k * columnsAt g (tableIn d s)) (columnsAt g (tableIn d s)) ≡ q
 
 module _ {d g file w : List ℕ} {s e depth : ℕ} (h : Runnable d g file w s e depth) where
-  pub start : (s < e) × (e ≤ mostEntries)
-  start = (coded-less (h .coded), h .few)
+  pub start : (s < e) × (8 * e ≤ length d)
+  start = (coded-less (h .coded), h .room)
 
   pub some-kind : 1 ≤ kindIn d s
   some-kind = kind-low (h .coded)
@@ -231,11 +230,11 @@ module _ {d g file w : List ℕ} {s e depth : ℕ} (h : Runnable d g file w s e 
     unfolding cardFits
     leaf-fits = fits-as (LeafEntry (leaf-here .leaf)) (leaf-here .is)
 
-    pub leaf-few : s < mostEntries
-    leaf-few = let z = start in omega arith
+    pub leaf-room : 8 * (s + 1) ≤ length d
+    leaf-room = let z = start in omega arith
 
     abbrev pub leaf-ready : LeafReady d g file w s
-    leaf-ready = record { levels = h .levels; env = h .env; leaf = leaf-here .leaf; readable = h .readable; head = leaf-here .head; few = leaf-few; fits = leaf-fits }
+    leaf-ready = record { levels = h .levels; env = h .env; leaf = leaf-here .leaf; readable = h .readable; head = leaf-here .head; room = leaf-room; fits = leaf-fits }
 
     pub leaf-answer : (r : Bool) → r ≡ leafSays (h .env) (leaf-here .leaf) → r ≡ answer (tablesOf file) (h .env) (h .card)
     unfolding answer
@@ -264,8 +263,8 @@ module _ {d g file w : List ℕ} {s e depth : ℕ} (h : Runnable d g file w s e 
     pub right-coded : Coded d (getD d (8 * s + 9) 0) e (pair-here .right)
     right-coded = subst (λ (m : ℕ). Coded d m e (pair-here .right)) middle-is (pair-here .right-coded)
 
-    pub left-few : getD d (8 * s + 9) 0 ≤ mostEntries
-    left-few = let z = start in let m = middle in omega arith
+    pub left-room : 8 * getD d (8 * s + 9) 0 ≤ length d
+    left-room = let z = start in let m = middle in omega arith
 
     abbrev pub left-run : Runnable d g file w (s + 1) (getD d (8 * s + 9) 0) depth
     left-run =
@@ -276,7 +275,7 @@ module _ {d g file w : List ℕ} {s e depth : ℕ} (h : Runnable d g file w s e 
           readable = h .readable;
           coded = left-coded;
           deep = h .deep;
-          few = left-few;
+          room = left-room;
           fits = pair-fits .0;
         }
 
@@ -289,7 +288,7 @@ module _ {d g file w : List ℕ} {s e depth : ℕ} (h : Runnable d g file w s e 
           readable = h .readable;
           coded = right-coded;
           deep = h .deep;
-          few = h .few;
+          room = h .room;
           fits = pair-fits .1;
         }
 
@@ -323,12 +322,12 @@ module _ {d g file w : List ℕ} {s e depth : ℕ} (h : Runnable d g file w s e 
     table : TableAt file (tableIn d s) (firstAt g (tableIn d s)) (columnsAt g (tableIn d s)) (rowsAt g (tableIn d s))
     table = table-here (h .readable) (tableIn d s) (table-there .0)
 
-    pub row-bounds : RowBounds s e depth (tableIn d s)
+    pub row-bounds : RowBounds d s e depth (tableIn d s)
     row-bounds =
         let t = table-bounds (h .readable) (tableIn d s) (table-there .0) in
         let l = table-there .1 in
         let p = h .deep in
-        record { low = t .0; high = t .1; deep = omega arith; next = coded-less (row-here .inner-coded); last = h .few }
+        record { low = t .0; high = t .1; deep = omega arith; next = coded-less (row-here .inner-coded); room = h .room }
 
     -- a row of the table, after those that have passed
     module _ {place : Place} {r first : ℕ} {v : List ℕ} (below : r < place .rows) (passed : RowsPassed d g file w s e depth q place r first v) where
@@ -359,7 +358,7 @@ module _ {d g file w : List ℕ} {s e depth : ℕ} (h : Runnable d g file w s e 
             readable = inner-readable;
             coded = row-here .inner-coded;
             deep = inner-deep;
-            few = h .few;
+            room = h .room;
             fits = inner-fits;
           }
 

@@ -4,7 +4,7 @@ use mathlib.Core.Path.{_≡_}
 use mathlib.Core.Bool.{Bool, true, false}
 use mathlib.Core.List.{List}
 use mathlib.Core.Option.{some}
-use Prim.Native.Nat.{ℕ, _<_, _≤_}
+use Prim.Native.Nat.{ℕ, _+_, _*_, _≤_}
 use lib.Dec.{T}
 use lib.ListN.{length}
 use Rattle.tables.specs.Tables.{columnsOf, tablesOf}
@@ -12,8 +12,7 @@ use Rattle.tables.specs.Values.{Env}
 use Rattle.values.specs.Code.{Readable}
 use Rattle.card.specs.Card.{Leaf, Card, leafFits, cardFits, leafSays, answer}
 use Rattle.card.specs.Layout.{LeafHead}
-use Rattle.card.specs.Sound.{mostEntries}
-use Rattle.decoder.specs.Code.{headIn, Coded}
+use Rattle.decoder.specs.Code.{entrySize, headIn, Coded}
 
 -- ---- what running asks, and answers: for whatever levels, rows and card the numbers stand for
 
@@ -23,7 +22,7 @@ pub record LeafReady (d g file w : List ℕ) (s : ℕ) : Type 0 where
   pub leaf : Leaf
   pub readable : Readable g file w levels env
   pub head : headIn d s ≡ some (LeafHead leaf)
-  pub few : s < mostEntries
+  pub room : entrySize * (s + 1) ≤ length d
   pub fits : T (leafFits (columnsOf file) levels leaf)
 
 abbrev pub LeafAnswers : (d g file w : List ℕ) (s : ℕ) → Bool → Type 0
@@ -36,7 +35,7 @@ pub record Runnable (d g file w : List ℕ) (s e depth : ℕ) : Type 0 where
   pub readable : Readable g file w levels env
   pub coded : Coded d s e card
   pub deep : depth ≡ length levels
-  pub few : e ≤ mostEntries
+  pub room : entrySize * e ≤ length d
   pub fits : T (cardFits (columnsOf file) levels card)
 
 abbrev pub Answers : (d g file w : List ℕ) (s e depth : ℕ) → Bool → Type 0

@@ -8,10 +8,15 @@ ghost use Rattle.tables.specs.Values.{comparisonOf, holds, byNumbers};
 ghost use Rattle.cells.specs.Code.{seenCell};
 ghost use Rattle.decoder.specs.Code.{kindIn};
 ghost use Rattle.runner.specs.Code.{LeafReady, LeafAnswers, Runnable, Answers, rowKind};
+use card::AND_ENTRY;
+use card::BLANK;
+use card::COMPARISON_OR_YES;
+use card::EVERY_ROW;
+use card::OR_ENTRY;
+use card::SOME_ROW;
 use cells::PLACES;
 use cells::Seen;
 use decoder::COMPARISON;
-use decoder::DECODED;
 use decoder::FIELDS;
 use decoder::LEFT_NUMBER;
 use decoder::LEFT_TAG;
@@ -33,13 +38,7 @@ fn cells_hold(unknown: bool, op: usize, x: Seen, y: Seen) -> bool
 }
 
 // What an entry without inner entries answers.
-fn run_leaf(
-    d: &[usize; DECODED],
-    g: &[usize; PLACES],
-    file: &[u8],
-    s: usize,
-    w: &[usize; LEVELS],
-) -> bool
+fn run_leaf(d: &[usize], g: &[usize; PLACES], file: &[u8], s: usize, w: &[usize; LEVELS]) -> bool
     requires { ⌜ LeafReady (now d) (now g) (now file) (now w) s ⌝ }
     ensures { λ r. ⌜ LeafAnswers (now (d .entry)) (now (g .entry)) (now (file .entry)) (now (w .entry)) s r ⌝ }
 {
@@ -51,7 +50,7 @@ fn run_leaf(
         d[FIELDS * s + LEFT_TAG],
         d[FIELDS * s + LEFT_NUMBER],
     );
-    if k < 7 {
+    if k < BLANK {
         let y = values::look(
             g,
             file,
@@ -59,18 +58,18 @@ fn run_leaf(
             d[FIELDS * s + RIGHT_TAG],
             d[FIELDS * s + RIGHT_NUMBER],
         );
-        return cells_hold(k == 6, d[FIELDS * s + COMPARISON], x, y);
+        return cells_hold(k == COMPARISON_OR_YES, d[FIELDS * s + COMPARISON], x, y);
     }
-    if k == 7 {
+    if k == BLANK {
         return x.blank;
     }
     !x.blank
 }
 
-// What the entry s answers, which asks for some row of its table, or for every row, where its inner entry has no inner entries of its own: no call
-// is made for each row. q is the answer where no row decides.
+// What the entry s answers, which asks for some row of its table, or for every row, where its inner entry has no inner entries of its own: no
+// recursive call is made for each row. q is the answer where no row decides.
 fn run_leaf_rows(
-    d: &[usize; DECODED],
+    d: &[usize],
     g: &[usize; PLACES],
     file: &[u8],
     s: usize,
@@ -100,7 +99,7 @@ fn run_leaf_rows(
 
 // What the entry s, with the inner ones up to e, answers.
 pub fn run_entry(
-    d: &[usize; DECODED],
+    d: &[usize],
     g: &[usize; PLACES],
     file: &[u8],
     s: usize,
@@ -111,7 +110,7 @@ pub fn run_entry(
     requires { ⌜ Runnable (now d) (now g) (now file) (now w) s e depth ⌝ }
     ensures { λ r. ⌜ Answers (now (d .entry)) (now (g .entry)) (now (file .entry)) (now (w .entry)) s e depth r ⌝ }
 {
-    if 4 < d[FIELDS * s] {
+    if EVERY_ROW < d[FIELDS * s] {
         return run_leaf(d, g, file, s, w);
     }
     run_inner(d, g, file, s, e, w, depth)
@@ -119,7 +118,7 @@ pub fn run_entry(
 
 // The same where s has inner entries.
 fn run_inner(
-    d: &[usize; DECODED],
+    d: &[usize],
     g: &[usize; PLACES],
     file: &[u8],
     s: usize,
@@ -132,7 +131,7 @@ fn run_inner(
 {
     let k = d[FIELDS * s];
     match k {
-        1 => {
+        AND_ENTRY => {
             let m = d[FIELDS * s + NEXT_END];
             let left = run_entry(d, g, file, s + 1, m, w, depth);
             if !left {
@@ -140,7 +139,7 @@ fn run_inner(
             }
             run_entry(d, g, file, m, e, w, depth)
         }
-        2 => {
+        OR_ENTRY => {
             let m = d[FIELDS * s + NEXT_END];
             let left = run_entry(d, g, file, s + 1, m, w, depth);
             if left {
@@ -148,14 +147,14 @@ fn run_inner(
             }
             run_entry(d, g, file, m, e, w, depth)
         }
-        3 => run_rows(d, g, file, s, e, w, depth, false),
+        SOME_ROW => run_rows(d, g, file, s, e, w, depth, false),
         _ => run_rows(d, g, file, s, e, w, depth, true),
     }
 }
 
 // The same where s asks for some row of its table, or for every row.
 fn run_rows(
-    d: &[usize; DECODED],
+    d: &[usize],
     g: &[usize; PLACES],
     file: &[u8],
     s: usize,
@@ -167,7 +166,7 @@ fn run_rows(
     requires { ⌜ Runnable (now d) (now g) (now file) (now w) s e depth ⌝ ∗ ⌜ kindIn (now d) s ≡ rowKind q ⌝ }
     ensures { λ r. ⌜ Answers (now (d .entry)) (now (g .entry)) (now (file .entry)) (now (w .entry)) s e depth r ⌝ }
 {
-    if 4 < d[FIELDS * (s + 1)] {
+    if EVERY_ROW < d[FIELDS * (s + 1)] {
         return run_leaf_rows(d, g, file, s, e, w, depth, q);
     }
     let table = cells::table_place(g, d[FIELDS * s + TABLE]);

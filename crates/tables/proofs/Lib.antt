@@ -6,5 +6,7 @@ pub mod Tests
 pub mod Tabulated
 pub mod Sizes
 pub mod Rows
+pub mod Numbering
+pub mod Lowest
 pub mod Blanks
 pub mod Placed

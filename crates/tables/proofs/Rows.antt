@@ -1,12 +1,12 @@
 -- The rows of which a test holds: exactly those, each once, rising.
 use mathlib.Core.Path.{_≡_, refl, sym, ap, subst, _∙_}
-use mathlib.Core.Bool.{Bool, true, false}
+use mathlib.Core.Bool.{Bool, true, false, _||_}
 use mathlib.Core.List.{List, [], _∷_, List·Memᴰ, List·Memᴰ·head, List·Memᴰ·tail, IsChain, IsChain·nil, IsChain·singleton, IsChain·cons-cons}
 use Prim.Native.Nat.{ℕ, zero, suc, _<_, _≤_, suc-le-suc}
 use native.Mathlib.Nat.{le-of-suc-le-suc}
 use native.Mathlib.Omega.{arith}
 use lib.ListN.{length}
-use Rattle.tables.specs.Lists.{tabulate, put, keep}
+use Rattle.tables.specs.Lists.{tabulate, any, put, keep, isThereOne}
 use Rattle.tables.specs.Tables.{rowCount, rowsWhere}
 use Rattle.tables.specs.Claims.{RowsClaim}
 use Rattle.tables.proofs.Tabulated.{tabulate-length}
@@ -53,6 +53,15 @@ module _ (p : ℕ → Bool) where
       go : (b : Bool) → IsChain _<_ (keep p (tabulate n (λ k. f (suc k)))) → IsChain _<_ (put b (f 0) (keep p (tabulate n (λ k. f (suc k)))))
       go true c = chain (f 0) (keep p (tabulate n (λ k. f (suc k)))) above c
       go false c = c
+
+-- a test holds of some element where one is kept
+pub any-kept : {A : Type 0} (p : A → Bool) (xs : List A) → any p xs ≡ isThereOne (keep p xs)
+any-kept p [] = refl
+any-kept p (x ∷ xs) = go (p x) (any-kept p xs)
+  where
+    go : (b : Bool) → any p xs ≡ isThereOne (keep p xs) → (b || any p xs) ≡ isThereOne (put b x (keep p xs))
+    go true e = refl
+    go false e = e
 
 -- the rows of which a test holds are at most all
 keep-few : (p : ℕ → Bool) (xs : List ℕ) → length (keep p xs) ≤ length xs

@@ -47,3 +47,11 @@ module _ {A : Type 0} (p : A → Bool) where
   pub all-more : (n : ℕ) (f : ℕ → A) → all p (tabulate (suc n) f) ≡ (all p (tabulate n f) && p (f n))
   all-more zero f = and-true (p (f 0))
   all-more (suc n) f = ap (λ (t : Bool). p (f 0) && t) (all-more n (λ k. f (suc k))) ∙ sym (and-assoc (p (f 0)) _ _)
+
+-- two tests that agree on the numbers below n
+pub all-same : (n : ℕ) (p q : ℕ → Bool) → ((k : ℕ) → k < n → p k ≡ q k) → all p (tabulate n (λ k. k)) ≡ all q (tabulate n (λ k. k))
+all-same n p q h = go n (λ k. k) (λ k l. h k l)
+  where
+    go : (n : ℕ) (f : ℕ → ℕ) → ((k : ℕ) → k < n → p (f k) ≡ q (f k)) → all p (tabulate n f) ≡ all q (tabulate n f)
+    go zero f e = refl
+    go (suc n) f e = ap₂ _&&_ (e 0 (omega arith)) (go n (λ k. f (suc k)) (λ k l. e (suc k) (suc-le-suc l)))

@@ -3,8 +3,11 @@ use mathlib.Core.Path.{_≡_}
 use mathlib.Core.Bool.{Bool, true}
 use mathlib.Core.List.{List, map, List·Memᴰ, IsChain}
 use mathlib.Core.Logic.{_↔_}
-use Prim.Native.Nat.{ℕ, _<_}
-use Rattle.tables.specs.Tables.{sizes, rowCount, valueBits, markOf, sizesFit, tablesOf, rowsWhere}
+use mathlib.Core.Option.{none, some}
+use Prim.Native.Nat.{ℕ, _<_, _≤_}
+use lib.ListN.{length}
+use Rattle.tables.specs.Tables.{sizes, columnsOf, rowCount, cellCount, valueBits, markOf, sizesFit, tablesOf, rowsWhere}
+use Rattle.tables.specs.Refusals.{Refusal, _if_, firstApplying, tablesRefusals}
 use Rattle.tables.specs.Cases.{sampleFile, sampleTables, edges, sizeEdges, refusalAt, comparisons, comparedSays, valueCases, valueCaseFits}
 
 -- the sample file holds the sample tables
@@ -32,8 +35,27 @@ pub record RowsClaim : Type 0 where
   pub exactly : (file : List ℕ) (p : ℕ → Bool) (row : ℕ) → List·Memᴰ row (rowsWhere file p) ↔ ((row < rowCount file 1) × (p row ≡ true))
   pub rising : (file : List ℕ) (p : ℕ → Bool) → IsChain _<_ (rowsWhere file p)
 
--- the value bytes of a blank cell may be anything: files with the same sizes and marks, and the same values where no cell is blank, hold the same tables
-abbrev pub BlanksClaim : Type 0
-BlanksClaim =
-    (file other : List ℕ) → sizes file ≡ sizes other → ((k : ℕ) → markOf file k ≡ markOf other k)
-    → ((k : ℕ) → markOf file k ≡ 0 → valueBits file k ≡ valueBits other k) → tablesOf file ≡ tablesOf other
+-- 'the value bytes of a blank cell may be anything and affect no answer'. Two files that differ in such bytes alone: they are equally long, and have
+-- the same sizes, the same marks, and the same values where no cell is blank
+pub record BlanksDiffer (file other : List ℕ) : Type 0 where
+  pub same-length : length file ≡ length other
+  pub same-sizes : sizes file ≡ sizes other
+  pub same-marks : (k : ℕ) → k < cellCount file → markOf file k ≡ markOf other k
+  pub same-values : (k : ℕ) → k < cellCount file → markOf file k ≡ 0 → valueBits file k ≡ valueBits other k
+
+-- all that an answer is made from; that the answers of all calls are the same is BlanksClaim of the crate translation
+pub record SameTables (file other : List ℕ) : Type 0 where
+  pub refusals : tablesRefusals file ≡ tablesRefusals other
+  pub columns : columnsOf file ≡ columnsOf other
+  pub rows : (t : ℕ) → rowCount file t ≡ rowCount other t
+  pub tables : tablesOf file ≡ tablesOf other
+
+abbrev pub BlankCellsClaim : Type 0
+BlankCellsClaim = (file other : List ℕ) → BlanksDiffer file other → SameTables file other
+
+-- 'the lowest applying number is given, and none where no row applies': a number that is given is that of a refusal of the list which applies; none is
+-- given exactly where none applies; and where the numbers of the list rise, no lower one applies
+pub record LowestClaim : Type 0 where
+  pub given-applies : (rs : List Refusal) (n : ℕ) → firstApplying rs ≡ some n → List·Memᴰ (n if true) rs
+  pub none-applies : (rs : List Refusal) → (firstApplying rs ≡ none) ↔ ((n : ℕ) → ¬ List·Memᴰ (n if true) rs)
+  pub lowest : (rs : List Refusal) (n m : ℕ) → IsChain _<_ (map (λ r. r .number) rs) → firstApplying rs ≡ some n → List·Memᴰ (m if true) rs → n ≤ m

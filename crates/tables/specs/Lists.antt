@@ -36,6 +36,11 @@ module _ {A : Type 0} where
   keep p [] = []
   keep p (x ∷ xs) = put (p x) x (keep p xs)
 
+  -- there is an element
+  abbrev pub isThereOne : List A → Bool
+  isThereOne [] = false
+  isThereOne (x ∷ xs) = true
+
   -- a list with another in its place from number i on
   unfoldable pub placed : List A → ℕ → List A → List A
   placed old i new = take i old ++ (new ++ drop (i + length new) old)

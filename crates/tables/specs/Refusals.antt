@@ -57,6 +57,7 @@ module _ {A : Type 0} where
   abbrev pub shortRefusal : List A → List A → Refusal
   shortRefusal answer buffer = 12 if ltb (length buffer) (length answer)
 
+  -- a refusal, or else the answer
   abbrev pub lendUnless : Option ℕ → List A → List A → Lent A
   lendUnless (some n) answer buffer = refusedWith n buffer
   lendUnless none answer buffer = filledWith answer buffer

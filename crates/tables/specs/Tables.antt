@@ -90,7 +90,7 @@ sizesFit bs =
     && (leb (cellCount bs) mostCells
     && eqb (length bs) (marksAt bs + cellCount bs)))
 
--- refusal 2 does not apply: no mark is above 1
+-- refusal 2 does not apply: no mark is above the highest
 unfoldable pub marksFit : List ℕ → Bool
 marksFit bs = all (λ k. leb (markOf bs k) highestMark) (tabulate (cellCount bs) (λ k. k))
 

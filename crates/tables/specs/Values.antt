@@ -51,6 +51,7 @@ eqZ (pos a) (negsuc b) = false
 eqZ (negsuc a) (pos b) = false
 eqZ (negsuc a) (negsuc b) = eqb a b
 
+-- a comparison by its sign: = <> < <= > >=
 abbrev pub holds : Comparison → ℤ → ℤ → Bool
 holds Eq x y = eqZ x y
 holds Ne x y = not (eqZ x y)

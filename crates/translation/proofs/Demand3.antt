@@ -19,11 +19,11 @@ use Rattle.tables.proofs.Tabulated.{tabulate-length}
 use Rattle.tables.proofs.Sizes.{columns-count, columns-fit, same-refl, same-columns-is}
 use Rattle.card.specs.Card.{AsNo, Card, LeafEntry, PairEntry, RowEntry, entries}
 use Rattle.card.specs.Layout.{cardLength, tablesIn, columnsIn}
-use Rattle.card.specs.Sound.{mostEntries, sound, Sound}
+use Rattle.card.specs.Sound.{mostCardBytes, mostEntries, sound, Sound}
 use Rattle.card.specs.Calls.{cardSays, saysYes, checkRefusals, checkCall, fitsTables, gateRefusals, runRefusals, runCall, listCall}
 use Rattle.tables.proofs.Tests.{is-true, is-so}
 use Rattle.card.proofs.Claims.{sound-claim, length-claim}
-use Rattle.rule.specs.Condition.{Atom, Join, Not, Exists, Listed, Rule, parts, lists}
+use Rattle.rule.specs.Condition.{Rule, parts}
 use Rattle.rule.specs.Names.{mostParts}
 use Rattle.rule.specs.Meaning.{judged}
 use Rattle.rule.specs.Calls.{readingRefusals, Accepted, withRule, trueAt, trueRows}
@@ -33,19 +33,11 @@ use Rattle.translation.specs.Translation.{ruleCard}
 use Rattle.translation.specs.Calls.{ruleBytes, cardCall}
 use Rattle.translation.specs.Claims.{CardRefusedClaim, Demand3Claim}
 use Rattle.translation.specs.Demand3.{Later, publishedLength, SoundFor, CardClaim, RunClaim, ListClaim}
-use Rattle.translation.proofs.Sums.{entry-sum, card-sum}
+use Rattle.translation.proofs.Sums.{few-lists, card-sum, sum-is, sum-claim}
 use Rattle.translation.proofs.Says.{translation-claim}
 use Rattle.translation.proofs.Fits.{card-fits}
 
 -- at most 64 parts make at most 192 entries, and there is one at least
-pub few-lists : (r : Rule) → lists r ≤ parts r
-unfolding lists parts
-few-lists (Atom x) = omega arith
-few-lists (Join j a b) = omega (arith, few-lists a, few-lists b)
-few-lists (Not a) = omega (arith, few-lists a)
-few-lists (Exists t w) = omega (arith, few-lists w)
-few-lists (Listed q op l x t w) = omega (arith, few-lists w)
-
 pub some-entries : (c : Card) → 1 ≤ entries c
 unfolding entries
 some-entries (LeafEntry x) = omega arith
@@ -58,9 +50,9 @@ few-entries r h =
     let most : n ≤ mostEntries = omega (arith, card-sum AsNo r, few-lists r) in
     and-i (leb 1 n) (leb n mostEntries) (le→leb 1 n (some-entries (ruleCard r))) (le→leb n mostEntries most)
 
--- the longest card has 2,891 bytes
-pub card-bytes-few : (file : List ℕ) (r : Rule) → tableCount file ≤ mostTables → parts r ≤ mostParts → publishedLength file r ≤ 2891
-card-bytes-few file r tables few = omega (arith, few-lists r)
+-- no rule's card is longer than the longest
+pub card-bytes-few : (file : List ℕ) (r : Rule) → tableCount file ≤ mostTables → parts r ≤ mostParts → publishedLength file r ≤ mostCardBytes
+card-bytes-few file r tables few = omega (arith, few-lists r, sum-is r)
 
 module _ (text file : List ℕ) (accepted : Accepted text file) where
   abbrev accepted-as : AcceptedAs text file
@@ -98,7 +90,7 @@ module _ (text file : List ℕ) (accepted : Accepted text file) where
   card-claim : (buffer : List ℕ) → CardClaim text file rule buffer
   unfolding cardCall ruleBytes
   card-claim buffer =
-      let long : length card ≡ publishedLength file rule = length-claim (columnsOf file) (ruleCard rule) ∙ ap₂ cardLength (columns-count file) (entry-sum rule) in
+      let long : length card ≡ publishedLength file rule = length-claim (columnsOf file) (ruleCard rule) ∙ ap₂ cardLength (columns-count file) (sum-claim rule) in
       let is : cardCall text file buffer ≡ lend (readingRefusals text file) card buffer = ap (λ (o : Option Rule). lend (readingRefusals text file) (withRule o [] (ruleBytes file)) buffer) (accepted-as .is-rule) in
       record {
         length-is = long;

@@ -4,7 +4,7 @@ use mathlib.Core.Bool.{_&&_}
 use mathlib.Core.List.{List, [], _∷_, _++_}
 use Prim.Native.Nat.{ℕ, _+_, _<_, _≤_}
 use native.Mathlib.Omega.{arith}
-use lib.Dec.{T, ltb, lt→ltb, le→leb}
+use lib.Dec.{T, le→leb}
 use lib.Ieee.Fits.{and-i}
 use lib.ListN.{length, length-append, List·getD-append}
 use Rattle.tables.specs.Bytes.{between}
@@ -12,6 +12,7 @@ use Rattle.tables.specs.Values.{Value, Constant, Column, Some, All, valueFits}
 use Rattle.card.specs.Card.{mostRowEntries, Interpretation, AsNo, CompareLeaf, BlankLeaf, NotBlankLeaf, Card, LeafEntry, PairEntry, RowEntry, rowEntryFits, cardFits}
 use Rattle.rule.specs.Condition.{Compare, IsNull, IsNotNull, Atom, Join, Not, Exists, Listed, Rule, fromsDeep}
 use Rattle.rule.specs.Names.{ValueFits, TableFits, Fits}
+use Rattle.rule.proofs.Fits.{value-tested}
 use Rattle.translation.specs.Translation.{other, negated, cardOf}
 
 module _ (columns : List ℕ) where
@@ -22,10 +23,6 @@ module _ (columns : List ℕ) where
   negated-fits (LeafEntry (NotBlankLeaf l)) levels = refl
   negated-fits (PairEntry j a b) levels = ap₂ _&&_ (negated-fits a levels) (negated-fits b levels)
   negated-fits (RowEntry q t c) levels = simp (negated-fits c)
-
-  value-fits : (levels : List ℕ) (v : Value) → ValueFits columns levels v → T (valueFits columns levels v)
-  value-fits levels (Constant k) f = f
-  value-fits levels (Column l c) f = and-i (ltb l (length levels)) _ (lt→ltb l (length levels) (f .0)) (f .1)
 
   -- what fits outside a row fits inside
   inside : (levels : List ℕ) (t : ℕ) (v : Value) → ValueFits columns levels v → ValueFits columns (levels ++ (t ∷ [])) v
@@ -42,9 +39,9 @@ module _ (columns : List ℕ) where
 
   pub card-fits : (r : Rule) (i : Interpretation) (levels : List ℕ) → length levels + fromsDeep r ≤ 4 → Fits columns levels r → T (cardFits columns levels (cardOf i r))
   unfolding cardFits cardOf Fits fromsDeep
-  card-fits (Atom (Compare op l r)) i levels h f = and-i (valueFits columns levels l) _ (value-fits levels l (f .0)) (value-fits levels r (f .1))
-  card-fits (Atom (IsNull l)) i levels h f = value-fits levels l f
-  card-fits (Atom (IsNotNull l)) i levels h f = value-fits levels l f
+  card-fits (Atom (Compare op l r)) i levels h f = and-i (valueFits columns levels l) _ (value-tested columns levels l (f .0)) (value-tested columns levels r (f .1))
+  card-fits (Atom (IsNull l)) i levels h f = value-tested columns levels l f
+  card-fits (Atom (IsNotNull l)) i levels h f = value-tested columns levels l f
   card-fits (Join j a b) i levels h f =
       and-i (cardFits columns levels (cardOf i a)) _ (card-fits a i levels (omega arith) (f .0)) (card-fits b i levels (omega arith) (f .1))
   card-fits (Not a) i levels h f = rw negated-fits (card-fits a (other i) levels h f)
@@ -53,8 +50,8 @@ module _ (columns : List ℕ) where
   card-fits (Listed Some op l s t w) i levels h f =
       and-i (rowEntryFits columns levels t) _ (rows-fit levels t (f .0) (omega arith))
       (and-i (cardFits columns (levels ++ (t ∷ [])) (cardOf AsNo w)) _ (card-fits w AsNo (levels ++ (t ∷ [])) (longer levels t (fromsDeep w) h) (f .3))
-      (and-i (valueFits columns (levels ++ (t ∷ [])) l) _ (value-fits (levels ++ (t ∷ [])) l (inside levels t l (f .1))) (value-fits (levels ++ (t ∷ [])) s (f .2))))
+      (and-i (valueFits columns (levels ++ (t ∷ [])) l) _ (value-tested columns (levels ++ (t ∷ [])) l (inside levels t l (f .1))) (value-tested columns (levels ++ (t ∷ [])) s (f .2))))
   card-fits (Listed All op l s t w) i levels h f =
       and-i (rowEntryFits columns levels t) _ (rows-fit levels t (f .0) (omega arith))
       (and-i (cardFits columns (levels ++ (t ∷ [])) (negated (cardOf AsNo w))) _ (rw negated-fits (card-fits w AsNo (levels ++ (t ∷ [])) (longer levels t (fromsDeep w) h) (f .3)))
-      (and-i (valueFits columns (levels ++ (t ∷ [])) l) _ (value-fits (levels ++ (t ∷ [])) l (inside levels t l (f .1))) (value-fits (levels ++ (t ∷ [])) s (f .2))))
+      (and-i (valueFits columns (levels ++ (t ∷ [])) l) _ (value-tested columns (levels ++ (t ∷ [])) l (inside levels t l (f .1))) (value-tested columns (levels ++ (t ∷ [])) s (f .2))))

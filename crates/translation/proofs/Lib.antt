@@ -4,3 +4,4 @@ pub mod Says
 pub mod Sums
 pub mod Fits
 pub mod Demand3
+pub mod Blanks

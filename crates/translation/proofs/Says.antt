@@ -10,6 +10,7 @@ use lib.IntN.{ℤ, pos, negsuc}
 use lib.ListN.{length, length-append, List·getD-append}
 use lib.Signed.{ltZ, leZ}
 use Rattle.tables.specs.Tables.{Cell, Blank, Present, Row, Tables}
+use Rattle.tables.proofs.Rows.{any-kept}
 use Rattle.tables.specs.Values.{Value, Constant, Column, Comparison, Eq, Ne, Lt, Le, Gt, Ge, holds, Quantifier, Some, All, Env, _▸_, cellOf}
 use Rattle.card.specs.Card.{Interpretation, AsNo, AsYes, unknownSays, Leaf, CompareLeaf, BlankLeaf, NotBlankLeaf, Card, LeafEntry, PairEntry, RowEntry, compares, leafSays, answer}
 use Rattle.rule.specs.Condition.{Test, Compare, IsNull, IsNotNull, Atom, Join, Not, Exists, Listed, Rule}
@@ -103,7 +104,7 @@ module _ (ts : Tables) where
   card-says (Not a) i env s = simp (negated-not, says-not, card-says a (other i) env s)
   card-says (Exists t w) i env s =
       let inner : (row : Row) → answer ts (env ▸ row) (cardOf AsNo w) ≡ says AsNo (meaning ts (env ▸ row) w) = λ row. card-says w AsNo (env ▸ row) (rw deeper s) in
-      simp (says-truth, isTrue-says, inner)
+      simp (says-truth, ← any-kept, isTrue-says, inner)
   card-says (Listed q op l x t w) i env s = listed-says ts q op l x t w i env (s .0) (λ row. card-says w AsNo (env ▸ row) (rw deeper (s .2)))
 
 pub translation-claim : TranslationClaim

@@ -6,6 +6,7 @@ use mathlib.Core.Option.{some}
 use Prim.Native.Nat.{ℕ, _+_, _-_, _*_}
 use lib.ListN.{length, replicate}
 use Rattle.tables.specs.Tables.{Tables}
+use Rattle.tables.specs.Claims.{BlanksDiffer}
 use Rattle.tables.specs.Values.{Env}
 use Rattle.tables.specs.Refusals.{Refused, Given, firstApplying}
 use Rattle.card.specs.Card.{AsNo, AsYes, Card, answer, entries}
@@ -13,11 +14,11 @@ use Rattle.card.specs.Calls.{runCall, listCall}
 use Rattle.card.specs.Cases.{workedCard}
 use Rattle.rule.specs.Cases.{caseTables}
 use Rattle.rule.specs.Condition.{Rule}
-use Rattle.rule.specs.Parts.{partsOf}
+use Rattle.rule.specs.declared.Part.{Part}
 use Rattle.rule.specs.Names.{Scoped}
-use Rattle.rule.specs.Calls.{readingRefusals, Accepted}
+use Rattle.rule.specs.Calls.{readingRefusals, Accepted, readCall, judgeCall, admitCall}
 use Rattle.rule.specs.Meaning.{isTrue, isFalse, meaning}
-use Rattle.translation.specs.Translation.{negated, cardOf, ruleCard, entrySum, ofKind}
+use Rattle.translation.specs.Translation.{negated, cardOf, ruleCard, entrySum}
 use Rattle.translation.specs.Calls.{cardCall}
 use Rattle.translation.specs.Demand3.{Later, Demand3For}
 use Rattle.translation.specs.Cases.{workedText, workedTables, fullText, fullCard, laterTables, thirdCard, refusalExamples, refusalNumbers}
@@ -29,10 +30,9 @@ pub record TranslationClaim : Type 0 where
   pub no-is-false : (ts : Tables) (env : Env) (r : Rule) → Scoped (length env) r → not (answer ts env (cardOf AsYes r)) ≡ isFalse (meaning ts env r)
   pub negates : (ts : Tables) (env : Env) (c : Card) → answer ts env (negated c) ≡ not (answer ts env c)
 
--- the length sum of the section Card: the number of entries, and the same counted over the records of the parts by their kinds
-pub record SumClaim : Type 0 where
-  pub entries-are : (r : Rule) → entries (ruleCard r) ≡ entrySum r
-  pub by-kinds : (r : Rule) → entrySum r ≡ length (partsOf r) - ofKind 3 (partsOf r) + 2 * (ofKind 8 (partsOf r) + ofKind 9 (partsOf r))
+-- the number of a card's entries is the sum that the section Card publishes
+abbrev pub SumClaim : Type 0
+SumClaim = (r : Rule) → entries (ruleCard r) ≡ entrySum r
 
 -- the worked card, in a buffer of two bytes more: its 19 bytes, their number, and the two last bytes untouched
 abbrev pub WorkedCardClaim : Type 0
@@ -52,6 +52,19 @@ pub record GateCaseClaim : Type 0 where
 -- the examples of the refusal table, together
 abbrev pub RefusalsClaim : Type 0
 RefusalsClaim = refusalExamples ≡ refusalNumbers
+
+-- 'the value bytes of a blank cell may be anything and affect no answer': with two files that differ in such bytes alone, every call answers the same,
+-- and leaves the same in every lent buffer
+pub record SameAnswers (file other : List ℕ) : Type 0 where
+  pub read : (text : List ℕ) (buffer : List Part) → readCall text file buffer ≡ readCall text other buffer
+  pub judge : (text : List ℕ) (row : ℕ) → judgeCall text file row ≡ judgeCall text other row
+  pub card : (text buffer : List ℕ) → cardCall text file buffer ≡ cardCall text other buffer
+  pub run : (card : List ℕ) (row : ℕ) → runCall card file row ≡ runCall card other row
+  pub list : (card buffer : List ℕ) → listCall card file buffer ≡ listCall card other buffer
+  pub admit : (text buffer : List ℕ) → admitCall text file buffer ≡ admitCall text other buffer
+
+abbrev pub BlanksClaim : Type 0
+BlanksClaim = (file other : List ℕ) → BlanksDiffer file other → SameAnswers file other
 
 -- CARD passes a refusal of reading up unchanged, with the buffer as it was
 abbrev pub CardRefusedClaim : Type 0

@@ -9,13 +9,13 @@ use native.Mathlib.Omega.{arith}
 use lib.ListN.{getD, take, List·getD-eq-default}
 use Rattle.tables.specs.Values.{And, Or, Some, All}
 use Rattle.card.specs.Card.{AsNo, entries}
-use Rattle.rule.specs.Condition.{Compare, IsNull, IsNotNull, Atom, Join, Not, Exists, Listed, Rule, parts, nots, lists}
+use Rattle.rule.specs.Condition.{Compare, IsNull, IsNotNull, Atom, Join, Not, Exists, Listed, Rule, parts}
 use Rattle.rule.specs.Parts.{partsOf}
 use Rattle.names.specs.Code.{partsNumbers}
 use Rattle.parser.specs.Parts.{Stands}
 use Rattle.parser.proofs.Parts.{kind-stands, rule-stands}
 use Rattle.translation.specs.Translation.{ruleCard}
-use Rattle.translation.proofs.Sums.{card-sum}
+use Rattle.translation.proofs.Sums.{nots, lists, card-sum}
 use Rattle.translator.specs.Code.{entriesOfKind, entriesIn}
 
 -- ---- one part, by its kind

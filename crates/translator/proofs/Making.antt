@@ -22,7 +22,7 @@ use Rattle.parser.proofs.Known.{Known, known, parse-refused, parse-given}
 use Rattle.translation.specs.Translation.{ruleCard}
 use Rattle.translation.specs.Calls.{ruleBytes, cardCall}
 use Rattle.translation.specs.Demand3.{publishedLength, CardClaim}
-use Rattle.translation.proofs.Sums.{entry-sum}
+use Rattle.translation.proofs.Sums.{sum-claim}
 use Rattle.translation.proofs.Demand3.{demand-3-claim, card-refused-claim}
 use Rattle.translator.specs.Answers.{madeAnswer}
 use Rattle.translator.specs.Code.{entriesIn, passedUp, CardReady, CardWritten}
@@ -77,7 +77,7 @@ module _ (text file out : List ℕ) where
           counted ∙ ap (entriesIn p) (q .count) ∙ entries-are p (q .rule) written
 
       long : 3 + t + 15 * n ≡ publishedLength file (parsing .rule)
-      long = omega (arith, count, entry-sum (parsing .rule))
+      long = omega (arith, count, sum-claim (parsing .rule))
 
       pub card-short : length out < 3 + t + 15 * n → Makes (Refused 12) out
       card-short h = lent _ (claim .short (omega (arith, long)))

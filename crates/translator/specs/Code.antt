@@ -9,11 +9,12 @@ use Rattle.tables.specs.Values.{judgedLevels}
 use Rattle.cells.specs.Code.{Sized}
 use Rattle.card.specs.Card.{entries}
 use Rattle.card.specs.Layout.{cardBytes, cardLength}
+use Rattle.card.specs.Sound.{mostEntries}
 use Rattle.rule.specs.Condition.{Rule, parts, fromsDeep}
-use Rattle.rule.specs.Names.{Fits}
+use Rattle.rule.specs.Names.{mostParts, Fits}
 use Rattle.rule.specs.Parts.{partsOf}
 use Rattle.translation.specs.Translation.{ruleCard}
-use Rattle.names.specs.Code.{partsNumbers}
+use Rattle.names.specs.Code.{partSize, partsSize, partsNumbers}
 use Rattle.parser.specs.declared.Parsed.{Parsed}
 use Rattle.parser.specs.declared.Parsed.the-variants.{Rule as ParsedRule, Refused as ParsedRefused}
 use Rattle.translator.specs.declared.Made.{Made}
@@ -26,7 +27,7 @@ entriesOfKind kind = getD (1 ∷ 1 ∷ 1 ∷ 0 ∷ 1 ∷ 1 ∷ 1 ∷ 1 ∷ 3 ∷
 -- and the first n parts of an array, eight numbers for each
 unfoldable pub entriesIn : List ℕ → ℕ → ℕ
 entriesIn p zero = 0
-entriesIn p (suc n) = entriesIn p n + entriesOfKind (getD p (8 * n) 0)
+entriesIn p (suc n) = entriesIn p n + entriesOfKind (getD p (partSize * n) 0)
 
 abbrev pub passedUp : Parsed → Made
 passedUp (ParsedRule n) = Bytes n
@@ -34,15 +35,15 @@ passedUp (ParsedRefused x) = NotMade x
 
 -- the parts are those of a rule that fits the tables, and there is room for its card
 pub record CardReady (p file : List ℕ) (n : ℕ) (out : List ℕ) : Type 0 where
-  pub size : length p ≡ 512
+  pub size : length p ≡ partsSize
   pub sized : Sized file
   pub rule : Rule
-  pub few : parts rule ≤ 64
+  pub few : parts rule ≤ mostParts
   pub deep : fromsDeep rule ≤ 3
-  pub written : take (8 * parts rule) p ≡ partsNumbers (partsOf rule)
+  pub written : take (partSize * parts rule) p ≡ partsNumbers (partsOf rule)
   pub fits : Fits (columnsOf file) judgedLevels rule
   pub count : n ≡ entries (ruleCard rule)
-  pub most : n ≤ 192
+  pub most : n ≤ mostEntries
   pub room : cardLength (tableCount file) n ≤ length out
 
 abbrev pub CardWritten : (p file : List ℕ) (n : ℕ) (out out′ : List ℕ) → Type 0

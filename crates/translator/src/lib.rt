@@ -9,6 +9,9 @@ ghost use Rattle.tables.specs.Bytes.{bytes16};
 ghost use Rattle.tables.specs.Tables.{tableCount, columnsOf};
 ghost use Rattle.cells.specs.Code.{Sized};
 ghost use Rattle.translation.specs.Calls.{cardCall};
+ghost use Rattle.card.specs.Sound.{mostEntries};
+ghost use Rattle.rule.specs.Names.{mostParts};
+ghost use Rattle.names.specs.Code.{partsSize};
 ghost use Rattle.translator.specs.Answers.{madeAnswer};
 ghost use Rattle.translator.specs.Code.{entriesOfKind, entriesIn, passedUp, CardReady, CardWritten};
 use card::MOST_ENTRIES;
@@ -17,6 +20,9 @@ use cells::Reason;
 use names::PART_FIELDS;
 use names::PART_NUMBERS;
 use parser::Parsed;
+use rule::ALL_PART;
+use rule::NOT_PART;
+use rule::SOME_PART;
 
 // How many entries a part makes up by itself: NOT none, and a list its test of rows, its AND or OR, and its comparison.
 fn entries_of(kind: usize) -> usize
@@ -24,17 +30,17 @@ fn entries_of(kind: usize) -> usize
     ensures small { λ r. ⌜ r ≤ 3 ⌝ }
 {
     match kind {
-        3 => 0,
-        8 | 9 => 3,
+        NOT_PART => 0,
+        SOME_PART | ALL_PART => 3,
         _ => 1,
     }
 }
 
 // How many entries n parts make up.
 fn count_entries(p: &[usize; PART_NUMBERS], n: usize) -> usize
-    requires { ⌜ length (now p) ≡ 512 ⌝ ∗ ⌜ n ≤ 64 ⌝ }
+    requires { ⌜ length (now p) ≡ partsSize ⌝ ∗ ⌜ n ≤ mostParts ⌝ }
     ensures is { λ r. ⌜ r ≡ entriesIn (now (p .entry)) n ⌝ }
-    ensures small { λ r. ⌜ r ≤ 192 ⌝ }
+    ensures small { λ r. ⌜ r ≤ mostEntries ⌝ }
 {
     let mut entries: usize = 0;
     let mut i: usize = 0;
@@ -62,7 +68,7 @@ fn write_sizes(file: &[u8], entries: usize, out: &mut [u8])
 
 // The first n kinds, from place i of out on.
 fn copy_kinds(kinds: &[u8; MOST_ENTRIES], n: usize, out: &mut [u8], i: usize)
-    requires { ⌜ length (now kinds) ≡ 192 ⌝ ∗ ⌜ n ≤ 192 ⌝ ∗ ⌜ i + n ≤ length (now out) ⌝ }
+    requires { ⌜ length (now kinds) ≡ mostEntries ⌝ ∗ ⌜ n ≤ mostEntries ⌝ ∗ ⌜ i + n ≤ length (now out) ⌝ }
     ensures { λ _. ⌜ now (out .exit) ≡ placed (now (out .entry)) i (take n (now (kinds .entry))) ⌝ }
 {
     let mut k: usize = 0;
@@ -86,6 +92,7 @@ fn write_card(p: &[usize; PART_NUMBERS], file: &[u8], entries: usize, out: &mut 
     copy_kinds(&kinds, entries, out, kinds_at);
 }
 
+// How many bytes the card has, or why there is none.
 pub enum Made {
     Bytes(usize),
     NotMade(Reason),

@@ -9,7 +9,8 @@ use Rattle.tables.specs.Values.{judgedLevels, judgedRow}
 use Rattle.tables.proofs.Tabulated.{tabulate-at}
 use Rattle.tables.proofs.Sizes.{count-at}
 use Rattle.cells.specs.Code.{Sized, Places}
-use Rattle.cells.proofs.Cells.{cells-none, place-of}
+use Rattle.tables.proofs.Numbering.{cells-none}
+use Rattle.cells.proofs.Cells.{place-of}
 use Rattle.values.specs.Code.{rowFrom, LevelAt, Levels, Readable}
 use Rattle.values.proofs.Rows.{TableAt, table-at, row-at}
 

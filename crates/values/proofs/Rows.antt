@@ -19,7 +19,8 @@ use Rattle.window.specs.Window.{shown, seenAt}
 use Rattle.tables.proofs.Tests.{both, bounds}
 use Rattle.tables.proofs.Tabulated.{tabulate-at}
 use Rattle.tables.proofs.Sizes.{column-at}
-use Rattle.cells.proofs.Cells.{cells-within, place-of, values-of, marks-of}
+use Rattle.tables.proofs.Numbering.{cells-within}
+use Rattle.cells.proofs.Cells.{place-of, values-of, marks-of}
 use Rattle.window.proofs.Shown.{seen-shown, shown-from}
 use Rattle.values.specs.Code.{valueIn, rowFrom, LevelAt, Levels, ValueReady}
 

@@ -14,7 +14,8 @@ use Rattle.cells.specs.declared.Seen.{Seen}
 use Rattle.cells.specs.declared.Place.{Place}
 use Rattle.tables.proofs.Tabulated.{tabulate-at}
 use Rattle.cells.proofs.Signed.{from-to, signed-in}
-use Rattle.cells.proofs.Cells.{cells-within, sized-is, place-of, values-of, marks-of}
+use Rattle.tables.proofs.Numbering.{cells-within}
+use Rattle.cells.proofs.Cells.{sized-is, place-of, values-of, marks-of}
 use Rattle.window.specs.Window.{cellNumber, markAt, bitsAt, valueAt, Inside, seenOf, shown, seenAt, placeOfTable}
 use Rattle.window.specs.Claims.{WindowClaim}
 

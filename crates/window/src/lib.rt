@@ -48,8 +48,8 @@ fn value_at(
     read_excess(tables, values + 4 * (first + (row * columns + column)))
 }
 
-// The window on the cells that stand there.
-fn window_at<'a>(tables: &'a [u8], at: Place) -> Window<'a>
+// The window on the cells that stand there: on a whole table, with the place that `cells::table_place` gives.
+pub fn window_at<'a>(tables: &'a [u8], at: Place) -> Window<'a>
     ensures { λ r. ⌜ r ≡ windowOf (tables .entry) at ⌝ }
 {
     Window {

@@ -1,16 +1,18 @@
-use mathlib.Core.Path.{_≡_, refl, _∙_}
+use mathlib.Core.Path.{_≡_, refl, ap, _∙_}
 use mathlib.Core.Logic.{⊎-elim}
-use Prim.Native.Nat.{_≤_, _-_}
+use Prim.Native.Nat.{ℕ, _≤_, _-_}
 use native.Mathlib.Omega.{arith}
-use Rattle.cells.proofs.Cells.{marksTo, marks-high, marks-low, marks-end, mark-place}
+use lib.Dec.{leb}
+use Rattle.tables.specs.Tables.{highestMark}
+use Rattle.cells.proofs.Cells.{marksTo, marks-higher, marks-lower, marks-end, mark-place}
 use Rattle.cells.proofs.marks_fit.Statement.{statement}
 use Rattle.cells.proofs.marks_fit.Tie as tie
 
 abbrev Inv-loop : tie.InvT-loop
-Inv-loop file cells first fits₀ k₀ fits k = (k ≤ cells) × (fits ≡ marksTo file k)
+Inv-loop file cells first highest₀ k₀ highest k = (k ≤ cells) × (leb highest highestMark ≡ marksTo file k)
 
 abbrev μ-loop : tie.MeasureT-loop
-μ-loop file cells first fits₀ k₀ fits k = cells - k
+μ-loop file cells first highest₀ k₀ highest k = cells - k
 
 cell-count-requires : tie.Need-cell-count-requires Inv-loop μ-loop
 cell-count-requires c κs = c .before .pre
@@ -21,11 +23,11 @@ sub-first c = omega arith
 loop-holds : tie.Need-loop-holds Inv-loop μ-loop
 loop-holds c = (omega arith, refl)
 
-add-byte : tie.Need-add-byte Inv-loop μ-loop
-add-byte c = omega arith
+add-mark : tie.Need-add-mark Inv-loop μ-loop
+add-mark c = omega arith
 
-byte-requires : tie.Need-byte-requires Inv-loop μ-loop
-byte-requires c κs = omega arith
+shared-slice-read-mark : tie.Need-shared-slice-read-mark Inv-loop μ-loop
+shared-slice-read-mark c = omega arith
 
 add-k : tie.Need-add-k Inv-loop μ-loop
 add-k c = omega arith
@@ -35,13 +37,16 @@ loop-less c = omega arith
 
 loop-again : tie.Need-loop-again Inv-loop μ-loop
 loop-again c =
-    let k = c .before .before .before .loop .k in
-    let file = c .before .before .before .before .before .before .args .file .now in
+    let loop = c .before .before .before .loop in
+    let start = c .before .before .before .before .before .before in
+    let file = start .args .file .now in
     let cells = c .before .before .before .before .cell-count in
-    let mark = mark-place file (cells .result) _ k _ (c .before .before .before .before .before .before .pre) (cells .ensures) refl (c .before .byte .ensures .0) in
-    let fits = c .before .before .before .loop .inv .1 in (
+    let is = mark-place file (cells .result) _ (loop .k) _ (start .pre) (cells .ensures) refl refl in (
       omega arith,
-      ⊎-elim (λ w. w .1 ∙ marks-high file k _ _ mark (w .0 .taken) fits) (λ w. w .1 ∙ marks-low file k _ _ mark (w .0 .left) fits) (c .if1 .came),
+      ⊎-elim
+          (λ w. ap (λ (n : ℕ). leb n highestMark) (w .1) ∙ marks-higher file (loop .k) _ (loop .highest) is (loop .inv .1) (w .0 .taken))
+          (λ w. ap (λ (n : ℕ). leb n highestMark) (w .1) ∙ marks-lower file (loop .k) _ (loop .highest) is (loop .inv .1) (w .0 .left))
+          (c .if1 .came),
     )
 
 returns : tie.Need-returns Inv-loop μ-loop
@@ -56,8 +61,8 @@ marks-fit-spec =
     cell-count-requires
     sub-first
     loop-holds
-    add-byte
-    byte-requires
+    add-mark
+    shared-slice-read-mark
     add-k
     loop-less
     loop-again

@@ -6,7 +6,8 @@ use lib.ListN.{length, length-set}
 use Rattle.tables.specs.Tables.{cellsBefore}
 use Rattle.cells.specs.Code.{Holds, placeOf}
 use Rattle.cells.proofs.Holding.{holds-same}
-use Rattle.cells.proofs.Cells.{cells-none, cells-next, places-start, places-step, first-room}
+use Rattle.tables.proofs.Numbering.{cells-none}
+use Rattle.cells.proofs.Cells.{cells-next, places-start, places-step, first-room}
 use Rattle.cells.proofs.places.Statement.{statement}
 use Rattle.cells.proofs.places.Tie as tie
 

@@ -6,7 +6,8 @@ use native.Mathlib.Omega.{arith}
 use borrow.Author.Count.{below-more}
 use borrow.Author.Tests.{not-true, not-false}
 use Rattle.tables.specs.Tables.{sizeAt, cellsBefore, sizeFits}
-use Rattle.cells.proofs.Cells.{cells-none, sizes-no, sizes-one, sizes-last, cells-next, cells-end, cells-no}
+use Rattle.tables.proofs.Numbering.{cells-none}
+use Rattle.cells.proofs.Cells.{sizes-no, sizes-one, sizes-last, cells-next, cells-end, cells-no}
 use Rattle.cells.proofs.sizes_fit.Statement.{statement}
 use Rattle.cells.proofs.sizes_fit.Tie as tie
 

@@ -19,6 +19,7 @@ use Rattle.checker.proofs.check_leaf.Reads as check-leaf-reads
 use Rattle.cells.proofs.byte.Reads as byte-reads
 use Rattle.checker.proofs.+check_entry+check_pair+check_rows.{statement}
 use Rattle.checker.proofs.+check_entry+check_pair+check_rows.Tie.{close}
+use Prim.Native.Nat.{ℕ, _<_}
 
 abbrev μ-check-entry : Measures 3 check-entry-kinds.ps ℕ
 μ-check-entry κs a = 3 * (a .1 .1 .1 .0 - a .1 .1 .0) + 2
@@ -73,7 +74,7 @@ check-entry-mul-k-2 : (t : ℕ) → check-entry-lts.Need-mul-k-2 (
 ) (check-entry-at t) check-entry.Post
 check-entry-mul-k-2 t c = search needs
 
-check-entry-element-copy-out-k : (t : ℕ) → check-entry-lts.Need-element-copy-out-k (
+check-entry-shared-slice-read-k : (t : ℕ) → check-entry-lts.Need-shared-slice-read-k (
   check-pair-below t,
   check-pair.Post,
   check-rows-below t,
@@ -81,7 +82,7 @@ check-entry-element-copy-out-k : (t : ℕ) → check-entry-lts.Need-element-copy
   check-leaf-reads.Asked,
   check-leaf-reads.Learnt,
 ) (check-entry-at t) check-entry.Post
-check-entry-element-copy-out-k t c = search needs
+check-entry-shared-slice-read-k t c = search needs
 
 check-entry-check-pair-requires : (t : ℕ) → check-entry-lts.Need-check-pair-requires (
   check-pair-below t,
@@ -92,8 +93,8 @@ check-entry-check-pair-requires : (t : ℕ) → check-entry-lts.Need-check-pair-
   check-leaf-reads.Learnt,
 ) (check-entry-at t) check-entry.Post
 check-entry-check-pair-requires t c κs =
-    let m = c .before .before .before .before .pre .0 in
-    (omega arith, (c .before .before .before .before .pre .1, (omega arith, omega arith)))
+    let m = c .before .before .before .before .before .pre .0 in
+    (omega arith, (c .before .before .before .before .before .pre .1, (omega arith, omega arith)))
 
 check-entry-check-rows-requires : (t : ℕ) → check-entry-lts.Need-check-rows-requires (
   check-pair-below t,
@@ -104,8 +105,8 @@ check-entry-check-rows-requires : (t : ℕ) → check-entry-lts.Need-check-rows-
   check-leaf-reads.Learnt,
 ) (check-entry-at t) check-entry.Post
 check-entry-check-rows-requires t c κs =
-    let m = c .before .before .before .before .before .pre .0 in
-    (omega arith, (c .before .before .before .before .before .pre .1, (omega arith, omega arith)))
+    let m = c .before .before .before .before .before .before .pre .0 in
+    (omega arith, (c .before .before .before .before .before .before .pre .1, (omega arith, omega arith)))
 
 check-entry-check-leaf-requires : (t : ℕ) → check-entry-lts.Need-check-leaf-requires (
   check-pair-below t,
@@ -115,7 +116,7 @@ check-entry-check-leaf-requires : (t : ℕ) → check-entry-lts.Need-check-leaf-
   check-leaf-reads.Asked,
   check-leaf-reads.Learnt,
 ) (check-entry-at t) check-entry.Post
-check-entry-check-leaf-requires t c κs = (c .before .before .before .before .before .before .pre .1, (omega arith, omega arith))
+check-entry-check-leaf-requires t c κs = (c .before .before .before .before .before .before .before .pre .1, (omega arith, omega arith))
 
 check-entry-returns : (t : ℕ) → check-entry-lts.Need-returns (
   check-pair-below t,
@@ -189,11 +190,11 @@ check-pair-mul-if1-2 : (t : ℕ) → check-pair-lts.Need-mul-if1-2 (
 ) (check-pair-at t) check-pair.Post
 check-pair-mul-if1-2 t c = search needs
 
-check-pair-element-copy-out-if1 : (t : ℕ) → check-pair-lts.Need-element-copy-out-if1 (
+check-pair-shared-slice-read-if1 : (t : ℕ) → check-pair-lts.Need-shared-slice-read-if1 (
   check-entry-below t,
   check-entry.Post,
 ) (check-pair-at t) check-pair.Post
-check-pair-element-copy-out-if1 t c = search needs
+check-pair-shared-slice-read-if1 t c = search needs
 
 check-pair-returns :
     (t : ℕ) →
@@ -216,7 +217,7 @@ check-pair-returns-2 : (t : ℕ) → check-pair-lts.Need-returns-2 (
   check-entry.Post,
 ) (check-pair-at t) check-pair.Post
 check-pair-returns-2 t c =
-    let p = c .before .before .before .before .pre .1 .1 in
+    let p = c .before .before .before .before .before .pre .1 .1 in
     pair-short _ _ _ _ _ (p .0) (p .1) (λ l r. omega arith)
 
 check-pair-mul-m :
@@ -243,11 +244,11 @@ check-pair-mul-m-2 :
     check-pair.Post
 check-pair-mul-m-2 t c = search needs
 
-check-pair-element-copy-out-m : (t : ℕ) → check-pair-lts.Need-element-copy-out-m (
+check-pair-shared-slice-read-m : (t : ℕ) → check-pair-lts.Need-shared-slice-read-m (
   check-entry-below t,
   check-entry.Post,
 ) (check-pair-at t) check-pair.Post
-check-pair-element-copy-out-m t c = search needs
+check-pair-shared-slice-read-m t c = search needs
 
 check-pair-add-if3 :
     (t : ℕ) →
@@ -262,7 +263,7 @@ check-pair-returns-3 : (t : ℕ) → check-pair-lts.Need-returns-3 (
   check-entry.Post,
 ) (check-pair-at t) check-pair.Post
 check-pair-returns-3 t c =
-    let p = c .before .before .before .before .before .before .pre .1 .1 in
+    let p = c .before .before .before .before .before .before .before .pre .1 .1 in
     pair-short _ _ _ _ _ (p .0) (p .1) (λ l r. omega arith)
 
 check-pair-returns-4 : (t : ℕ) → check-pair-lts.Need-returns-4 (
@@ -270,7 +271,7 @@ check-pair-returns-4 : (t : ℕ) → check-pair-lts.Need-returns-4 (
   check-entry.Post,
 ) (check-pair-at t) check-pair.Post
 check-pair-returns-4 t c =
-    let p = c .before .before .before .before .before .before .before .pre .1 .1 in
+    let p = c .before .before .before .before .before .before .before .before .pre .1 .1 in
     pair-short _ _ _ _ _ (p .0) (p .1) (λ l r. omega arith)
 
 check-pair-add-check-entry : (t : ℕ) → check-pair-lts.Need-add-check-entry (
@@ -284,7 +285,7 @@ check-pair-check-entry-requires : (t : ℕ) → check-pair-lts.Need-check-entry-
   check-entry.Post,
 ) (check-pair-at t) check-pair.Post
 check-pair-check-entry-requires t c κs =
-    let p = c .before .before .before .before .before .before .before .pre in
+    let p = c .before .before .before .before .before .before .before .before .pre in
     (omega (arith, p .0), checkable-within (p .1 .0) _ _ (omega arith) (omega arith))
 
 check-pair-returns-5 : (t : ℕ) → check-pair-lts.Need-returns-5 (
@@ -292,7 +293,7 @@ check-pair-returns-5 : (t : ℕ) → check-pair-lts.Need-returns-5 (
   check-entry.Post,
 ) (check-pair-at t) check-pair.Post
 check-pair-returns-5 t c =
-    let p = c .before .before .before .before .before .before .before .before .before .pre .1 .1 in
+    let p = c .before .before .before .before .before .before .before .before .before .before .pre .1 .1 in
     pair-left-no _ _ _ _ _ (p .0) (p .1) (c .before .check-entry .ensures) (not-true _ (c .if5 .taken))
 
 check-pair-check-entry-requires-2 : (t : ℕ) → check-pair-lts.Need-check-entry-requires-2 (
@@ -300,7 +301,7 @@ check-pair-check-entry-requires-2 : (t : ℕ) → check-pair-lts.Need-check-entr
   check-entry.Post,
 ) (check-pair-at t) check-pair.Post
 check-pair-check-entry-requires-2 t c κs =
-    let p = c .before .before .before .before .before .before .before .before .before .pre in
+    let p = c .before .before .before .before .before .before .before .before .before .before .pre in
     (omega (arith, p .0), checkable-within (p .1 .0) _ _ (omega arith) (omega arith))
 
 check-pair-returns-6 : (t : ℕ) → check-pair-lts.Need-returns-6 (
@@ -308,7 +309,7 @@ check-pair-returns-6 : (t : ℕ) → check-pair-lts.Need-returns-6 (
   check-entry.Post,
 ) (check-pair-at t) check-pair.Post
 check-pair-returns-6 t c =
-    let p = c .before .before .before .before .before .before .before .before .before .before .pre .1 .1 in
+    let p = c .before .before .before .before .before .before .before .before .before .before .before .pre .1 .1 in
     pair-last _ _ _ _ _ (p .0) (p .1) (c .before .before .check-entry .ensures) (not-false _ (c .before .if5 .left)) (omega arith) (c .check-entry2 .ensures)
 
 check-rows-mul-if1 : (t : ℕ) → check-rows-lts.Need-mul-if1 (
@@ -335,13 +336,13 @@ check-rows-mul-if1-2 : (t : ℕ) → check-rows-lts.Need-mul-if1-2 (
 ) (check-rows-at t) check-rows.Post
 check-rows-mul-if1-2 t c = search needs
 
-check-rows-element-copy-out-if1 : (t : ℕ) → check-rows-lts.Need-element-copy-out-if1 (
+check-rows-shared-slice-read-if1 : (t : ℕ) → check-rows-lts.Need-shared-slice-read-if1 (
   byte-reads.Asked,
   byte-reads.Learnt,
   check-entry-below t,
   check-entry.Post,
 ) (check-rows-at t) check-rows.Post
-check-rows-element-copy-out-if1 t c = search needs
+check-rows-shared-slice-read-if1 t c = search needs
 
 check-rows-returns : (t : ℕ) → check-rows-lts.Need-returns (
   byte-reads.Asked,
@@ -366,7 +367,7 @@ check-rows-returns-2 : (t : ℕ) → check-rows-lts.Need-returns-2 (
   check-entry.Post,
 ) (check-rows-at t) check-rows.Post
 check-rows-returns-2 t c =
-    let p = c .before .before .before .before .pre .1 in
+    let p = c .before .before .before .before .before .pre .1 in
     rows-short _ _ _ _ _ _ (p .1 .0) (p .1 .1) (p .0 .levels) (omega arith)
 
 check-rows-mul-t : (t : ℕ) → check-rows-lts.Need-mul-t (
@@ -393,13 +394,13 @@ check-rows-mul-t-2 : (t : ℕ) → check-rows-lts.Need-mul-t-2 (
 ) (check-rows-at t) check-rows.Post
 check-rows-mul-t-2 t c = search needs
 
-check-rows-element-copy-out-t : (t : ℕ) → check-rows-lts.Need-element-copy-out-t (
+check-rows-shared-slice-read-t : (t : ℕ) → check-rows-lts.Need-shared-slice-read-t (
   byte-reads.Asked,
   byte-reads.Learnt,
   check-entry-below t,
   check-entry.Post,
 ) (check-rows-at t) check-rows.Post
-check-rows-element-copy-out-t t c = search needs
+check-rows-shared-slice-read-t t c = search needs
 
 check-rows-returns-3 : (t : ℕ) → check-rows-lts.Need-returns-3 (
   byte-reads.Asked,
@@ -408,7 +409,7 @@ check-rows-returns-3 : (t : ℕ) → check-rows-lts.Need-returns-3 (
   check-entry.Post,
 ) (check-rows-at t) check-rows.Post
 check-rows-returns-3 t c =
-    let p = c .before .before .before .before .before .before .pre .1 in
+    let p = c .before .before .before .before .before .before .before .pre .1 in
     rows-no _ _ _ _ _ _ (p .1 .0) (p .1 .1) (p .0 .levels) (λ x. omega (arith, x .table-low))
 
 check-rows-byte-requires : (t : ℕ) → check-rows-lts.Need-byte-requires (
@@ -417,7 +418,7 @@ check-rows-byte-requires : (t : ℕ) → check-rows-lts.Need-byte-requires (
   check-entry-below t,
   check-entry.Post,
 ) (check-rows-at t) check-rows.Post
-check-rows-byte-requires t c κs = omega (arith, c .before .before .before .before .before .before .pre .1 .0 .levels .laid-out .long)
+check-rows-byte-requires t c κs = omega (arith, c .before .before .before .before .before .before .before .pre .1 .0 .levels .laid-out .long)
 
 check-rows-returns-4 : (t : ℕ) → check-rows-lts.Need-returns-4 (
   byte-reads.Asked,
@@ -426,7 +427,7 @@ check-rows-returns-4 : (t : ℕ) → check-rows-lts.Need-returns-4 (
   check-entry.Post,
 ) (check-rows-at t) check-rows.Post
 check-rows-returns-4 t c =
-    let p = c .before .before .before .before .before .before .before .before .pre .1 in
+    let p = c .before .before .before .before .before .before .before .before .before .pre .1 in
     rows-no _ _ _ _ _ _ (p .1 .0) (p .1 .1) (p .0 .levels) (λ x. omega (arith, x .table-high, c .before .byte .ensures .0))
 
 check-rows-returns-5 : (t : ℕ) → check-rows-lts.Need-returns-5 (
@@ -436,7 +437,7 @@ check-rows-returns-5 : (t : ℕ) → check-rows-lts.Need-returns-5 (
   check-entry.Post,
 ) (check-rows-at t) check-rows.Post
 check-rows-returns-5 t c =
-    let p = c .before .before .before .before .before .before .before .before .before .pre .1 in
+    let p = c .before .before .before .before .before .before .before .before .before .before .pre .1 in
     rows-no _ _ _ _ _ _ (p .1 .0) (p .1 .1) (p .0 .levels) (λ x. omega (arith, x .few))
 
 check-rows-mul-v : (t : ℕ) → check-rows-lts.Need-mul-v (
@@ -478,7 +479,7 @@ check-rows-check-entry-requires : (t : ℕ) → check-rows-lts.Need-check-entry-
   check-entry.Post,
 ) (check-rows-at t) check-rows.Post
 check-rows-check-entry-requires t c κs =
-    let p = c .before .before .before .before .before .before .before .before .before .before .before .pre in
+    let p = c .before .before .before .before .before .before .before .before .before .before .before .before .pre in
     let n = c .before .before .before .before .byte .ensures .0 in
     (omega (arith, p .0), checkable-deeper (p .1 .0) (omega arith) (omega arith) (omega arith) (omega arith))
 
@@ -489,7 +490,7 @@ check-rows-returns-6 : (t : ℕ) → check-rows-lts.Need-returns-6 (
   check-entry.Post,
 ) (check-rows-at t) check-rows.Post
 check-rows-returns-6 t c =
-    let p = c .before .before .before .before .before .before .before .before .before .before .before .before .pre .1 in
+    let p = c .before .before .before .before .before .before .before .before .before .before .before .before .before .pre .1 in
     let n = c .before .before .before .before .before .byte .ensures .0 in
     rows-last _ _ _ _ _ _ (p .1 .0) (p .1 .1) (p .0 .levels) (omega arith) (omega arith) (omega arith) (omega arith) (c .check-entry .ensures)
 
@@ -507,7 +508,7 @@ pub +check-entry+check-pair+check-rows-spec : {M : Type 1} → statement M
     check-entry.Post
     (check-entry-mul-k t)
     (check-entry-mul-k-2 t)
-    (check-entry-element-copy-out-k t)
+    (check-entry-shared-slice-read-k t)
     (check-entry-check-pair-requires t)
     (check-entry-check-rows-requires t)
     (check-entry-check-leaf-requires t)
@@ -523,14 +524,14 @@ pub +check-entry+check-pair+check-rows-spec : {M : Type 1} → statement M
     (check-pair-mul-if1 t)
     (check-pair-add-if1 t)
     (check-pair-mul-if1-2 t)
-    (check-pair-element-copy-out-if1 t)
+    (check-pair-shared-slice-read-if1 t)
     (check-pair-returns t)
     (check-pair-add-if2 t)
     (check-pair-returns-2 t)
     (check-pair-mul-m t)
     (check-pair-add-m t)
     (check-pair-mul-m-2 t)
-    (check-pair-element-copy-out-m t)
+    (check-pair-shared-slice-read-m t)
     (check-pair-add-if3 t)
     (check-pair-returns-3 t)
     (check-pair-returns-4 t)
@@ -546,14 +547,14 @@ pub +check-entry+check-pair+check-rows-spec : {M : Type 1} → statement M
     (check-rows-mul-if1 t)
     (check-rows-add-if1 t)
     (check-rows-mul-if1-2 t)
-    (check-rows-element-copy-out-if1 t)
+    (check-rows-shared-slice-read-if1 t)
     (check-rows-returns t)
     (check-rows-add-if2 t)
     (check-rows-returns-2 t)
     (check-rows-mul-t t)
     (check-rows-add-t t)
     (check-rows-mul-t-2 t)
-    (check-rows-element-copy-out-t t)
+    (check-rows-shared-slice-read-t t)
     (check-rows-returns-3 t)
     (check-rows-byte-requires t)
     (check-rows-returns-4 t)

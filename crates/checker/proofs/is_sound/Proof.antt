@@ -19,26 +19,29 @@ returns c =
 decode-requires : tie.Need-decode-requires
 decode-requires c κs =
     let b = c .before in
-    (laid-is _ (sym (b .before .laid-out .ensures) ∙ not-false _ (b .if1 .left)), b .before .before .before .pre)
+    (laid-is _ (sym (b .before .laid-out .ensures) ∙ not-false _ (b .if1 .left)), b .before .before .before .before .pre)
 
 read16-requires : tie.Need-read16-requires
 read16-requires c κs =
-    let b = c .before .before in
+    let b = c .before .before .before .before in
     let h = laid-is _ (sym (b .before .laid-out .ensures) ∙ not-false _ (b .if1 .left)) in
     omega (arith, h .long)
 
 check-entry-requires : tie.Need-check-entry-requires
 check-entry-requires c κs =
-    let b = c .before .before .before .before .before in
+    let b = c .before .before .before .before .before .before .before in
     let h = laid-is _ (sym (b .before .laid-out .ensures) ∙ not-false _ (b .if1 .left)) in
     let n = c .before .before .read16 .ensures .0 in
-    record { levels = first-level h; decoded = c .before .before .before .decode .ensures; started = omega arith; within = omega arith }
+    record { levels = first-level h; decoded = c .before .before .before .before .before .decode .ensures; started = omega arith; within = omega arith }
+
+same-length : tie.Need-same-length
+same-length c = search needs
 
 returns-2 : tie.Need-returns-2
 returns-2 c =
-    let b = c .before .before .before .before .before .before in
+    let b = c .before .before .before .before .before .before .before .before in
     let e = sym (b .before .laid-out .ensures) ∙ not-false _ (b .if1 .left) in
-    let d = c .before .before .before .before .decode .ensures in
+    let d = c .before .before .before .before .before .before .decode .ensures in
     (sound-checks _ _ d e (c .before .before .before .read16 .ensures .0) (c .check-entry .ensures), λ _. d)
 
 pub is-sound-spec : {M : Type 1} → statement M
@@ -50,4 +53,5 @@ is-sound-spec =
     decode-requires
     read16-requires
     check-entry-requires
+    same-length
     returns-2)

@@ -19,14 +19,14 @@ abbrev μ-loop : tie.MeasureT-loop
 μ-loop card file d g kept₀ n table w₀ first₀ k₀ row₀ kept w first k row = table .rows - row
 
 read16-requires : tie.Need-read16-requires Inv-loop μ-loop
-read16-requires c κs = let laid = laid-out _ (c .before .before .pre .0 .sound-is) in omega arith
+read16-requires c κs = let laid = laid-out _ (c .before .before .before .pre .0 .sound-is) in omega arith
 
 table-place-requires : tie.Need-table-place-requires Inv-loop μ-loop
 table-place-requires c κs = omega arith
 
 loop-holds : tie.Need-loop-holds Inv-loop μ-loop
 loop-holds c =
-    let start = c .before .before .before .before in
+    let start = c .before .before .before .before .before in
     (few-rows _ _ _ _ (start .pre .0) _ (c .table-place .ensures), omega arith, omega arith, refl, kept-none _ _ (start .pre .1))
 
 array-write-w : tie.Need-array-write-w Inv-loop μ-loop
@@ -34,7 +34,7 @@ array-write-w c = omega arith
 
 run-entry-requires : tie.Need-run-entry-requires Inv-loop μ-loop
 run-entry-requires c κs =
-    let start = c .before .before .before .before .before .before .before .before in
+    let start = c .before .before .before .before .before .before .before .before .before in
     let is = c .before .before .before .before .table-place .ensures in
     let loop = c .before .before .before .loop in
     judged _ _ _ _ (start .pre .0) _ is _ _ (c .before .if1 .taken) (loop .inv .2) _ _ (c .before .before .before .before .before .read16 .ensures .0)
@@ -54,7 +54,7 @@ add-k c = omega arith
 
 add-first : tie.Need-add-first Inv-loop μ-loop
 add-first c =
-    let start = c .before .before .before .before .before .before .before .before .before .before .before in
+    let start = c .before .before .before .before .before .before .before .before .before .before .before .before in
     let is = c .before .before .before .before .before .before .before .table-place .ensures in
     omega (arith, row-room _ _ _ _ (start .pre .0) _ is _ _ (c .before .before .before .before .if1 .taken) (c .before .before .before .before .before .before .loop .inv .2))
 
@@ -66,7 +66,7 @@ loop-less c = omega arith
 
 loop-again : tie.Need-loop-again Inv-loop μ-loop
 loop-again c =
-    let start = c .before .before .before .before .before .before .before .before .before .before .before in
+    let start = c .before .before .before .before .before .before .before .before .before .before .before .before in
     let is = c .before .before .before .before .before .before .before .table-place .ensures in
     let loop = c .before .before .before .before .before .before .loop in
     let below = c .before .before .before .before .if1 .taken in
@@ -86,7 +86,7 @@ loop-again c =
 
 returns : tie.Need-returns Inv-loop μ-loop
 returns c =
-    let start = c .before .before .before .before .before .before .before in
+    let start = c .before .before .before .before .before .before .before .before in
     let loop = c .before .before .loop in
     let all = one-rows _ _ _ _ (start .pre .0) _ (c .before .before .before .table-place .ensures) in
     let (rows, count) = kept-all _ _ _ _ _ _ (loop .inv .4) all (loop .inv .1) (c .if1 .left) in

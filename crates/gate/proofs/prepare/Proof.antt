@@ -22,33 +22,42 @@ enum-told c = search needs
 is-sound-requires : tie.Need-is-sound-requires
 is-sound-requires c κs = search needs
 
+same-length : tie.Need-same-length
+same-length c = search needs
+
 returns-2 : tie.Need-returns-2
 returns-2 c =
-    let told = c .before .before .before in
-    let unsound = sym (c .before .is-sound .ensures .0) ∙ not-true _ (c .if1 .taken) in
+    let told = c .before .before .before .before .before in
+    let unsound = sym (c .before .before .before .is-sound .ensures .0) ∙ not-true _ (c .if1 .taken) in
     (prepare-unsound _ _ _ (told .enum-told .given .1) (told .before .before .check-tables .ensures) unsound, not-ready _)
 
 fits-tables-requires : tie.Need-fits-tables-requires
 fits-tables-requires c κs =
-    let told = c .before .before .before in
-    let sound = sym (c .before .is-sound .ensures .0) ∙ not-false _ (c .if1 .left) in
+    let told = c .before .before .before .before .before in
+    let sound = sym (c .before .before .before .is-sound .ensures .0) ∙ not-false _ (c .if1 .left) in
     (laid-out _ sound, checked-sized _ _ (told .enum-told .given .1) (told .before .before .check-tables .ensures))
+
+same-length-2 : tie.Need-same-length-2
+same-length-2 c = search needs
 
 returns-3 : tie.Need-returns-3
 returns-3 c =
-    let told = c .before .before .before .before .before in
-    let sound = sym (c .before .before .before .is-sound .ensures .0) ∙ not-false _ (c .before .before .if1 .left) in
+    let told = c .before .before .before .before .before .before .before in
+    let sound = sym (c .before .before .before .before .before .is-sound .ensures .0) ∙ not-false _ (c .before .before .if1 .left) in
     let unfit = sym (c .before .fits-tables .ensures) ∙ not-true _ (c .if2 .taken) in
     (prepare-columns _ _ _ (told .enum-told .given .1) (told .before .before .check-tables .ensures) sound unfit, not-ready _)
 
 places-requires : tie.Need-places-requires
 places-requires c κs =
-    let told = c .before .before .before .before .before .before in
-    (checked-sized _ _ (told .enum-told .given .1) (told .before .before .check-tables .ensures), told .before .before .before .before .before .pre .1)
+    let told = c .before .before .before .before .before .before .before .before in
+    (checked-sized _ _ (told .enum-told .given .1) (told .before .before .check-tables .ensures), told .before .before .before .before .before .before .pre .1)
+
+same-length-3 : tie.Need-same-length-3
+same-length-3 c = search needs
 
 returns-4 : tie.Need-returns-4
 returns-4 c =
-    let sound = c .before .before .before .before .before in
+    let sound = c .before .before .before .before .before .before .before in
     let told = sound .before .before in
     let yes = not-false _ (c .before .before .before .before .if1 .left) in
     let is-sound = sym (sound .is-sound .ensures .0) ∙ yes in
@@ -72,8 +81,11 @@ prepare-spec =
     returns
     enum-told
     is-sound-requires
+    same-length
     returns-2
     fits-tables-requires
+    same-length-2
     returns-3
     places-requires
+    same-length-3
     returns-4)

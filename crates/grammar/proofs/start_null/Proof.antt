@@ -11,8 +11,8 @@ add-token c = search needs
 token-requires : tie.Need-token-requires
 token-requires c κs = search needs
 
-null-note-requires : tie.Need-null-note-requires
-null-note-requires c κs = search needs
+left-note-requires : tie.Need-left-note-requires
+left-note-requires c κs = search needs
 
 add-t9 : tie.Need-add-t9
 add-t9 c = search needs
@@ -20,7 +20,7 @@ add-t9 c = search needs
 returns : tie.Need-returns
 returns c =
     let a = c .before .before .before .before .args in
-    a-null (a .letter) (a .number) (a .s .now) (a .at) (c .before .before .before .before .pre .1 .1) _ (omega arith) (c .null-note .ensures)
+    a-null (a .letter) (a .number) (a .s .now) (a .at) (c .before .before .before .before .pre .1 .1) _ (omega arith) (c .left-note .ensures)
 
 returns-2 : tie.Need-returns-2
 returns-2 c =
@@ -38,8 +38,8 @@ returns-3 c =
     let a = c .before .before .before .before .before .before .args in
     no-not-null _ (a .s .now) (a .at) (c .before .before .before .before .before .before .pre .1 .1) (omega arith) (λ e. omega arith)
 
-null-note-requires-2 : tie.Need-null-note-requires-2
-null-note-requires-2 c κs = search needs
+left-note-requires-2 : tie.Need-left-note-requires-2
+left-note-requires-2 c κs = search needs
 
 add-t6 : tie.Need-add-t6
 add-t6 c = search needs
@@ -47,7 +47,7 @@ add-t6 c = search needs
 returns-4 : tie.Need-returns-4
 returns-4 c =
     let a = c .before .before .before .before .before .before .before .args in
-    a-not-null (a .letter) (a .number) (a .s .now) (a .at) (c .before .before .before .before .before .before .before .pre .1 .1) _ (omega arith) (omega arith) (c .null-note2 .ensures)
+    a-not-null (a .letter) (a .number) (a .s .now) (a .at) (c .before .before .before .before .before .before .before .pre .1 .1) _ (omega arith) (omega arith) (c .left-note2 .ensures)
 
 pub start-null-spec : {M : Type 1} → statement M
 start-null-spec =
@@ -55,13 +55,13 @@ start-null-spec =
     (tie.spec
     add-token
     token-requires
-    null-note-requires
+    left-note-requires
     add-t9
     returns
     returns-2
     add-token-2
     token-requires-2
     returns-3
-    null-note-requires-2
+    left-note-requires-2
     add-t6
     returns-4)

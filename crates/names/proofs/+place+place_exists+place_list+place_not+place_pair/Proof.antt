@@ -23,12 +23,12 @@ use Rattle.names.proofs.place_pair.Kinds as place-pair-kinds
 use Rattle.names.proofs.+place+place_exists+place_list+place_not+place_pair.Lts-place_pair as place-pair-lts
 use Rattle.cells.proofs.byte.Reads as byte-reads
 use Rattle.names.proofs.bind.Reads as bind-reads
+use Rattle.names.proofs.compared_part.Reads as compared-part-reads
 use Rattle.names.proofs.find_numbered.Reads as find-numbered-reads
 use Rattle.names.proofs.place_comparison.Reads as place-comparison-reads
 use Rattle.names.proofs.place_null.Reads as place-null-reads
 use Rattle.names.proofs.plain_part.Reads as plain-part-reads
 use Rattle.names.proofs.put_part.Reads as put-part-reads
-use Rattle.names.proofs.resolve_both.Reads as resolve-both-reads
 use Rattle.names.proofs.+place+place_exists+place_list+place_not+place_pair.{statement}
 use Rattle.names.proofs.+place+place_exists+place_list+place_not+place_pair.Tie.{close}
 
@@ -102,7 +102,7 @@ place-sub-kind : (t : ℕ) → place-lts.Need-sub-kind (
   place-list-below t,
   place-list.Post,
 ) (place-at t) place.Post
-place-sub-kind t c = has-notes (c .before .pre .1) .0
+place-sub-kind t c = has-notes (c .before .before .pre .1) .0
 
 place-mul-kind : (t : ℕ) → place-lts.Need-mul-kind (
   place-not-below t,
@@ -136,7 +136,7 @@ place-mul-kind-2 : (t : ℕ) → place-lts.Need-mul-kind-2 (
 ) (place-at t) place.Post
 place-mul-kind-2 t c = search needs
 
-place-element-copy-out-kind : (t : ℕ) → place-lts.Need-element-copy-out-kind (
+place-shared-slice-read-kind : (t : ℕ) → place-lts.Need-shared-slice-read-kind (
   place-not-below t,
   place-not.Post,
   place-comparison-reads.Asked,
@@ -150,7 +150,7 @@ place-element-copy-out-kind : (t : ℕ) → place-lts.Need-element-copy-out-kind
   place-list-below t,
   place-list.Post,
 ) (place-at t) place.Post
-place-element-copy-out-kind t c = search needs
+place-shared-slice-read-kind t c = let z = note-room (c .before .before .before .pre .1) in search needs
 
 place-place-not-requires : (t : ℕ) → place-lts.Need-place-not-requires (
   place-not-below t,
@@ -167,7 +167,7 @@ place-place-not-requires : (t : ℕ) → place-lts.Need-place-not-requires (
   place-list.Post,
 ) (place-at t) place.Post
 place-place-not-requires t c κs =
-    let o = c .before .before .before .before in
+    let o = c .before .before .before .before .before in
     let the-match = c .before .match in
     let m = o .pre .0 in (omega arith, (o .pre .1, the-match .keys1))
 
@@ -186,7 +186,7 @@ place-place-comparison-requires : (t : ℕ) → place-lts.Need-place-comparison-
   place-list.Post,
 ) (place-at t) place.Post
 place-place-comparison-requires t c κs =
-    let o = c .before .before .before .before in
+    let o = c .before .before .before .before .before in
     let the-match = c .before .match in
     (o .pre .1, the-match .keys2)
 
@@ -205,7 +205,7 @@ place-place-exists-requires : (t : ℕ) → place-lts.Need-place-exists-requires
   place-list.Post,
 ) (place-at t) place.Post
 place-place-exists-requires t c κs =
-    let o = c .before .before .before .before in
+    let o = c .before .before .before .before .before in
     let the-match = c .before .match in
     let m = o .pre .0 in (omega arith, (o .pre .1, the-match .keys3))
 
@@ -224,7 +224,7 @@ place-place-pair-requires : (t : ℕ) → place-lts.Need-place-pair-requires (
   place-list.Post,
 ) (place-at t) place.Post
 place-place-pair-requires t c κs =
-    let o = c .before .before .before .before .before .before in
+    let o = c .before .before .before .before .before .before .before in
     let the-if1 = c .before .before .if1 in
     let the-if2 = c .before .if2 in
     let m = o .pre .0 in (omega arith, (o .pre .1, (the-if1 .left, omega (arith, the-if2 .taken))))
@@ -244,7 +244,7 @@ place-place-null-requires : (t : ℕ) → place-lts.Need-place-null-requires (
   place-list.Post,
 ) (place-at t) place.Post
 place-place-null-requires t c κs =
-    let o = c .before .before .before .before .before .before .before in
+    let o = c .before .before .before .before .before .before .before .before in
     let the-match = c .before .before .before .before .match in
     let the-if2 = c .before .before .if2 in
     let the-if3 = c .before .if3 in
@@ -265,7 +265,7 @@ place-place-list-requires : (t : ℕ) → place-lts.Need-place-list-requires (
   place-list.Post,
 ) (place-at t) place.Post
 place-place-list-requires t c κs =
-    let o = c .before .before .before .before .before in
+    let o = c .before .before .before .before .before .before in
     let the-match = c .before .before .match in
     let the-if1 = c .before .if1 in
     let m = o .pre .0 in (
@@ -385,7 +385,7 @@ place-exists-sub-b : (t : ℕ) → place-exists-lts.Need-sub-b (
   put-part-reads.Learnt,
 ) (place-exists-at t) place-exists.Post
 place-exists-sub-b t c =
-    let o = c .before in
+    let o = c .before .before in
     has-notes (o .pre .1 .0) .0
 
 place-exists-mul-b : (t : ℕ) → place-exists-lts.Need-mul-b (
@@ -430,8 +430,8 @@ place-exists-mul-find-numbered : (t : ℕ) → place-exists-lts.Need-mul-find-nu
 ) (place-exists-at t) place-exists.Post
 place-exists-mul-find-numbered t c = search needs
 
-place-exists-element-copy-out-find-numbered :
-    (t : ℕ) → place-exists-lts.Need-element-copy-out-find-numbered (
+place-exists-shared-slice-read-find-numbered :
+    (t : ℕ) → place-exists-lts.Need-shared-slice-read-find-numbered (
       byte-reads.Asked,
       byte-reads.Learnt,
       find-numbered-reads.Asked,
@@ -443,7 +443,7 @@ place-exists-element-copy-out-find-numbered :
       put-part-reads.Asked,
       put-part-reads.Learnt,
     ) (place-exists-at t) place-exists.Post
-place-exists-element-copy-out-find-numbered t c = search needs
+place-exists-shared-slice-read-find-numbered t c = let z = note-room (c .before .before .before .pre .1 .0) in search needs
 
 place-exists-byte-requires : (t : ℕ) → place-exists-lts.Need-byte-requires (
   byte-reads.Asked,
@@ -458,7 +458,7 @@ place-exists-byte-requires : (t : ℕ) → place-exists-lts.Need-byte-requires (
   put-part-reads.Learnt,
 ) (place-exists-at t) place-exists.Post
 place-exists-byte-requires t c κs =
-    let o = c .before .before in
+    let o = c .before .before .before in
     file-long (o .pre .1 .0)
 
 place-exists-find-numbered-requires : (t : ℕ) → place-exists-lts.Need-find-numbered-requires (
@@ -490,7 +490,7 @@ place-exists-returns : (t : ℕ) → place-exists-lts.Need-returns (
   put-part-reads.Learnt,
 ) (place-exists-at t) place-exists.Post
 place-exists-returns t c =
-    let o = c .before .before .before .before .before in
+    let o = c .before .before .before .before .before .before in
     let the-byte = c .before .before .byte in
     let the-find-numbered = c .before .find-numbered in
     let the-if1 = c .if1 in
@@ -524,7 +524,7 @@ place-exists-mul-bind : (t : ℕ) → place-exists-lts.Need-mul-bind (
 ) (place-exists-at t) place-exists.Post
 place-exists-mul-bind t c = search needs
 
-place-exists-element-copy-out-bind : (t : ℕ) → place-exists-lts.Need-element-copy-out-bind (
+place-exists-shared-slice-read-bind : (t : ℕ) → place-exists-lts.Need-shared-slice-read-bind (
   byte-reads.Asked,
   byte-reads.Learnt,
   find-numbered-reads.Asked,
@@ -536,7 +536,7 @@ place-exists-element-copy-out-bind : (t : ℕ) → place-exists-lts.Need-element
   put-part-reads.Asked,
   put-part-reads.Learnt,
 ) (place-exists-at t) place-exists.Post
-place-exists-element-copy-out-bind t c = search needs
+place-exists-shared-slice-read-bind t c = let z = note-room (c .before .before .before .before .before .before .before .pre .1 .0) in search needs
 
 place-exists-bind-requires : (t : ℕ) → place-exists-lts.Need-bind-requires (
   byte-reads.Asked,
@@ -551,7 +551,7 @@ place-exists-bind-requires : (t : ℕ) → place-exists-lts.Need-bind-requires (
   put-part-reads.Learnt,
 ) (place-exists-at t) place-exists.Post
 place-exists-bind-requires t c κs =
-    let o = c .before .before .before .before .before .before in
+    let o = c .before .before .before .before .before .before .before in
     (o .pre .1 .0 .scope-fits .size, exists-few (o .pre .1 .0) (o .pre .1 .1))
 
 place-exists-add-deeper : (t : ℕ) → place-exists-lts.Need-add-deeper (
@@ -581,7 +581,7 @@ place-exists-sub-place : (t : ℕ) → place-exists-lts.Need-sub-place (
   put-part-reads.Learnt,
 ) (place-exists-at t) place-exists.Post
 place-exists-sub-place t c =
-    let o = c .before .before .before .before .before .before .before in
+    let o = c .before .before .before .before .before .before .before .before in
     has-notes (o .pre .1 .0) .0
 
 place-exists-place-requires : (t : ℕ) → place-exists-lts.Need-place-requires (
@@ -597,7 +597,7 @@ place-exists-place-requires : (t : ℕ) → place-exists-lts.Need-place-requires
   put-part-reads.Learnt,
 ) (place-exists-at t) place-exists.Post
 place-exists-place-requires t c κs =
-    let o = c .before .before .before .before .before .before .before .before .before in
+    let o = c .before .before .before .before .before .before .before .before .before .before in
     let the-byte = c .before .before .before .before .before .before .byte in
     let the-find-numbered = c .before .before .before .before .before .find-numbered in
     let the-if1 = c .before .before .before .before .if1 in
@@ -647,7 +647,7 @@ place-exists-returns-2 : (t : ℕ) → place-exists-lts.Need-returns-2 (
   put-part-reads.Learnt,
 ) (place-exists-at t) place-exists.Post
 place-exists-returns-2 t c =
-    let o = c .before .before .before .before .before .before .before .before .before .before .before .before in
+    let o = c .before .before .before .before .before .before .before .before .before .before .before .before .before in
     let the-byte = c .before .before .before .before .before .before .before .before .before .byte in
     let the-find-numbered = c .before .before .before .before .before .before .before .before .find-numbered in
     let the-if1 = c .before .before .before .before .before .before .before .if1 in
@@ -669,7 +669,7 @@ place-exists-sub-put-part : (t : ℕ) → place-exists-lts.Need-sub-put-part (
   put-part-reads.Learnt,
 ) (place-exists-at t) place-exists.Post
 place-exists-sub-put-part t c =
-    let o = c .before .before .before .before .before .before .before .before .before .before .before .before .before .before in
+    let o = c .before .before .before .before .before .before .before .before .before .before .before .before .before .before .before in
     let the-byte = c .before .before .before .before .before .before .before .before .before .before .before .byte in
     let the-find-numbered = c .before .before .before .before .before .before .before .before .before .before .find-numbered in
     let the-if1 = c .before .before .before .before .before .before .before .before .before .if1 in
@@ -691,7 +691,7 @@ place-exists-put-part-requires : (t : ℕ) → place-exists-lts.Need-put-part-re
   put-part-reads.Learnt,
 ) (place-exists-at t) place-exists.Post
 place-exists-put-part-requires t c κs =
-    let o = c .before .before .before .before .before .before .before .before .before .before .before .before .before .before in
+    let o = c .before .before .before .before .before .before .before .before .before .before .before .before .before .before .before in
     let the-byte = c .before .before .before .before .before .before .before .before .before .before .before .byte in
     let the-find-numbered = c .before .before .before .before .before .before .before .before .before .before .find-numbered in
     let the-if1 = c .before .before .before .before .before .before .before .before .before .if1 in
@@ -701,7 +701,7 @@ place-exists-put-part-requires t c κs =
     let z = exists-room (o .pre .1 .0) (o .pre .1 .1) (the-byte .result) (the-byte .ensures .0) (the-find-numbered .result) (the-find-numbered .ensures .0) (the-if1 .left) (the-find-numbered .ensures .1) (the-bind .result) (the-bind .ensures) (the-place .last .1 .1 .1 .0) (the-place .result) (the-place .ensures .0 (exists-run (o .pre .1 .0) (o .pre .1 .1) (the-byte .result) (the-byte .ensures .0) (the-find-numbered .result) (the-find-numbered .ensures .0) (the-if1 .left) (the-find-numbered .ensures .1) (the-bind .result) (the-bind .ensures))) _ (the-inner .given .1) in
     (the-place .ensures .1, omega arith)
 
-place-exists-sub-t18 : (t : ℕ) → place-exists-lts.Need-sub-t18 (
+place-exists-sub-t17 : (t : ℕ) → place-exists-lts.Need-sub-t17 (
   byte-reads.Asked,
   byte-reads.Learnt,
   find-numbered-reads.Asked,
@@ -713,8 +713,8 @@ place-exists-sub-t18 : (t : ℕ) → place-exists-lts.Need-sub-t18 (
   put-part-reads.Asked,
   put-part-reads.Learnt,
 ) (place-exists-at t) place-exists.Post
-place-exists-sub-t18 t c =
-    let o = c .before .before .before .before .before .before .before .before .before .before .before .before .before .before .before in
+place-exists-sub-t17 t c =
+    let o = c .before .before .before .before .before .before .before .before .before .before .before .before .before .before .before .before in
     let the-byte = c .before .before .before .before .before .before .before .before .before .before .before .before .byte in
     let the-find-numbered = c .before .before .before .before .before .before .before .before .before .before .before .find-numbered in
     let the-if1 = c .before .before .before .before .before .before .before .before .before .before .if1 in
@@ -736,7 +736,7 @@ place-exists-returns-3 : (t : ℕ) → place-exists-lts.Need-returns-3 (
   put-part-reads.Learnt,
 ) (place-exists-at t) place-exists.Post
 place-exists-returns-3 t c =
-    let o = c .before .before .before .before .before .before .before .before .before .before .before .before .before .before .before in
+    let o = c .before .before .before .before .before .before .before .before .before .before .before .before .before .before .before .before in
     let the-byte = c .before .before .before .before .before .before .before .before .before .before .before .before .byte in
     let the-find-numbered = c .before .before .before .before .before .before .before .before .before .before .before .find-numbered in
     let the-if1 = c .before .before .before .before .before .before .before .before .before .before .if1 in
@@ -753,15 +753,15 @@ place-list-sub-b : (t : ℕ) → place-list-lts.Need-sub-b (
   find-numbered-reads.Learnt,
   bind-reads.Asked,
   bind-reads.Learnt,
-  resolve-both-reads.Asked,
-  resolve-both-reads.Learnt,
+  compared-part-reads.Asked,
+  compared-part-reads.Learnt,
   place-below t,
   place.Post,
   put-part-reads.Asked,
   put-part-reads.Learnt,
 ) (place-list-at t) place-list.Post
 place-list-sub-b t c =
-    let o = c .before in
+    let o = c .before .before in
     has-notes (o .pre .1 .0) .0
 
 place-list-mul-b : (t : ℕ) → place-list-lts.Need-mul-b (
@@ -771,8 +771,8 @@ place-list-mul-b : (t : ℕ) → place-list-lts.Need-mul-b (
   find-numbered-reads.Learnt,
   bind-reads.Asked,
   bind-reads.Learnt,
-  resolve-both-reads.Asked,
-  resolve-both-reads.Learnt,
+  compared-part-reads.Asked,
+  compared-part-reads.Learnt,
   place-below t,
   place.Post,
   put-part-reads.Asked,
@@ -787,8 +787,8 @@ place-list-add-find-numbered : (t : ℕ) → place-list-lts.Need-add-find-number
   find-numbered-reads.Learnt,
   bind-reads.Asked,
   bind-reads.Learnt,
-  resolve-both-reads.Asked,
-  resolve-both-reads.Learnt,
+  compared-part-reads.Asked,
+  compared-part-reads.Learnt,
   place-below t,
   place.Post,
   put-part-reads.Asked,
@@ -803,8 +803,8 @@ place-list-mul-find-numbered : (t : ℕ) → place-list-lts.Need-mul-find-number
   find-numbered-reads.Learnt,
   bind-reads.Asked,
   bind-reads.Learnt,
-  resolve-both-reads.Asked,
-  resolve-both-reads.Learnt,
+  compared-part-reads.Asked,
+  compared-part-reads.Learnt,
   place-below t,
   place.Post,
   put-part-reads.Asked,
@@ -812,22 +812,22 @@ place-list-mul-find-numbered : (t : ℕ) → place-list-lts.Need-mul-find-number
 ) (place-list-at t) place-list.Post
 place-list-mul-find-numbered t c = search needs
 
-place-list-element-copy-out-find-numbered :
-    (t : ℕ) → place-list-lts.Need-element-copy-out-find-numbered (
+place-list-shared-slice-read-find-numbered :
+    (t : ℕ) → place-list-lts.Need-shared-slice-read-find-numbered (
       byte-reads.Asked,
       byte-reads.Learnt,
       find-numbered-reads.Asked,
       find-numbered-reads.Learnt,
       bind-reads.Asked,
       bind-reads.Learnt,
-      resolve-both-reads.Asked,
-      resolve-both-reads.Learnt,
+      compared-part-reads.Asked,
+      compared-part-reads.Learnt,
       place-below t,
       place.Post,
       put-part-reads.Asked,
       put-part-reads.Learnt,
     ) (place-list-at t) place-list.Post
-place-list-element-copy-out-find-numbered t c = search needs
+place-list-shared-slice-read-find-numbered t c = let z = note-room (c .before .before .before .pre .1 .0) in search needs
 
 place-list-byte-requires : (t : ℕ) → place-list-lts.Need-byte-requires (
   byte-reads.Asked,
@@ -836,15 +836,15 @@ place-list-byte-requires : (t : ℕ) → place-list-lts.Need-byte-requires (
   find-numbered-reads.Learnt,
   bind-reads.Asked,
   bind-reads.Learnt,
-  resolve-both-reads.Asked,
-  resolve-both-reads.Learnt,
+  compared-part-reads.Asked,
+  compared-part-reads.Learnt,
   place-below t,
   place.Post,
   put-part-reads.Asked,
   put-part-reads.Learnt,
 ) (place-list-at t) place-list.Post
 place-list-byte-requires t c κs =
-    let o = c .before .before in
+    let o = c .before .before .before in
     file-long (o .pre .1 .0)
 
 place-list-find-numbered-requires : (t : ℕ) → place-list-lts.Need-find-numbered-requires (
@@ -854,8 +854,8 @@ place-list-find-numbered-requires : (t : ℕ) → place-list-lts.Need-find-numbe
   find-numbered-reads.Learnt,
   bind-reads.Asked,
   bind-reads.Learnt,
-  resolve-both-reads.Asked,
-  resolve-both-reads.Learnt,
+  compared-part-reads.Asked,
+  compared-part-reads.Learnt,
   place-below t,
   place.Post,
   put-part-reads.Asked,
@@ -872,15 +872,15 @@ place-list-returns : (t : ℕ) → place-list-lts.Need-returns (
   find-numbered-reads.Learnt,
   bind-reads.Asked,
   bind-reads.Learnt,
-  resolve-both-reads.Asked,
-  resolve-both-reads.Learnt,
+  compared-part-reads.Asked,
+  compared-part-reads.Learnt,
   place-below t,
   place.Post,
   put-part-reads.Asked,
   put-part-reads.Learnt,
 ) (place-list-at t) place-list.Post
 place-list-returns t c =
-    let o = c .before .before .before .before .before in
+    let o = c .before .before .before .before .before .before in
     let the-byte = c .before .before .byte in
     let the-find-numbered = c .before .find-numbered in
     let the-if1 = c .if1 in
@@ -893,8 +893,8 @@ place-list-add-bind : (t : ℕ) → place-list-lts.Need-add-bind (
   find-numbered-reads.Learnt,
   bind-reads.Asked,
   bind-reads.Learnt,
-  resolve-both-reads.Asked,
-  resolve-both-reads.Learnt,
+  compared-part-reads.Asked,
+  compared-part-reads.Learnt,
   place-below t,
   place.Post,
   put-part-reads.Asked,
@@ -909,8 +909,8 @@ place-list-mul-bind : (t : ℕ) → place-list-lts.Need-mul-bind (
   find-numbered-reads.Learnt,
   bind-reads.Asked,
   bind-reads.Learnt,
-  resolve-both-reads.Asked,
-  resolve-both-reads.Learnt,
+  compared-part-reads.Asked,
+  compared-part-reads.Learnt,
   place-below t,
   place.Post,
   put-part-reads.Asked,
@@ -918,21 +918,21 @@ place-list-mul-bind : (t : ℕ) → place-list-lts.Need-mul-bind (
 ) (place-list-at t) place-list.Post
 place-list-mul-bind t c = search needs
 
-place-list-element-copy-out-bind : (t : ℕ) → place-list-lts.Need-element-copy-out-bind (
+place-list-shared-slice-read-bind : (t : ℕ) → place-list-lts.Need-shared-slice-read-bind (
   byte-reads.Asked,
   byte-reads.Learnt,
   find-numbered-reads.Asked,
   find-numbered-reads.Learnt,
   bind-reads.Asked,
   bind-reads.Learnt,
-  resolve-both-reads.Asked,
-  resolve-both-reads.Learnt,
+  compared-part-reads.Asked,
+  compared-part-reads.Learnt,
   place-below t,
   place.Post,
   put-part-reads.Asked,
   put-part-reads.Learnt,
 ) (place-list-at t) place-list.Post
-place-list-element-copy-out-bind t c = search needs
+place-list-shared-slice-read-bind t c = let z = note-room (c .before .before .before .before .before .before .before .pre .1 .0) in search needs
 
 place-list-bind-requires : (t : ℕ) → place-list-lts.Need-bind-requires (
   byte-reads.Asked,
@@ -941,15 +941,15 @@ place-list-bind-requires : (t : ℕ) → place-list-lts.Need-bind-requires (
   find-numbered-reads.Learnt,
   bind-reads.Asked,
   bind-reads.Learnt,
-  resolve-both-reads.Asked,
-  resolve-both-reads.Learnt,
+  compared-part-reads.Asked,
+  compared-part-reads.Learnt,
   place-below t,
   place.Post,
   put-part-reads.Asked,
   put-part-reads.Learnt,
 ) (place-list-at t) place-list.Post
 place-list-bind-requires t c κs =
-    let o = c .before .before .before .before .before .before in
+    let o = c .before .before .before .before .before .before .before in
     (o .pre .1 .0 .scope-fits .size, list-few (o .pre .1 .0) (o .pre .1 .1))
 
 place-list-add-deeper : (t : ℕ) → place-list-lts.Need-add-deeper (
@@ -959,8 +959,8 @@ place-list-add-deeper : (t : ℕ) → place-list-lts.Need-add-deeper (
   find-numbered-reads.Learnt,
   bind-reads.Asked,
   bind-reads.Learnt,
-  resolve-both-reads.Asked,
-  resolve-both-reads.Learnt,
+  compared-part-reads.Asked,
+  compared-part-reads.Learnt,
   place-below t,
   place.Post,
   put-part-reads.Asked,
@@ -968,43 +968,43 @@ place-list-add-deeper : (t : ℕ) → place-list-lts.Need-add-deeper (
 ) (place-list-at t) place-list.Post
 place-list-add-deeper t c = search needs
 
-place-list-resolve-both-requires : (t : ℕ) → place-list-lts.Need-resolve-both-requires (
+place-list-compared-part-requires : (t : ℕ) → place-list-lts.Need-compared-part-requires (
   byte-reads.Asked,
   byte-reads.Learnt,
   find-numbered-reads.Asked,
   find-numbered-reads.Learnt,
   bind-reads.Asked,
   bind-reads.Learnt,
-  resolve-both-reads.Asked,
-  resolve-both-reads.Learnt,
+  compared-part-reads.Asked,
+  compared-part-reads.Learnt,
   place-below t,
   place.Post,
   put-part-reads.Asked,
   put-part-reads.Learnt,
 ) (place-list-at t) place-list.Post
-place-list-resolve-both-requires t c κs =
-    let o = c .before .before .before .before .before .before .before .before in
+place-list-compared-part-requires t c κs =
+    let o = c .before .before .before .before .before .before .before .before .before in
     let the-byte = c .before .before .before .before .before .byte in
     let the-find-numbered = c .before .before .before .before .find-numbered in
     let the-if1 = c .before .before .before .if1 in
     let the-bind = c .before .bind in
-    (o .pre .1 .0 .sized, (o .pre .1 .0 .notes-size, (note-room (o .pre .1 .0), (list-fits (o .pre .1 .0) (o .pre .1 .1) (the-byte .result) (the-byte .ensures .0) (the-find-numbered .result) (the-find-numbered .ensures .0) (the-if1 .left) (the-find-numbered .ensures .1) (the-bind .result) (the-bind .ensures) _ (omega arith), omega arith))))
+    (o .pre .1 .0 .sized, (note-room (o .pre .1 .0), (list-fits (o .pre .1 .0) (o .pre .1 .1) (the-byte .result) (the-byte .ensures .0) (the-find-numbered .result) (the-find-numbered .ensures .0) (the-if1 .left) (the-find-numbered .ensures .1) (the-bind .result) (the-bind .ensures) _ (omega arith), omega arith)))
 
-place-list-enum-known-left-tag : (t : ℕ) → place-list-lts.Need-enum-known-left-tag (
+place-list-enum-known-part : (t : ℕ) → place-list-lts.Need-enum-known-part (
   byte-reads.Asked,
   byte-reads.Learnt,
   find-numbered-reads.Asked,
   find-numbered-reads.Learnt,
   bind-reads.Asked,
   bind-reads.Learnt,
-  resolve-both-reads.Asked,
-  resolve-both-reads.Learnt,
+  compared-part-reads.Asked,
+  compared-part-reads.Learnt,
   place-below t,
   place.Post,
   put-part-reads.Asked,
   put-part-reads.Learnt,
 ) (place-list-at t) place-list.Post
-place-list-enum-known-left-tag t c = search needs
+place-list-enum-known-part t c = search needs
 
 place-list-enum-told : (t : ℕ) → place-list-lts.Need-enum-told (
   byte-reads.Asked,
@@ -1013,8 +1013,8 @@ place-list-enum-told : (t : ℕ) → place-list-lts.Need-enum-told (
   find-numbered-reads.Learnt,
   bind-reads.Asked,
   bind-reads.Learnt,
-  resolve-both-reads.Asked,
-  resolve-both-reads.Learnt,
+  compared-part-reads.Asked,
+  compared-part-reads.Learnt,
   place-below t,
   place.Post,
   put-part-reads.Asked,
@@ -1029,22 +1029,22 @@ place-list-returns-2 : (t : ℕ) → place-list-lts.Need-returns-2 (
   find-numbered-reads.Learnt,
   bind-reads.Asked,
   bind-reads.Learnt,
-  resolve-both-reads.Asked,
-  resolve-both-reads.Learnt,
+  compared-part-reads.Asked,
+  compared-part-reads.Learnt,
   place-below t,
   place.Post,
   put-part-reads.Asked,
   put-part-reads.Learnt,
 ) (place-list-at t) place-list.Post
 place-list-returns-2 t c =
-    let o = c .before .before .before .before .before .before .before .before .before .before .before in
+    let o = c .before .before .before .before .before .before .before .before .before .before .before .before in
     let the-byte = c .before .before .before .before .before .before .before .before .byte in
     let the-find-numbered = c .before .before .before .before .before .before .before .find-numbered in
     let the-if1 = c .before .before .before .before .before .before .if1 in
     let the-bind = c .before .before .before .before .bind in
-    let the-resolve-both = c .before .before .resolve-both in
+    let the-compared-part = c .before .before .compared-part in
     let the-enum-told = c .enum-told in
-    ((λ q. list-values-missing q (o .pre .1 .1) (the-byte .result) (the-byte .ensures .0) (the-find-numbered .result) (the-find-numbered .ensures .0) (the-if1 .left) (the-find-numbered .ensures .1) (the-bind .result) (the-bind .ensures) (the-resolve-both .result) (the-resolve-both .ensures) (the-enum-told .given .1)), o .pre .1 .0 .parts-size)
+    ((λ q. list-values-missing q (o .pre .1 .1) (the-byte .result) (the-byte .ensures .0) (the-find-numbered .result) (the-find-numbered .ensures .0) (the-if1 .left) (the-find-numbered .ensures .1) (the-bind .result) (the-bind .ensures) (the-compared-part .result) (the-compared-part .ensures) (the-enum-told .given .1)), o .pre .1 .0 .parts-size)
 
 place-list-sub-place : (t : ℕ) → place-list-lts.Need-sub-place (
   byte-reads.Asked,
@@ -1053,15 +1053,15 @@ place-list-sub-place : (t : ℕ) → place-list-lts.Need-sub-place (
   find-numbered-reads.Learnt,
   bind-reads.Asked,
   bind-reads.Learnt,
-  resolve-both-reads.Asked,
-  resolve-both-reads.Learnt,
+  compared-part-reads.Asked,
+  compared-part-reads.Learnt,
   place-below t,
   place.Post,
   put-part-reads.Asked,
   put-part-reads.Learnt,
 ) (place-list-at t) place-list.Post
 place-list-sub-place t c =
-    let o = c .before .before .before .before .before .before .before .before .before .before .before .before in
+    let o = c .before .before .before .before .before .before .before .before .before .before .before .before .before in
     has-notes (o .pre .1 .0) .0
 
 place-list-place-requires : (t : ℕ) → place-list-lts.Need-place-requires (
@@ -1071,15 +1071,15 @@ place-list-place-requires : (t : ℕ) → place-list-lts.Need-place-requires (
   find-numbered-reads.Learnt,
   bind-reads.Asked,
   bind-reads.Learnt,
-  resolve-both-reads.Asked,
-  resolve-both-reads.Learnt,
+  compared-part-reads.Asked,
+  compared-part-reads.Learnt,
   place-below t,
   place.Post,
   put-part-reads.Asked,
   put-part-reads.Learnt,
 ) (place-list-at t) place-list.Post
 place-list-place-requires t c κs =
-    let o = c .before .before .before .before .before .before .before .before .before .before .before .before .before .before in
+    let o = c .before .before .before .before .before .before .before .before .before .before .before .before .before .before .before in
     let the-byte = c .before .before .before .before .before .before .before .before .before .before .before .byte in
     let the-find-numbered = c .before .before .before .before .before .before .before .before .before .before .find-numbered in
     let the-if1 = c .before .before .before .before .before .before .before .before .before .if1 in
@@ -1095,8 +1095,8 @@ place-list-enum-known-inner : (t : ℕ) → place-list-lts.Need-enum-known-inner
   find-numbered-reads.Learnt,
   bind-reads.Asked,
   bind-reads.Learnt,
-  resolve-both-reads.Asked,
-  resolve-both-reads.Learnt,
+  compared-part-reads.Asked,
+  compared-part-reads.Learnt,
   place-below t,
   place.Post,
   put-part-reads.Asked,
@@ -1111,8 +1111,8 @@ place-list-enum-told-2 : (t : ℕ) → place-list-lts.Need-enum-told-2 (
   find-numbered-reads.Learnt,
   bind-reads.Asked,
   bind-reads.Learnt,
-  resolve-both-reads.Asked,
-  resolve-both-reads.Learnt,
+  compared-part-reads.Asked,
+  compared-part-reads.Learnt,
   place-below t,
   place.Post,
   put-part-reads.Asked,
@@ -1127,124 +1127,24 @@ place-list-returns-3 : (t : ℕ) → place-list-lts.Need-returns-3 (
   find-numbered-reads.Learnt,
   bind-reads.Asked,
   bind-reads.Learnt,
-  resolve-both-reads.Asked,
-  resolve-both-reads.Learnt,
+  compared-part-reads.Asked,
+  compared-part-reads.Learnt,
   place-below t,
   place.Post,
   put-part-reads.Asked,
   put-part-reads.Learnt,
 ) (place-list-at t) place-list.Post
 place-list-returns-3 t c =
-    let o = c .before .before .before .before .before .before .before .before .before .before .before .before .before .before .before .before .before in
+    let o = c .before .before .before .before .before .before .before .before .before .before .before .before .before .before .before .before .before .before in
     let the-byte = c .before .before .before .before .before .before .before .before .before .before .before .before .before .before .byte in
     let the-find-numbered = c .before .before .before .before .before .before .before .before .before .before .before .before .before .find-numbered in
     let the-if1 = c .before .before .before .before .before .before .before .before .before .before .before .before .if1 in
     let the-bind = c .before .before .before .before .before .before .before .before .before .before .bind in
-    let the-resolve-both = c .before .before .before .before .before .before .before .before .resolve-both in
-    let the-left-tag = c .before .before .before .before .before .before .left-tag in
+    let the-compared-part = c .before .before .before .before .before .before .before .before .compared-part in
+    let the-part = c .before .before .before .before .before .before .part in
     let the-place = c .before .before .place in
     let the-enum-told2 = c .enum-told2 in
-    ((λ q. list-missing q (o .pre .1 .1) (the-byte .result) (the-byte .ensures .0) (the-find-numbered .result) (the-find-numbered .ensures .0) (the-if1 .left) (the-find-numbered .ensures .1) (the-bind .result) (the-bind .ensures) (the-resolve-both .result) (the-resolve-both .ensures) _ _ _ _ (the-left-tag .given .1) (the-place .last .1 .1 .1 .0) (the-place .result) (the-place .ensures .0 (list-run q (o .pre .1 .1) (the-byte .result) (the-byte .ensures .0) (the-find-numbered .result) (the-find-numbered .ensures .0) (the-if1 .left) (the-find-numbered .ensures .1) (the-bind .result) (the-bind .ensures))) (the-enum-told2 .given .1)), the-place .ensures .1)
-
-place-list-mul-t23 : (t : ℕ) → place-list-lts.Need-mul-t23 (
-  byte-reads.Asked,
-  byte-reads.Learnt,
-  find-numbered-reads.Asked,
-  find-numbered-reads.Learnt,
-  bind-reads.Asked,
-  bind-reads.Learnt,
-  resolve-both-reads.Asked,
-  resolve-both-reads.Learnt,
-  place-below t,
-  place.Post,
-  put-part-reads.Asked,
-  put-part-reads.Learnt,
-) (place-list-at t) place-list.Post
-place-list-mul-t23 t c =
-    let o = c .before .before .before .before .before .before .before .before .before .before .before .before .before .before .before .before .before .before in
-    let z = has-notes (o .pre .1 .0) in
-    let s = o .pre .1 .0 .notes-size in
-    omega arith
-
-place-list-element-copy-out-t22 : (t : ℕ) → place-list-lts.Need-element-copy-out-t22 (
-  byte-reads.Asked,
-  byte-reads.Learnt,
-  find-numbered-reads.Asked,
-  find-numbered-reads.Learnt,
-  bind-reads.Asked,
-  bind-reads.Learnt,
-  resolve-both-reads.Asked,
-  resolve-both-reads.Learnt,
-  place-below t,
-  place.Post,
-  put-part-reads.Asked,
-  put-part-reads.Learnt,
-) (place-list-at t) place-list.Post
-place-list-element-copy-out-t22 t c =
-    let o = c .before .before .before .before .before .before .before .before .before .before .before .before .before .before .before .before .before .before in
-    let z = has-notes (o .pre .1 .0) in
-    let s = o .pre .1 .0 .notes-size in
-    omega arith
-
-place-list-add-t19 : (t : ℕ) → place-list-lts.Need-add-t19 (
-  byte-reads.Asked,
-  byte-reads.Learnt,
-  find-numbered-reads.Asked,
-  find-numbered-reads.Learnt,
-  bind-reads.Asked,
-  bind-reads.Learnt,
-  resolve-both-reads.Asked,
-  resolve-both-reads.Learnt,
-  place-below t,
-  place.Post,
-  put-part-reads.Asked,
-  put-part-reads.Learnt,
-) (place-list-at t) place-list.Post
-place-list-add-t19 t c =
-    let o = c .before .before .before .before .before .before .before .before .before .before .before .before .before .before .before .before .before .before .before in
-    let z = has-notes (o .pre .1 .0) in
-    let s = o .pre .1 .0 .notes-size in
-    omega arith
-
-place-list-mul-t18 : (t : ℕ) → place-list-lts.Need-mul-t18 (
-  byte-reads.Asked,
-  byte-reads.Learnt,
-  find-numbered-reads.Asked,
-  find-numbered-reads.Learnt,
-  bind-reads.Asked,
-  bind-reads.Learnt,
-  resolve-both-reads.Asked,
-  resolve-both-reads.Learnt,
-  place-below t,
-  place.Post,
-  put-part-reads.Asked,
-  put-part-reads.Learnt,
-) (place-list-at t) place-list.Post
-place-list-mul-t18 t c =
-    let o = c .before .before .before .before .before .before .before .before .before .before .before .before .before .before .before .before .before .before .before in
-    let z = has-notes (o .pre .1 .0) in
-    let s = o .pre .1 .0 .notes-size in
-    omega arith
-
-place-list-element-copy-out-t37 : (t : ℕ) → place-list-lts.Need-element-copy-out-t37 (
-  byte-reads.Asked,
-  byte-reads.Learnt,
-  find-numbered-reads.Asked,
-  find-numbered-reads.Learnt,
-  bind-reads.Asked,
-  bind-reads.Learnt,
-  resolve-both-reads.Asked,
-  resolve-both-reads.Learnt,
-  place-below t,
-  place.Post,
-  put-part-reads.Asked,
-  put-part-reads.Learnt,
-) (place-list-at t) place-list.Post
-place-list-element-copy-out-t37 t c =
-    let o = c .before .before .before .before .before .before .before .before .before .before .before .before .before .before .before .before .before .before .before in
-    let z = has-notes (o .pre .1 .0) in
-    let s = o .pre .1 .0 .notes-size in
-    omega arith
+    ((λ q. list-missing q (o .pre .1 .1) (the-byte .result) (the-byte .ensures .0) (the-find-numbered .result) (the-find-numbered .ensures .0) (the-if1 .left) (the-find-numbered .ensures .1) (the-bind .result) (the-bind .ensures) (the-compared-part .result) (the-compared-part .ensures) _ (the-part .given .1) (the-place .last .1 .1 .1 .0) (the-place .result) (the-place .ensures .0 (list-run q (o .pre .1 .1) (the-byte .result) (the-byte .ensures .0) (the-find-numbered .result) (the-find-numbered .ensures .0) (the-if1 .left) (the-find-numbered .ensures .1) (the-bind .result) (the-bind .ensures))) (the-enum-told2 .given .1)), the-place .ensures .1)
 
 place-list-sub-put-part : (t : ℕ) → place-list-lts.Need-sub-put-part (
   byte-reads.Asked,
@@ -1253,24 +1153,24 @@ place-list-sub-put-part : (t : ℕ) → place-list-lts.Need-sub-put-part (
   find-numbered-reads.Learnt,
   bind-reads.Asked,
   bind-reads.Learnt,
-  resolve-both-reads.Asked,
-  resolve-both-reads.Learnt,
+  compared-part-reads.Asked,
+  compared-part-reads.Learnt,
   place-below t,
   place.Post,
   put-part-reads.Asked,
   put-part-reads.Learnt,
 ) (place-list-at t) place-list.Post
 place-list-sub-put-part t c =
-    let o = c .before .before .before .before .before .before .before .before .before .before .before .before .before .before .before .before .before .before .before .before .before in
-    let the-byte = c .before .before .before .before .before .before .before .before .before .before .before .before .before .before .before .before .before .before .byte in
-    let the-find-numbered = c .before .before .before .before .before .before .before .before .before .before .before .before .before .before .before .before .before .find-numbered in
-    let the-if1 = c .before .before .before .before .before .before .before .before .before .before .before .before .before .before .before .before .if1 in
-    let the-bind = c .before .before .before .before .before .before .before .before .before .before .before .before .before .before .bind in
-    let the-resolve-both = c .before .before .before .before .before .before .before .before .before .before .before .before .resolve-both in
-    let the-left-tag = c .before .before .before .before .before .before .before .before .before .before .left-tag in
-    let the-place = c .before .before .before .before .before .before .place in
-    let the-inner = c .before .before .before .before .inner in
-    list-room (o .pre .1 .0) (o .pre .1 .1) (the-byte .result) (the-byte .ensures .0) (the-find-numbered .result) (the-find-numbered .ensures .0) (the-if1 .left) (the-find-numbered .ensures .1) (the-bind .result) (the-bind .ensures) (the-resolve-both .result) (the-resolve-both .ensures) _ _ _ _ (the-left-tag .given .1) (the-place .last .1 .1 .1 .0) (the-place .result) (the-place .ensures .0 (list-run (o .pre .1 .0) (o .pre .1 .1) (the-byte .result) (the-byte .ensures .0) (the-find-numbered .result) (the-find-numbered .ensures .0) (the-if1 .left) (the-find-numbered .ensures .1) (the-bind .result) (the-bind .ensures))) _ (the-inner .given .1) .0
+    let o = c .before .before .before .before .before .before .before .before .before .before .before .before .before .before .before .before .before .before .before .before in
+    let the-byte = c .before .before .before .before .before .before .before .before .before .before .before .before .before .before .before .before .byte in
+    let the-find-numbered = c .before .before .before .before .before .before .before .before .before .before .before .before .before .before .before .find-numbered in
+    let the-if1 = c .before .before .before .before .before .before .before .before .before .before .before .before .before .before .if1 in
+    let the-bind = c .before .before .before .before .before .before .before .before .before .before .before .before .bind in
+    let the-compared-part = c .before .before .before .before .before .before .before .before .before .before .compared-part in
+    let the-part = c .before .before .before .before .before .before .before .before .part in
+    let the-place = c .before .before .before .before .place in
+    let the-inner = c .before .before .inner in
+    list-room (o .pre .1 .0) (o .pre .1 .1) (the-byte .result) (the-byte .ensures .0) (the-find-numbered .result) (the-find-numbered .ensures .0) (the-if1 .left) (the-find-numbered .ensures .1) (the-bind .result) (the-bind .ensures) (the-compared-part .result) (the-compared-part .ensures) _ (the-part .given .1) (the-place .last .1 .1 .1 .0) (the-place .result) (the-place .ensures .0 (list-run (o .pre .1 .0) (o .pre .1 .1) (the-byte .result) (the-byte .ensures .0) (the-find-numbered .result) (the-find-numbered .ensures .0) (the-if1 .left) (the-find-numbered .ensures .1) (the-bind .result) (the-bind .ensures))) _ (the-inner .given .1) .0
 
 place-list-put-part-requires : (t : ℕ) → place-list-lts.Need-put-part-requires (
   byte-reads.Asked,
@@ -1279,51 +1179,51 @@ place-list-put-part-requires : (t : ℕ) → place-list-lts.Need-put-part-requir
   find-numbered-reads.Learnt,
   bind-reads.Asked,
   bind-reads.Learnt,
-  resolve-both-reads.Asked,
-  resolve-both-reads.Learnt,
+  compared-part-reads.Asked,
+  compared-part-reads.Learnt,
   place-below t,
   place.Post,
   put-part-reads.Asked,
   put-part-reads.Learnt,
 ) (place-list-at t) place-list.Post
 place-list-put-part-requires t c κs =
-    let o = c .before .before .before .before .before .before .before .before .before .before .before .before .before .before .before .before .before .before .before .before .before in
-    let the-byte = c .before .before .before .before .before .before .before .before .before .before .before .before .before .before .before .before .before .before .byte in
-    let the-find-numbered = c .before .before .before .before .before .before .before .before .before .before .before .before .before .before .before .before .before .find-numbered in
-    let the-if1 = c .before .before .before .before .before .before .before .before .before .before .before .before .before .before .before .before .if1 in
-    let the-bind = c .before .before .before .before .before .before .before .before .before .before .before .before .before .before .bind in
-    let the-resolve-both = c .before .before .before .before .before .before .before .before .before .before .before .before .resolve-both in
-    let the-left-tag = c .before .before .before .before .before .before .before .before .before .before .left-tag in
-    let the-place = c .before .before .before .before .before .before .place in
-    let the-inner = c .before .before .before .before .inner in
-    let z = list-room (o .pre .1 .0) (o .pre .1 .1) (the-byte .result) (the-byte .ensures .0) (the-find-numbered .result) (the-find-numbered .ensures .0) (the-if1 .left) (the-find-numbered .ensures .1) (the-bind .result) (the-bind .ensures) (the-resolve-both .result) (the-resolve-both .ensures) _ _ _ _ (the-left-tag .given .1) (the-place .last .1 .1 .1 .0) (the-place .result) (the-place .ensures .0 (list-run (o .pre .1 .0) (o .pre .1 .1) (the-byte .result) (the-byte .ensures .0) (the-find-numbered .result) (the-find-numbered .ensures .0) (the-if1 .left) (the-find-numbered .ensures .1) (the-bind .result) (the-bind .ensures))) _ (the-inner .given .1) in
+    let o = c .before .before .before .before .before .before .before .before .before .before .before .before .before .before .before .before .before .before .before .before in
+    let the-byte = c .before .before .before .before .before .before .before .before .before .before .before .before .before .before .before .before .byte in
+    let the-find-numbered = c .before .before .before .before .before .before .before .before .before .before .before .before .before .before .before .find-numbered in
+    let the-if1 = c .before .before .before .before .before .before .before .before .before .before .before .before .before .before .if1 in
+    let the-bind = c .before .before .before .before .before .before .before .before .before .before .before .before .bind in
+    let the-compared-part = c .before .before .before .before .before .before .before .before .before .before .compared-part in
+    let the-part = c .before .before .before .before .before .before .before .before .part in
+    let the-place = c .before .before .before .before .place in
+    let the-inner = c .before .before .inner in
+    let z = list-room (o .pre .1 .0) (o .pre .1 .1) (the-byte .result) (the-byte .ensures .0) (the-find-numbered .result) (the-find-numbered .ensures .0) (the-if1 .left) (the-find-numbered .ensures .1) (the-bind .result) (the-bind .ensures) (the-compared-part .result) (the-compared-part .ensures) _ (the-part .given .1) (the-place .last .1 .1 .1 .0) (the-place .result) (the-place .ensures .0 (list-run (o .pre .1 .0) (o .pre .1 .1) (the-byte .result) (the-byte .ensures .0) (the-find-numbered .result) (the-find-numbered .ensures .0) (the-if1 .left) (the-find-numbered .ensures .1) (the-bind .result) (the-bind .ensures))) _ (the-inner .given .1) in
     (the-place .ensures .1, omega arith)
 
-place-list-sub-t37 : (t : ℕ) → place-list-lts.Need-sub-t37 (
+place-list-sub-t17 : (t : ℕ) → place-list-lts.Need-sub-t17 (
   byte-reads.Asked,
   byte-reads.Learnt,
   find-numbered-reads.Asked,
   find-numbered-reads.Learnt,
   bind-reads.Asked,
   bind-reads.Learnt,
-  resolve-both-reads.Asked,
-  resolve-both-reads.Learnt,
+  compared-part-reads.Asked,
+  compared-part-reads.Learnt,
   place-below t,
   place.Post,
   put-part-reads.Asked,
   put-part-reads.Learnt,
 ) (place-list-at t) place-list.Post
-place-list-sub-t37 t c =
-    let o = c .before .before .before .before .before .before .before .before .before .before .before .before .before .before .before .before .before .before .before .before .before .before in
-    let the-byte = c .before .before .before .before .before .before .before .before .before .before .before .before .before .before .before .before .before .before .before .byte in
-    let the-find-numbered = c .before .before .before .before .before .before .before .before .before .before .before .before .before .before .before .before .before .before .find-numbered in
-    let the-if1 = c .before .before .before .before .before .before .before .before .before .before .before .before .before .before .before .before .before .if1 in
-    let the-bind = c .before .before .before .before .before .before .before .before .before .before .before .before .before .before .before .bind in
-    let the-resolve-both = c .before .before .before .before .before .before .before .before .before .before .before .before .before .resolve-both in
-    let the-left-tag = c .before .before .before .before .before .before .before .before .before .before .before .left-tag in
-    let the-place = c .before .before .before .before .before .before .before .place in
-    let the-inner = c .before .before .before .before .before .inner in
-    list-room (o .pre .1 .0) (o .pre .1 .1) (the-byte .result) (the-byte .ensures .0) (the-find-numbered .result) (the-find-numbered .ensures .0) (the-if1 .left) (the-find-numbered .ensures .1) (the-bind .result) (the-bind .ensures) (the-resolve-both .result) (the-resolve-both .ensures) _ _ _ _ (the-left-tag .given .1) (the-place .last .1 .1 .1 .0) (the-place .result) (the-place .ensures .0 (list-run (o .pre .1 .0) (o .pre .1 .1) (the-byte .result) (the-byte .ensures .0) (the-find-numbered .result) (the-find-numbered .ensures .0) (the-if1 .left) (the-find-numbered .ensures .1) (the-bind .result) (the-bind .ensures))) _ (the-inner .given .1) .0
+place-list-sub-t17 t c =
+    let o = c .before .before .before .before .before .before .before .before .before .before .before .before .before .before .before .before .before .before .before .before .before in
+    let the-byte = c .before .before .before .before .before .before .before .before .before .before .before .before .before .before .before .before .before .byte in
+    let the-find-numbered = c .before .before .before .before .before .before .before .before .before .before .before .before .before .before .before .before .find-numbered in
+    let the-if1 = c .before .before .before .before .before .before .before .before .before .before .before .before .before .before .before .if1 in
+    let the-bind = c .before .before .before .before .before .before .before .before .before .before .before .before .before .bind in
+    let the-compared-part = c .before .before .before .before .before .before .before .before .before .before .before .compared-part in
+    let the-part = c .before .before .before .before .before .before .before .before .before .part in
+    let the-place = c .before .before .before .before .before .place in
+    let the-inner = c .before .before .before .inner in
+    list-room (o .pre .1 .0) (o .pre .1 .1) (the-byte .result) (the-byte .ensures .0) (the-find-numbered .result) (the-find-numbered .ensures .0) (the-if1 .left) (the-find-numbered .ensures .1) (the-bind .result) (the-bind .ensures) (the-compared-part .result) (the-compared-part .ensures) _ (the-part .given .1) (the-place .last .1 .1 .1 .0) (the-place .result) (the-place .ensures .0 (list-run (o .pre .1 .0) (o .pre .1 .1) (the-byte .result) (the-byte .ensures .0) (the-find-numbered .result) (the-find-numbered .ensures .0) (the-if1 .left) (the-find-numbered .ensures .1) (the-bind .result) (the-bind .ensures))) _ (the-inner .given .1) .0
 
 place-list-returns-4 : (t : ℕ) → place-list-lts.Need-returns-4 (
   byte-reads.Asked,
@@ -1332,25 +1232,25 @@ place-list-returns-4 : (t : ℕ) → place-list-lts.Need-returns-4 (
   find-numbered-reads.Learnt,
   bind-reads.Asked,
   bind-reads.Learnt,
-  resolve-both-reads.Asked,
-  resolve-both-reads.Learnt,
+  compared-part-reads.Asked,
+  compared-part-reads.Learnt,
   place-below t,
   place.Post,
   put-part-reads.Asked,
   put-part-reads.Learnt,
 ) (place-list-at t) place-list.Post
 place-list-returns-4 t c =
-    let o = c .before .before .before .before .before .before .before .before .before .before .before .before .before .before .before .before .before .before .before .before .before .before in
-    let the-byte = c .before .before .before .before .before .before .before .before .before .before .before .before .before .before .before .before .before .before .before .byte in
-    let the-find-numbered = c .before .before .before .before .before .before .before .before .before .before .before .before .before .before .before .before .before .before .find-numbered in
-    let the-if1 = c .before .before .before .before .before .before .before .before .before .before .before .before .before .before .before .before .before .if1 in
-    let the-bind = c .before .before .before .before .before .before .before .before .before .before .before .before .before .before .before .bind in
-    let the-resolve-both = c .before .before .before .before .before .before .before .before .before .before .before .before .before .resolve-both in
-    let the-left-tag = c .before .before .before .before .before .before .before .before .before .before .before .left-tag in
-    let the-place = c .before .before .before .before .before .before .before .place in
-    let the-inner = c .before .before .before .before .before .inner in
+    let o = c .before .before .before .before .before .before .before .before .before .before .before .before .before .before .before .before .before .before .before .before .before in
+    let the-byte = c .before .before .before .before .before .before .before .before .before .before .before .before .before .before .before .before .before .byte in
+    let the-find-numbered = c .before .before .before .before .before .before .before .before .before .before .before .before .before .before .before .before .find-numbered in
+    let the-if1 = c .before .before .before .before .before .before .before .before .before .before .before .before .before .before .before .if1 in
+    let the-bind = c .before .before .before .before .before .before .before .before .before .before .before .before .before .bind in
+    let the-compared-part = c .before .before .before .before .before .before .before .before .before .before .before .compared-part in
+    let the-part = c .before .before .before .before .before .before .before .before .before .part in
+    let the-place = c .before .before .before .before .before .place in
+    let the-inner = c .before .before .before .inner in
     let the-put-part = c .put-part in
-    ((λ q. list-placed q (o .pre .1 .1) (the-byte .result) (the-byte .ensures .0) (the-find-numbered .result) (the-find-numbered .ensures .0) (the-if1 .left) (the-find-numbered .ensures .1) (the-bind .result) (the-bind .ensures) (the-resolve-both .result) (the-resolve-both .ensures) _ _ _ _ (the-left-tag .given .1) (the-place .last .1 .1 .1 .0) (the-place .result) (the-place .ensures .0 (list-run q (o .pre .1 .1) (the-byte .result) (the-byte .ensures .0) (the-find-numbered .result) (the-find-numbered .ensures .0) (the-if1 .left) (the-find-numbered .ensures .1) (the-bind .result) (the-bind .ensures))) _ (the-inner .given .1) (the-put-part .last .0) (the-put-part .ensures .0)), the-put-part .ensures .1)
+    ((λ q. list-placed q (o .pre .1 .1) (the-byte .result) (the-byte .ensures .0) (the-find-numbered .result) (the-find-numbered .ensures .0) (the-if1 .left) (the-find-numbered .ensures .1) (the-bind .result) (the-bind .ensures) (the-compared-part .result) (the-compared-part .ensures) _ (the-part .given .1) (the-place .last .1 .1 .1 .0) (the-place .result) (the-place .ensures .0 (list-run q (o .pre .1 .1) (the-byte .result) (the-byte .ensures .0) (the-find-numbered .result) (the-find-numbered .ensures .0) (the-if1 .left) (the-find-numbered .ensures .1) (the-bind .result) (the-bind .ensures))) _ (the-inner .given .1) (the-put-part .last .0) (the-put-part .ensures .0)), the-put-part .ensures .1)
 
 place-not-sub-place : (t : ℕ) → place-not-lts.Need-sub-place (
   place-below t,
@@ -1360,7 +1260,7 @@ place-not-sub-place : (t : ℕ) → place-not-lts.Need-sub-place (
   put-part-reads.Asked,
   put-part-reads.Learnt,
 ) (place-not-at t) place-not.Post
-place-not-sub-place t c = has-notes (c .before .pre .1 .0) .0
+place-not-sub-place t c = has-notes (c .before .before .pre .1 .0) .0
 
 place-not-place-requires : (t : ℕ) → place-not-lts.Need-place-requires (
   place-below t,
@@ -1371,7 +1271,7 @@ place-not-place-requires : (t : ℕ) → place-not-lts.Need-place-requires (
   put-part-reads.Learnt,
 ) (place-not-at t) place-not.Post
 place-not-place-requires t c κs =
-    let o = c .before .before in
+    let o = c .before .before .before in
     let m = o .pre .0 in
     let z = has-notes (o .pre .1 .0) in
     (omega arith, not-run (o .pre .1 .0) (o .pre .1 .1))
@@ -1405,7 +1305,7 @@ place-not-returns : (t : ℕ) → place-not-lts.Need-returns (
   put-part-reads.Learnt,
 ) (place-not-at t) place-not.Post
 place-not-returns t c =
-    let o = c .before .before .before .before .before in
+    let o = c .before .before .before .before .before .before in
     let the-place = c .before .before .place in
     let the-enum-told = c .enum-told in
     ((λ q. not-missing q (o .pre .1 .1) (the-place .last .1 .1 .1 .0) (the-place .result) (the-place .ensures .0 (not-run q (o .pre .1 .1))) (the-enum-told .given .1)), the-place .ensures .1)
@@ -1419,7 +1319,7 @@ place-not-sub-put-part : (t : ℕ) → place-not-lts.Need-sub-put-part (
   put-part-reads.Learnt,
 ) (place-not-at t) place-not.Post
 place-not-sub-put-part t c =
-    let o = c .before .before .before .before .before .before .before in
+    let o = c .before .before .before .before .before .before .before .before in
     let the-place = c .before .before .before .before .place in
     let the-inner = c .before .before .inner in
     not-room (o .pre .1 .0) (o .pre .1 .1) (the-place .last .1 .1 .1 .0) (the-place .result) (the-place .ensures .0 (not-run (o .pre .1 .0) (o .pre .1 .1))) _ (the-inner .given .1) .0
@@ -1444,7 +1344,7 @@ place-not-put-part-requires : (t : ℕ) → place-not-lts.Need-put-part-requires
   put-part-reads.Learnt,
 ) (place-not-at t) place-not.Post
 place-not-put-part-requires t c κs =
-    let o = c .before .before .before .before .before .before .before .before in
+    let o = c .before .before .before .before .before .before .before .before .before in
     let the-place = c .before .before .before .before .before .place in
     let the-inner = c .before .before .before .inner in
     let z = not-room (o .pre .1 .0) (o .pre .1 .1) (the-place .last .1 .1 .1 .0) (the-place .result) (the-place .ensures .0 (not-run (o .pre .1 .0) (o .pre .1 .1))) _ (the-inner .given .1) in
@@ -1459,7 +1359,7 @@ place-not-sub-t10 : (t : ℕ) → place-not-lts.Need-sub-t10 (
   put-part-reads.Learnt,
 ) (place-not-at t) place-not.Post
 place-not-sub-t10 t c =
-    let o = c .before .before .before .before .before .before .before .before .before in
+    let o = c .before .before .before .before .before .before .before .before .before .before in
     let the-place = c .before .before .before .before .before .before .place in
     let the-inner = c .before .before .before .before .inner in
     not-room (o .pre .1 .0) (o .pre .1 .1) (the-place .last .1 .1 .1 .0) (the-place .result) (the-place .ensures .0 (not-run (o .pre .1 .0) (o .pre .1 .1))) _ (the-inner .given .1) .0
@@ -1473,7 +1373,7 @@ place-not-returns-2 : (t : ℕ) → place-not-lts.Need-returns-2 (
   put-part-reads.Learnt,
 ) (place-not-at t) place-not.Post
 place-not-returns-2 t c =
-    let o = c .before .before .before .before .before .before .before .before .before in
+    let o = c .before .before .before .before .before .before .before .before .before .before in
     let the-place = c .before .before .before .before .before .before .place in
     let the-inner = c .before .before .before .before .inner in
     let the-plain-part = c .before .plain-part in
@@ -1488,7 +1388,7 @@ place-pair-sub-kind : (t : ℕ) → place-pair-lts.Need-sub-kind (
   put-part-reads.Asked,
   put-part-reads.Learnt,
 ) (place-pair-at t) place-pair.Post
-place-pair-sub-kind t c = has-notes (c .before .pre .1 .0) .0
+place-pair-sub-kind t c = has-notes (c .before .before .pre .1 .0) .0
 
 place-pair-mul-kind : (t : ℕ) → place-pair-lts.Need-mul-kind (
   place-below t,
@@ -1510,7 +1410,7 @@ place-pair-mul-kind-2 : (t : ℕ) → place-pair-lts.Need-mul-kind-2 (
 ) (place-pair-at t) place-pair.Post
 place-pair-mul-kind-2 t c = search needs
 
-place-pair-element-copy-out-kind : (t : ℕ) → place-pair-lts.Need-element-copy-out-kind (
+place-pair-shared-slice-read-kind : (t : ℕ) → place-pair-lts.Need-shared-slice-read-kind (
   place-below t,
   place.Post,
   plain-part-reads.Asked,
@@ -1518,7 +1418,7 @@ place-pair-element-copy-out-kind : (t : ℕ) → place-pair-lts.Need-element-cop
   put-part-reads.Asked,
   put-part-reads.Learnt,
 ) (place-pair-at t) place-pair.Post
-place-pair-element-copy-out-kind t c = search needs
+place-pair-shared-slice-read-kind t c = let z = note-room (c .before .before .before .pre .1 .0) in search needs
 
 place-pair-sub-place : (t : ℕ) → place-pair-lts.Need-sub-place (
   place-below t,
@@ -1528,7 +1428,7 @@ place-pair-sub-place : (t : ℕ) → place-pair-lts.Need-sub-place (
   put-part-reads.Asked,
   put-part-reads.Learnt,
 ) (place-pair-at t) place-pair.Post
-place-pair-sub-place t c = has-notes (c .before .before .pre .1 .0) .0
+place-pair-sub-place t c = has-notes (c .before .before .before .pre .1 .0) .0
 
 place-pair-place-requires : (t : ℕ) → place-pair-lts.Need-place-requires (
   place-below t,
@@ -1539,7 +1439,7 @@ place-pair-place-requires : (t : ℕ) → place-pair-lts.Need-place-requires (
   put-part-reads.Learnt,
 ) (place-pair-at t) place-pair.Post
 place-pair-place-requires t c κs =
-    let o = c .before .before .before in
+    let o = c .before .before .before .before in
     let m = o .pre .0 in
     let z = has-notes (o .pre .1 .0) in
     (omega arith, right-run (o .pre .1 .0) (o .pre .1 .1))
@@ -1573,7 +1473,7 @@ place-pair-returns : (t : ℕ) → place-pair-lts.Need-returns (
   put-part-reads.Learnt,
 ) (place-pair-at t) place-pair.Post
 place-pair-returns t c =
-    let o = c .before .before .before .before .before .before in
+    let o = c .before .before .before .before .before .before .before in
     let the-place = c .before .before .place in
     let the-enum-told = c .enum-told in
     ((λ q. right-missing q (o .pre .1 .1) (the-place .last .1 .1 .1 .0) (the-place .ensures .1) (the-place .result) (the-place .ensures .0 (right-run q (o .pre .1 .1))) (the-enum-told .given .1)), the-place .ensures .1)
@@ -1586,7 +1486,7 @@ place-pair-sub-left-notes : (t : ℕ) → place-pair-lts.Need-sub-left-notes (
   put-part-reads.Asked,
   put-part-reads.Learnt,
 ) (place-pair-at t) place-pair.Post
-place-pair-sub-left-notes t c = has-notes (c .before .before .before .before .before .before .before .pre .1 .0) .0
+place-pair-sub-left-notes t c = has-notes (c .before .before .before .before .before .before .before .before .pre .1 .0) .0
 
 place-pair-sub-left-notes-2 : (t : ℕ) → place-pair-lts.Need-sub-left-notes-2 (
   place-below t,
@@ -1597,7 +1497,7 @@ place-pair-sub-left-notes-2 : (t : ℕ) → place-pair-lts.Need-sub-left-notes-2
   put-part-reads.Learnt,
 ) (place-pair-at t) place-pair.Post
 place-pair-sub-left-notes-2 t c =
-    let o = c .before .before .before .before .before .before .before in
+    let o = c .before .before .before .before .before .before .before .before in
     let the-place = c .before .before .before .place in
     let the-right = c .before .right in
     right-room (o .pre .1 .0) (o .pre .1 .1) (the-place .last .1 .1 .1 .0) (the-place .ensures .1) (the-place .result) (the-place .ensures .0 (right-run (o .pre .1 .0) (o .pre .1 .1))) _ (the-right .given .1) .0
@@ -1611,7 +1511,7 @@ place-pair-sub-left-notes-3 : (t : ℕ) → place-pair-lts.Need-sub-left-notes-3
   put-part-reads.Learnt,
 ) (place-pair-at t) place-pair.Post
 place-pair-sub-left-notes-3 t c =
-    let o = c .before .before .before .before .before .before .before in
+    let o = c .before .before .before .before .before .before .before .before in
     let the-place = c .before .before .before .place in
     let the-right = c .before .right in
     right-room (o .pre .1 .0) (o .pre .1 .1) (the-place .last .1 .1 .1 .0) (the-place .ensures .1) (the-place .result) (the-place .ensures .0 (right-run (o .pre .1 .0) (o .pre .1 .1))) _ (the-right .given .1) .1
@@ -1625,7 +1525,7 @@ place-pair-place-requires-2 : (t : ℕ) → place-pair-lts.Need-place-requires-2
   put-part-reads.Learnt,
 ) (place-pair-at t) place-pair.Post
 place-pair-place-requires-2 t c κs =
-    let o = c .before .before .before .before .before .before .before .before in
+    let o = c .before .before .before .before .before .before .before .before .before in
     let the-place = c .before .before .before .before .place in
     let the-right = c .before .before .right in
     let m = o .pre .0 in
@@ -1661,7 +1561,7 @@ place-pair-returns-2 : (t : ℕ) → place-pair-lts.Need-returns-2 (
   put-part-reads.Learnt,
 ) (place-pair-at t) place-pair.Post
 place-pair-returns-2 t c =
-    let o = c .before .before .before .before .before .before .before .before .before .before .before in
+    let o = c .before .before .before .before .before .before .before .before .before .before .before .before in
     let the-place = c .before .before .before .before .before .before .before .place in
     let the-right = c .before .before .before .before .before .right in
     let the-place2 = c .before .before .place2 in
@@ -1677,7 +1577,7 @@ place-pair-sub-put-part : (t : ℕ) → place-pair-lts.Need-sub-put-part (
   put-part-reads.Learnt,
 ) (place-pair-at t) place-pair.Post
 place-pair-sub-put-part t c =
-    let o = c .before .before .before .before .before .before .before .before .before .before .before .before .before in
+    let o = c .before .before .before .before .before .before .before .before .before .before .before .before .before .before in
     let the-place = c .before .before .before .before .before .before .before .before .before .place in
     let the-right = c .before .before .before .before .before .before .before .right in
     let the-place2 = c .before .before .before .before .place2 in
@@ -1704,7 +1604,7 @@ place-pair-put-part-requires : (t : ℕ) → place-pair-lts.Need-put-part-requir
   put-part-reads.Learnt,
 ) (place-pair-at t) place-pair.Post
 place-pair-put-part-requires t c κs =
-    let o = c .before .before .before .before .before .before .before .before .before .before .before .before .before .before in
+    let o = c .before .before .before .before .before .before .before .before .before .before .before .before .before .before .before in
     let the-place = c .before .before .before .before .before .before .before .before .before .before .place in
     let the-right = c .before .before .before .before .before .before .before .before .right in
     let the-place2 = c .before .before .before .before .before .place2 in
@@ -1721,7 +1621,7 @@ place-pair-sub-t12 : (t : ℕ) → place-pair-lts.Need-sub-t12 (
   put-part-reads.Learnt,
 ) (place-pair-at t) place-pair.Post
 place-pair-sub-t12 t c =
-    let o = c .before .before .before .before .before .before .before .before .before .before .before .before .before .before .before in
+    let o = c .before .before .before .before .before .before .before .before .before .before .before .before .before .before .before .before in
     let the-place = c .before .before .before .before .before .before .before .before .before .before .before .place in
     let the-right = c .before .before .before .before .before .before .before .before .before .right in
     let the-place2 = c .before .before .before .before .before .before .place2 in
@@ -1737,7 +1637,7 @@ place-pair-returns-3 : (t : ℕ) → place-pair-lts.Need-returns-3 (
   put-part-reads.Learnt,
 ) (place-pair-at t) place-pair.Post
 place-pair-returns-3 t c =
-    let o = c .before .before .before .before .before .before .before .before .before .before .before .before .before .before .before in
+    let o = c .before .before .before .before .before .before .before .before .before .before .before .before .before .before .before .before in
     let the-place = c .before .before .before .before .before .before .before .before .before .before .before .place in
     let the-right = c .before .before .before .before .before .before .before .before .before .right in
     let the-place2 = c .before .before .before .before .before .before .place2 in
@@ -1767,7 +1667,7 @@ pub +place+place-exists+place-list+place-not+place-pair-spec : {M : Type 1} → 
     (place-sub-kind t)
     (place-mul-kind t)
     (place-mul-kind-2 t)
-    (place-element-copy-out-kind t)
+    (place-shared-slice-read-kind t)
     (place-place-not-requires t)
     (place-place-comparison-requires t)
     (place-place-exists-requires t)
@@ -1798,13 +1698,13 @@ pub +place+place-exists+place-list+place-not+place-pair-spec : {M : Type 1} → 
     (place-exists-mul-b t)
     (place-exists-add-find-numbered t)
     (place-exists-mul-find-numbered t)
-    (place-exists-element-copy-out-find-numbered t)
+    (place-exists-shared-slice-read-find-numbered t)
     (place-exists-byte-requires t)
     (place-exists-find-numbered-requires t)
     (place-exists-returns t)
     (place-exists-add-bind t)
     (place-exists-mul-bind t)
-    (place-exists-element-copy-out-bind t)
+    (place-exists-shared-slice-read-bind t)
     (place-exists-bind-requires t)
     (place-exists-add-deeper t)
     (place-exists-sub-place t)
@@ -1814,7 +1714,7 @@ pub +place+place-exists+place-list+place-not+place-pair-spec : {M : Type 1} → 
     (place-exists-returns-2 t)
     (place-exists-sub-put-part t)
     (place-exists-put-part-requires t)
-    (place-exists-sub-t18 t)
+    (place-exists-sub-t17 t)
     (place-exists-returns-3 t))
     (λ t. place-list-lts.spec (
       byte-reads.Asked,
@@ -1823,8 +1723,8 @@ pub +place+place-exists+place-list+place-not+place-pair-spec : {M : Type 1} → 
       find-numbered-reads.Learnt,
       bind-reads.Asked,
       bind-reads.Learnt,
-      resolve-both-reads.Asked,
-      resolve-both-reads.Learnt,
+      compared-part-reads.Asked,
+      compared-part-reads.Learnt,
       place-below t,
       place.Post,
       put-part-reads.Asked,
@@ -1836,17 +1736,17 @@ pub +place+place-exists+place-list+place-not+place-pair-spec : {M : Type 1} → 
     (place-list-mul-b t)
     (place-list-add-find-numbered t)
     (place-list-mul-find-numbered t)
-    (place-list-element-copy-out-find-numbered t)
+    (place-list-shared-slice-read-find-numbered t)
     (place-list-byte-requires t)
     (place-list-find-numbered-requires t)
     (place-list-returns t)
     (place-list-add-bind t)
     (place-list-mul-bind t)
-    (place-list-element-copy-out-bind t)
+    (place-list-shared-slice-read-bind t)
     (place-list-bind-requires t)
     (place-list-add-deeper t)
-    (place-list-resolve-both-requires t)
-    (place-list-enum-known-left-tag t)
+    (place-list-compared-part-requires t)
+    (place-list-enum-known-part t)
     (place-list-enum-told t)
     (place-list-returns-2 t)
     (place-list-sub-place t)
@@ -1854,14 +1754,9 @@ pub +place+place-exists+place-list+place-not+place-pair-spec : {M : Type 1} → 
     (place-list-enum-known-inner t)
     (place-list-enum-told-2 t)
     (place-list-returns-3 t)
-    (place-list-mul-t23 t)
-    (place-list-element-copy-out-t22 t)
-    (place-list-add-t19 t)
-    (place-list-mul-t18 t)
-    (place-list-element-copy-out-t37 t)
     (place-list-sub-put-part t)
     (place-list-put-part-requires t)
-    (place-list-sub-t37 t)
+    (place-list-sub-t17 t)
     (place-list-returns-4 t))
     (λ t. place-not-lts.spec (
       place-below t,
@@ -1896,7 +1791,7 @@ pub +place+place-exists+place-list+place-not+place-pair-spec : {M : Type 1} → 
     (place-pair-sub-kind t)
     (place-pair-mul-kind t)
     (place-pair-mul-kind-2 t)
-    (place-pair-element-copy-out-kind t)
+    (place-pair-shared-slice-read-kind t)
     (place-pair-sub-place t)
     (place-pair-place-requires t)
     (place-pair-enum-known-right t)

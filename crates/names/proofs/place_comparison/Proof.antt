@@ -7,38 +7,29 @@ use Rattle.names.proofs.place_comparison.Tie as tie
 
 sub-b : tie.Need-sub-b
 sub-b c =
-    let o = c .before in
+    let o = c .before .before in
     has-notes (o .pre .0) .0
 
 mul-b : tie.Need-mul-b
 mul-b c = search needs
 
-resolve-both-requires : tie.Need-resolve-both-requires
-resolve-both-requires c κs =
-    let o = c .before in
-    (o .pre .0 .sized, (o .pre .0 .notes-size, (note-room (o .pre .0), (o .pre .0 .scope-fits, omega arith))))
+compared-part-requires : tie.Need-compared-part-requires
+compared-part-requires c κs =
+    let o = c .before .before in
+    (o .pre .0 .sized, (note-room (o .pre .0), (o .pre .0 .scope-fits, omega arith)))
 
-enum-known-left-tag : tie.Need-enum-known-left-tag
-enum-known-left-tag c = search needs
+enum-known-part : tie.Need-enum-known-part
+enum-known-part c = search needs
 
 enum-told : tie.Need-enum-told
 enum-told c = search needs
 
 returns : tie.Need-returns
 returns c =
-    let o = c .before .before .before .before in
-    let the-resolve-both = c .before .before .resolve-both in
+    let o = c .before .before .before .before .before in
+    let the-compared-part = c .before .before .compared-part in
     let the-enum-told = c .enum-told in
-    ((λ q. compare-missing q (o .pre .1) (the-resolve-both .result) (the-resolve-both .ensures) (the-enum-told .given .1)), o .pre .0 .parts-size)
-
-add-t14 : tie.Need-add-t14
-add-t14 c = search needs
-
-mul-t16 : tie.Need-mul-t16
-mul-t16 c = search needs
-
-element-copy-out-t19 : tie.Need-element-copy-out-t19
-element-copy-out-t19 c = search needs
+    ((λ q. compare-missing q (o .pre .1) (the-compared-part .result) (the-compared-part .ensures) (the-enum-told .given .1)), o .pre .0 .parts-size)
 
 sub-put-part : tie.Need-sub-put-part
 sub-put-part c =
@@ -48,18 +39,18 @@ sub-put-part c =
 put-part-requires : tie.Need-put-part-requires
 put-part-requires c κs = search needs
 
-sub-t19 : tie.Need-sub-t19
-sub-t19 c =
+sub-t10 : tie.Need-sub-t10
+sub-t10 c =
     let o = c .before .before .before .before .before .before .before .before in
     has-parts (o .pre .0) .0
 
 returns-2 : tie.Need-returns-2
 returns-2 c =
     let o = c .before .before .before .before .before .before .before .before in
-    let the-resolve-both = c .before .before .before .before .before .before .resolve-both in
-    let the-left-tag = c .before .before .before .before .left-tag in
+    let the-compared-part = c .before .before .before .before .before .compared-part in
+    let the-part = c .before .before .before .part in
     let the-put-part = c .put-part in
-    ((λ q. compare-placed q (o .pre .1) (the-resolve-both .result) (the-resolve-both .ensures) _ _ _ _ (the-left-tag .given .1) (the-put-part .last .0) (the-put-part .ensures .0)), the-put-part .ensures .1)
+    ((λ q. compare-placed q (o .pre .1) (the-compared-part .result) (the-compared-part .ensures) _ (the-part .given .1) (the-put-part .last .0) (the-put-part .ensures .0)), the-put-part .ensures .1)
 
 pub place-comparison-spec : {M : Type 1} → statement M
 place-comparison-spec =
@@ -67,14 +58,11 @@ place-comparison-spec =
     (tie.spec
     sub-b
     mul-b
-    resolve-both-requires
-    enum-known-left-tag
+    compared-part-requires
+    enum-known-part
     enum-told
     returns
-    add-t14
-    mul-t16
-    element-copy-out-t19
     sub-put-part
     put-part-requires
-    sub-t19
+    sub-t10
     returns-2)

@@ -29,7 +29,7 @@ returns-2 c =
     let s = start .args .s .now in
     let fits = sym (c .before .before .before .before .before .brackets-fit .ensures) ∙ not-false _ (c .before .before .before .before .if1 .left) in
     let none = unread s _ _ (c .before .before .read-tokens .ensures .0) (c .enum-told .given .1) in
-    (ungrammatical s (start .args .file .now) fits none, start .pre .1 .1)
+    (ungrammatical s (start .args .file .now) fits none, c .before .before .read-tokens .ensures .1)
 
 returns-3 : tie.Need-returns-3
 returns-3 c =
@@ -39,7 +39,7 @@ returns-3 c =
     let file = start .args .file .now in
     let fits = sym (found .before .before .before .before .before .brackets-fit .ensures) ∙ not-false _ (found .before .before .before .before .if1 .left) in
     let whole = read-whole s _ _ (found .before .before .read-tokens .ensures .0) _ _ _ (found .count .given .1) in
-    (too-many s file fits _ _ _ whole (c .if2 .taken), start .pre .1 .1)
+    (too-many s file fits _ _ _ whole (c .if2 .taken), found .before .before .read-tokens .ensures .1)
 
 returns-4 : tie.Need-returns-4
 returns-4 c =
@@ -49,46 +49,46 @@ returns-4 c =
     let file = start .args .file .now in
     let fits = sym (found .before .before .before .before .before .brackets-fit .ensures) ∙ not-false _ (found .before .before .before .before .if1 .left) in
     let whole = read-whole s _ _ (found .before .before .read-tokens .ensures .0) _ _ _ (found .count .given .1) in
-    (too-deep s file fits _ _ _ whole (c .before .if2 .left) (c .if3 .taken), start .pre .1 .1)
+    (too-deep s file fits _ _ _ whole (c .before .if2 .left) (c .if3 .taken), found .before .before .read-tokens .ensures .1)
 
-name-parts-requires : tie.Need-name-parts-requires
-name-parts-requires c κs =
-    let found = c .before .before .before .before .before in
+name-noted-requires : tie.Need-name-noted-requires
+name-noted-requires c κs =
+    let found = c .before .before .before .before in
     let start = found .before .before .before .before .before .before .before .before in
     let s = start .args .s .now in
     let file = start .args .file .now in
     let fits = sym (found .before .before .before .before .before .brackets-fit .ensures) ∙ not-false _ (found .before .before .before .before .if1 .left) in
     let whole = read-whole s _ _ (found .before .before .read-tokens .ensures .0) _ _ _ (found .count .given .1) in
     let size = found .before .before .read-tokens .ensures .1 in
-    (nameable s file fits _ _ _ whole (start .pre .1 .0) size (c .before .before .before .if2 .left) (c .before .before .if3 .left), start .pre .1 .1)
+    (nameable s file fits _ _ _ whole (start .pre .1 .0) size (c .before .before .if2 .left) (c .before .if3 .left), size)
 
 returns-5 : tie.Need-returns-5
 returns-5 c =
-    let found = c .before .before .before .before .before .before .before in
+    let found = c .before .before .before .before .before .before in
     let start = found .before .before .before .before .before .before .before .before in
     let s = start .args .s .now in
     let file = start .args .file .now in
     let fits = sym (found .before .before .before .before .before .brackets-fit .ensures) ∙ not-false _ (found .before .before .before .before .if1 .left) in
     let whole = read-whole s _ _ (found .before .before .read-tokens .ensures .0) _ _ _ (found .count .given .1) in
     let size = found .before .before .read-tokens .ensures .1 in
-    let named = c .before .name-parts in
+    let named = c .before .name-noted in
     let unnamed-is = not-true (named .result) (c .if4 .taken) in (
-      unnamed s file fits _ _ _ whole (start .pre .1 .0) size (c .before .before .before .before .before .if2 .left) (c .before .before .before .before .if3 .left) (named .last .1 .1 .1 .0) (named .result) unnamed-is (named .ensures .0),
+      unnamed s file fits _ _ _ whole (start .pre .1 .0) size (c .before .before .before .before .if2 .left) (c .before .before .before .if3 .left) (named .last .1 .1 .0) (named .result) unnamed-is (named .ensures .0),
       named .ensures .1,
     )
 
 returns-6 : tie.Need-returns-6
 returns-6 c =
-    let found = c .before .before .before .before .before .before .before in
+    let found = c .before .before .before .before .before .before in
     let start = found .before .before .before .before .before .before .before .before in
     let s = start .args .s .now in
     let file = start .args .file .now in
     let fits = sym (found .before .before .before .before .before .brackets-fit .ensures) ∙ not-false _ (found .before .before .before .before .if1 .left) in
     let whole = read-whole s _ _ (found .before .before .read-tokens .ensures .0) _ _ _ (found .count .given .1) in
     let size = found .before .before .read-tokens .ensures .1 in
-    let named = c .before .name-parts in
+    let named = c .before .name-noted in
     let named-is = not-false (named .result) (c .if4 .left) in (
-      parsed-tokens s file fits _ _ _ whole (start .pre .1 .0) size (c .before .before .before .before .before .if2 .left) (c .before .before .before .before .if3 .left) (named .last .1 .1 .1 .0) (named .result) named-is (named .ensures .1) (named .ensures .0),
+      parsed-tokens s file fits _ _ _ whole (start .pre .1 .0) size (c .before .before .before .before .if2 .left) (c .before .before .before .if3 .left) (named .last .1 .1 .0) (named .result) named-is (named .ensures .1) (named .ensures .0),
       named .ensures .1,
     )
 
@@ -104,6 +104,6 @@ parse-tokens-spec =
     returns-2
     returns-3
     returns-4
-    name-parts-requires
+    name-noted-requires
     returns-5
     returns-6)

@@ -59,7 +59,7 @@ run-entry-mul-if1 : (t : ℕ) → run-entry-lts.Need-mul-if1 (
   run-inner-below t,
   run-inner.Post,
 ) (run-entry-at t) run-entry.Post
-run-entry-mul-if1 t c = let z = start (c .before .pre .1) in omega arith
+run-entry-mul-if1 t c = let z = start (c .before .before .pre .1) in omega arith
 
 run-entry-mul-if1-2 : (t : ℕ) → run-entry-lts.Need-mul-if1-2 (
   run-leaf-reads.Asked,
@@ -67,15 +67,15 @@ run-entry-mul-if1-2 : (t : ℕ) → run-entry-lts.Need-mul-if1-2 (
   run-inner-below t,
   run-inner.Post,
 ) (run-entry-at t) run-entry.Post
-run-entry-mul-if1-2 t c = let z = start (c .before .pre .1) in omega arith
+run-entry-mul-if1-2 t c = let z = start (c .before .before .pre .1) in omega arith
 
-run-entry-element-copy-out-if1 : (t : ℕ) → run-entry-lts.Need-element-copy-out-if1 (
+run-entry-shared-slice-read-if1 : (t : ℕ) → run-entry-lts.Need-shared-slice-read-if1 (
   run-leaf-reads.Asked,
   run-leaf-reads.Learnt,
   run-inner-below t,
   run-inner.Post,
 ) (run-entry-at t) run-entry.Post
-run-entry-element-copy-out-if1 t c = let z = start (c .before .pre .1) in omega arith
+run-entry-shared-slice-read-if1 t c = let z = start (c .before .before .before .pre .1) in omega arith
 
 run-entry-run-leaf-requires : (t : ℕ) → run-entry-lts.Need-run-leaf-requires (
   run-leaf-reads.Asked,
@@ -83,7 +83,7 @@ run-entry-run-leaf-requires : (t : ℕ) → run-entry-lts.Need-run-leaf-requires
   run-inner-below t,
   run-inner.Post,
 ) (run-entry-at t) run-entry.Post
-run-entry-run-leaf-requires t c κs = leaf-ready (c .before .before .before .pre .1) (c .if1 .taken)
+run-entry-run-leaf-requires t c κs = leaf-ready (c .before .before .before .before .pre .1) (c .if1 .taken)
 
 run-entry-returns : (t : ℕ) → run-entry-lts.Need-returns (
   run-leaf-reads.Asked,
@@ -99,7 +99,7 @@ run-entry-run-inner-requires : (t : ℕ) → run-entry-lts.Need-run-inner-requir
   run-inner-below t,
   run-inner.Post,
 ) (run-entry-at t) run-entry.Post
-run-entry-run-inner-requires t c κs = let m = c .before .before .before .pre .0 in (omega arith, (c .before .before .before .pre .1, c .if1 .left))
+run-entry-run-inner-requires t c κs = let m = c .before .before .before .before .pre .0 in (omega arith, (c .before .before .before .before .pre .1, c .if1 .left))
 
 run-entry-returns-2 : (t : ℕ) → run-entry-lts.Need-returns-2 (
   run-leaf-reads.Asked,
@@ -115,7 +115,7 @@ run-inner-mul-k : (t : ℕ) → run-inner-lts.Need-mul-k (
   run-rows-below t,
   run-rows.Post,
 ) (run-inner-at t) run-inner.Post
-run-inner-mul-k t c = let z = start (c .before .pre .1 .0) in omega arith
+run-inner-mul-k t c = let z = start (c .before .before .pre .1 .0) in omega arith
 
 run-inner-mul-k-2 : (t : ℕ) → run-inner-lts.Need-mul-k-2 (
   run-entry-below t,
@@ -123,15 +123,15 @@ run-inner-mul-k-2 : (t : ℕ) → run-inner-lts.Need-mul-k-2 (
   run-rows-below t,
   run-rows.Post,
 ) (run-inner-at t) run-inner.Post
-run-inner-mul-k-2 t c = let z = start (c .before .pre .1 .0) in omega arith
+run-inner-mul-k-2 t c = let z = start (c .before .before .pre .1 .0) in omega arith
 
-run-inner-element-copy-out-k : (t : ℕ) → run-inner-lts.Need-element-copy-out-k (
+run-inner-shared-slice-read-k : (t : ℕ) → run-inner-lts.Need-shared-slice-read-k (
   run-entry-below t,
   run-entry.Post,
   run-rows-below t,
   run-rows.Post,
 ) (run-inner-at t) run-inner.Post
-run-inner-element-copy-out-k t c = let z = start (c .before .pre .1 .0) in omega arith
+run-inner-shared-slice-read-k t c = let z = start (c .before .before .before .pre .1 .0) in omega arith
 
 run-inner-mul-m : (t : ℕ) → run-inner-lts.Need-mul-m (
   run-entry-below t,
@@ -139,7 +139,7 @@ run-inner-mul-m : (t : ℕ) → run-inner-lts.Need-mul-m (
   run-rows-below t,
   run-rows.Post,
 ) (run-inner-at t) run-inner.Post
-run-inner-mul-m t c = let h = c .before .before .before .pre .1 .0 in let z = start h in let y = middle h And (c .match .keys1) in omega arith
+run-inner-mul-m t c = let h = c .before .before .before .before .pre .1 .0 in let z = start h in let y = middle h And (c .match .keys1) in omega arith
 
 run-inner-add-m : (t : ℕ) → run-inner-lts.Need-add-m (
   run-entry-below t,
@@ -147,7 +147,7 @@ run-inner-add-m : (t : ℕ) → run-inner-lts.Need-add-m (
   run-rows-below t,
   run-rows.Post,
 ) (run-inner-at t) run-inner.Post
-run-inner-add-m t c = let h = c .before .before .before .pre .1 .0 in let z = start h in let y = middle h And (c .match .keys1) in omega arith
+run-inner-add-m t c = let h = c .before .before .before .before .pre .1 .0 in let z = start h in let y = middle h And (c .match .keys1) in omega arith
 
 run-inner-mul-m-2 : (t : ℕ) → run-inner-lts.Need-mul-m-2 (
   run-entry-below t,
@@ -155,15 +155,15 @@ run-inner-mul-m-2 : (t : ℕ) → run-inner-lts.Need-mul-m-2 (
   run-rows-below t,
   run-rows.Post,
 ) (run-inner-at t) run-inner.Post
-run-inner-mul-m-2 t c = let h = c .before .before .before .pre .1 .0 in let z = start h in let y = middle h And (c .match .keys1) in omega arith
+run-inner-mul-m-2 t c = let h = c .before .before .before .before .pre .1 .0 in let z = start h in let y = middle h And (c .match .keys1) in omega arith
 
-run-inner-element-copy-out-m : (t : ℕ) → run-inner-lts.Need-element-copy-out-m (
+run-inner-shared-slice-read-m : (t : ℕ) → run-inner-lts.Need-shared-slice-read-m (
   run-entry-below t,
   run-entry.Post,
   run-rows-below t,
   run-rows.Post,
 ) (run-inner-at t) run-inner.Post
-run-inner-element-copy-out-m t c = let h = c .before .before .before .pre .1 .0 in let z = start h in let y = middle h And (c .match .keys1) in omega arith
+run-inner-shared-slice-read-m t c = let h = c .before .before .before .before .before .pre .1 .0 in let z = start h in let y = middle h And (c .before .match .keys1) in omega arith
 
 run-inner-add-run-entry : (t : ℕ) → run-inner-lts.Need-add-run-entry (
   run-entry-below t,
@@ -171,7 +171,7 @@ run-inner-add-run-entry : (t : ℕ) → run-inner-lts.Need-add-run-entry (
   run-rows-below t,
   run-rows.Post,
 ) (run-inner-at t) run-inner.Post
-run-inner-add-run-entry t c = let z = start (c .before .before .before .before .pre .1 .0) in omega arith
+run-inner-add-run-entry t c = let z = start (c .before .before .before .before .before .pre .1 .0) in omega arith
 
 run-inner-run-entry-requires : (t : ℕ) → run-inner-lts.Need-run-entry-requires (
   run-entry-below t,
@@ -180,7 +180,7 @@ run-inner-run-entry-requires : (t : ℕ) → run-inner-lts.Need-run-entry-requir
   run-rows.Post,
 ) (run-inner-at t) run-inner.Post
 run-inner-run-entry-requires t c κs =
-    let p = c .before .before .before .before .pre in
+    let p = c .before .before .before .before .before .pre in
     let m = p .0 in
     let y = middle (p .1 .0) And (c .before .match .keys1) in
     (omega arith, left-run (p .1 .0) And (c .before .match .keys1))
@@ -203,7 +203,7 @@ run-inner-run-entry-requires-2 : (t : ℕ) → run-inner-lts.Need-run-entry-requ
   run-rows.Post,
 ) (run-inner-at t) run-inner.Post
 run-inner-run-entry-requires-2 t c κs =
-    let p = c .before .before .before .before .before .before .pre in
+    let p = c .before .before .before .before .before .before .before .pre in
     let m = p .0 in
     let y = middle (p .1 .0) And (c .before .before .before .match .keys1) in
     (omega arith, right-run (p .1 .0) And (c .before .before .before .match .keys1))
@@ -214,7 +214,7 @@ run-inner-mul-m-3 : (t : ℕ) → run-inner-lts.Need-mul-m-3 (
   run-rows-below t,
   run-rows.Post,
 ) (run-inner-at t) run-inner.Post
-run-inner-mul-m-3 t c = let h = c .before .before .before .pre .1 .0 in let z = start h in let y = middle h Or (c .match .keys2) in omega arith
+run-inner-mul-m-3 t c = let h = c .before .before .before .before .pre .1 .0 in let z = start h in let y = middle h Or (c .match .keys2) in omega arith
 
 run-inner-add-m-2 : (t : ℕ) → run-inner-lts.Need-add-m-2 (
   run-entry-below t,
@@ -222,7 +222,7 @@ run-inner-add-m-2 : (t : ℕ) → run-inner-lts.Need-add-m-2 (
   run-rows-below t,
   run-rows.Post,
 ) (run-inner-at t) run-inner.Post
-run-inner-add-m-2 t c = let h = c .before .before .before .pre .1 .0 in let z = start h in let y = middle h Or (c .match .keys2) in omega arith
+run-inner-add-m-2 t c = let h = c .before .before .before .before .pre .1 .0 in let z = start h in let y = middle h Or (c .match .keys2) in omega arith
 
 run-inner-mul-m-4 : (t : ℕ) → run-inner-lts.Need-mul-m-4 (
   run-entry-below t,
@@ -230,15 +230,15 @@ run-inner-mul-m-4 : (t : ℕ) → run-inner-lts.Need-mul-m-4 (
   run-rows-below t,
   run-rows.Post,
 ) (run-inner-at t) run-inner.Post
-run-inner-mul-m-4 t c = let h = c .before .before .before .pre .1 .0 in let z = start h in let y = middle h Or (c .match .keys2) in omega arith
+run-inner-mul-m-4 t c = let h = c .before .before .before .before .pre .1 .0 in let z = start h in let y = middle h Or (c .match .keys2) in omega arith
 
-run-inner-element-copy-out-m-2 : (t : ℕ) → run-inner-lts.Need-element-copy-out-m-2 (
+run-inner-shared-slice-read-m-2 : (t : ℕ) → run-inner-lts.Need-shared-slice-read-m-2 (
   run-entry-below t,
   run-entry.Post,
   run-rows-below t,
   run-rows.Post,
 ) (run-inner-at t) run-inner.Post
-run-inner-element-copy-out-m-2 t c = let h = c .before .before .before .pre .1 .0 in let z = start h in let y = middle h Or (c .match .keys2) in omega arith
+run-inner-shared-slice-read-m-2 t c = let h = c .before .before .before .before .before .pre .1 .0 in let z = start h in let y = middle h Or (c .before .match .keys2) in omega arith
 
 run-inner-add-run-entry-2 : (t : ℕ) → run-inner-lts.Need-add-run-entry-2 (
   run-entry-below t,
@@ -246,7 +246,7 @@ run-inner-add-run-entry-2 : (t : ℕ) → run-inner-lts.Need-add-run-entry-2 (
   run-rows-below t,
   run-rows.Post,
 ) (run-inner-at t) run-inner.Post
-run-inner-add-run-entry-2 t c = let z = start (c .before .before .before .before .pre .1 .0) in omega arith
+run-inner-add-run-entry-2 t c = let z = start (c .before .before .before .before .before .pre .1 .0) in omega arith
 
 run-inner-run-entry-requires-3 : (t : ℕ) → run-inner-lts.Need-run-entry-requires-3 (
   run-entry-below t,
@@ -255,7 +255,7 @@ run-inner-run-entry-requires-3 : (t : ℕ) → run-inner-lts.Need-run-entry-requ
   run-rows.Post,
 ) (run-inner-at t) run-inner.Post
 run-inner-run-entry-requires-3 t c κs =
-    let p = c .before .before .before .before .pre in
+    let p = c .before .before .before .before .before .pre in
     let m = p .0 in
     let y = middle (p .1 .0) Or (c .before .match .keys2) in
     (omega arith, left-run (p .1 .0) Or (c .before .match .keys2))
@@ -277,7 +277,7 @@ run-inner-run-entry-requires-4 : (t : ℕ) → run-inner-lts.Need-run-entry-requ
   run-rows.Post,
 ) (run-inner-at t) run-inner.Post
 run-inner-run-entry-requires-4 t c κs =
-    let p = c .before .before .before .before .before .before .pre in
+    let p = c .before .before .before .before .before .before .before .pre in
     let m = p .0 in
     let y = middle (p .1 .0) Or (c .before .before .before .match .keys2) in
     (omega arith, right-run (p .1 .0) Or (c .before .before .before .match .keys2))
@@ -288,7 +288,7 @@ run-inner-run-rows-requires : (t : ℕ) → run-inner-lts.Need-run-rows-requires
   run-rows-below t,
   run-rows.Post,
 ) (run-inner-at t) run-inner.Post
-run-inner-run-rows-requires t c κs = let p = c .before .before .before .pre in let m = p .0 in (omega arith, (p .1 .0, c .match .keys3))
+run-inner-run-rows-requires t c κs = let p = c .before .before .before .before .pre in let m = p .0 in (omega arith, (p .1 .0, c .match .keys3))
 
 run-inner-run-rows-requires-2 : (t : ℕ) → run-inner-lts.Need-run-rows-requires-2 (
   run-entry-below t,
@@ -297,7 +297,7 @@ run-inner-run-rows-requires-2 : (t : ℕ) → run-inner-lts.Need-run-rows-requir
   run-rows.Post,
 ) (run-inner-at t) run-inner.Post
 run-inner-run-rows-requires-2 t c κs =
-    let p = c .before .before .before .pre in
+    let p = c .before .before .before .before .pre in
     let m = p .0 in
     let z = some-kind (p .1 .0) in
     let l = p .1 .1 in
@@ -356,7 +356,7 @@ run-rows-add-if1 : (t : ℕ) → run-rows-lts.Need-add-if1 (
   run-entry-below t,
   run-entry.Post,
 ) (run-rows-at t) run-rows.Post run-rows-Inv-loop run-rows-μ-loop
-run-rows-add-if1 t c = let o = c .before in let z = row-bounds (o .pre .1 .0) (o .args .q) (o .pre .1 .1) in omega arith
+run-rows-add-if1 t c = let o = c .before .before in let z = row-bounds (o .pre .1 .0) (o .args .q) (o .pre .1 .1) in omega arith
 
 run-rows-mul-if1 : (t : ℕ) → run-rows-lts.Need-mul-if1 (
   run-leaf-rows-reads.Asked,
@@ -366,7 +366,7 @@ run-rows-mul-if1 : (t : ℕ) → run-rows-lts.Need-mul-if1 (
   run-entry-below t,
   run-entry.Post,
 ) (run-rows-at t) run-rows.Post run-rows-Inv-loop run-rows-μ-loop
-run-rows-mul-if1 t c = let o = c .before in let z = row-bounds (o .pre .1 .0) (o .args .q) (o .pre .1 .1) in omega arith
+run-rows-mul-if1 t c = let o = c .before .before in let z = row-bounds (o .pre .1 .0) (o .args .q) (o .pre .1 .1) in omega arith
 
 run-rows-mul-if1-2 : (t : ℕ) → run-rows-lts.Need-mul-if1-2 (
   run-leaf-rows-reads.Asked,
@@ -376,9 +376,9 @@ run-rows-mul-if1-2 : (t : ℕ) → run-rows-lts.Need-mul-if1-2 (
   run-entry-below t,
   run-entry.Post,
 ) (run-rows-at t) run-rows.Post run-rows-Inv-loop run-rows-μ-loop
-run-rows-mul-if1-2 t c = let o = c .before in let z = row-bounds (o .pre .1 .0) (o .args .q) (o .pre .1 .1) in omega arith
+run-rows-mul-if1-2 t c = let o = c .before .before in let z = row-bounds (o .pre .1 .0) (o .args .q) (o .pre .1 .1) in omega arith
 
-run-rows-element-copy-out-if1 : (t : ℕ) → run-rows-lts.Need-element-copy-out-if1 (
+run-rows-shared-slice-read-if1 : (t : ℕ) → run-rows-lts.Need-shared-slice-read-if1 (
   run-leaf-rows-reads.Asked,
   run-leaf-rows-reads.Learnt,
   table-place-reads.Asked,
@@ -386,7 +386,7 @@ run-rows-element-copy-out-if1 : (t : ℕ) → run-rows-lts.Need-element-copy-out
   run-entry-below t,
   run-entry.Post,
 ) (run-rows-at t) run-rows.Post run-rows-Inv-loop run-rows-μ-loop
-run-rows-element-copy-out-if1 t c = let o = c .before in let z = row-bounds (o .pre .1 .0) (o .args .q) (o .pre .1 .1) in omega arith
+run-rows-shared-slice-read-if1 t c = let o = c .before .before .before in let z = row-bounds (o .pre .1 .0) (o .args .q) (o .pre .1 .1) in omega arith
 
 run-rows-run-leaf-rows-requires : (t : ℕ) → run-rows-lts.Need-run-leaf-rows-requires (
   run-leaf-rows-reads.Asked,
@@ -396,7 +396,7 @@ run-rows-run-leaf-rows-requires : (t : ℕ) → run-rows-lts.Need-run-leaf-rows-
   run-entry-below t,
   run-entry.Post,
 ) (run-rows-at t) run-rows.Post run-rows-Inv-loop run-rows-μ-loop
-run-rows-run-leaf-rows-requires t c κs = let o = c .before .before .before in (o .pre .1 .0, (o .pre .1 .1, c .if1 .taken))
+run-rows-run-leaf-rows-requires t c κs = let o = c .before .before .before .before in (o .pre .1 .0, (o .pre .1 .1, c .if1 .taken))
 
 run-rows-returns : (t : ℕ) → run-rows-lts.Need-returns (
   run-leaf-rows-reads.Asked,
@@ -416,7 +416,7 @@ run-rows-mul-table-place : (t : ℕ) → run-rows-lts.Need-mul-table-place (
   run-entry-below t,
   run-entry.Post,
 ) (run-rows-at t) run-rows.Post run-rows-Inv-loop run-rows-μ-loop
-run-rows-mul-table-place t c = let o = c .before .before .before in let z = row-bounds (o .pre .1 .0) (o .args .q) (o .pre .1 .1) in omega arith
+run-rows-mul-table-place t c = let o = c .before .before .before .before in let z = row-bounds (o .pre .1 .0) (o .args .q) (o .pre .1 .1) in omega arith
 
 run-rows-add-table-place : (t : ℕ) → run-rows-lts.Need-add-table-place (
   run-leaf-rows-reads.Asked,
@@ -426,7 +426,7 @@ run-rows-add-table-place : (t : ℕ) → run-rows-lts.Need-add-table-place (
   run-entry-below t,
   run-entry.Post,
 ) (run-rows-at t) run-rows.Post run-rows-Inv-loop run-rows-μ-loop
-run-rows-add-table-place t c = let o = c .before .before .before in let z = row-bounds (o .pre .1 .0) (o .args .q) (o .pre .1 .1) in omega arith
+run-rows-add-table-place t c = let o = c .before .before .before .before in let z = row-bounds (o .pre .1 .0) (o .args .q) (o .pre .1 .1) in omega arith
 
 run-rows-mul-table-place-2 : (t : ℕ) → run-rows-lts.Need-mul-table-place-2 (
   run-leaf-rows-reads.Asked,
@@ -436,9 +436,9 @@ run-rows-mul-table-place-2 : (t : ℕ) → run-rows-lts.Need-mul-table-place-2 (
   run-entry-below t,
   run-entry.Post,
 ) (run-rows-at t) run-rows.Post run-rows-Inv-loop run-rows-μ-loop
-run-rows-mul-table-place-2 t c = let o = c .before .before .before in let z = row-bounds (o .pre .1 .0) (o .args .q) (o .pre .1 .1) in omega arith
+run-rows-mul-table-place-2 t c = let o = c .before .before .before .before in let z = row-bounds (o .pre .1 .0) (o .args .q) (o .pre .1 .1) in omega arith
 
-run-rows-element-copy-out-table-place : (t : ℕ) → run-rows-lts.Need-element-copy-out-table-place (
+run-rows-shared-slice-read-table-place : (t : ℕ) → run-rows-lts.Need-shared-slice-read-table-place (
   run-leaf-rows-reads.Asked,
   run-leaf-rows-reads.Learnt,
   table-place-reads.Asked,
@@ -446,7 +446,7 @@ run-rows-element-copy-out-table-place : (t : ℕ) → run-rows-lts.Need-element-
   run-entry-below t,
   run-entry.Post,
 ) (run-rows-at t) run-rows.Post run-rows-Inv-loop run-rows-μ-loop
-run-rows-element-copy-out-table-place t c = let o = c .before .before .before in let z = row-bounds (o .pre .1 .0) (o .args .q) (o .pre .1 .1) in omega arith
+run-rows-shared-slice-read-table-place t c = let o = c .before .before .before .before .before in let z = row-bounds (o .pre .1 .0) (o .args .q) (o .pre .1 .1) in omega arith
 
 run-rows-table-place-requires : (t : ℕ) → run-rows-lts.Need-table-place-requires (
   run-leaf-rows-reads.Asked,
@@ -456,7 +456,7 @@ run-rows-table-place-requires : (t : ℕ) → run-rows-lts.Need-table-place-requ
   run-entry-below t,
   run-entry.Post,
 ) (run-rows-at t) run-rows.Post run-rows-Inv-loop run-rows-μ-loop
-run-rows-table-place-requires t c κs = let o = c .before .before .before .before in row-bounds (o .pre .1 .0) (o .args .q) (o .pre .1 .1) .high
+run-rows-table-place-requires t c κs = let o = c .before .before .before .before .before in row-bounds (o .pre .1 .0) (o .args .q) (o .pre .1 .1) .high
 
 run-rows-loop-holds : (t : ℕ) → run-rows-lts.Need-loop-holds (
   run-leaf-rows-reads.Asked,
@@ -466,7 +466,7 @@ run-rows-loop-holds : (t : ℕ) → run-rows-lts.Need-loop-holds (
   run-entry-below t,
   run-entry.Post,
 ) (run-rows-at t) run-rows.Post run-rows-Inv-loop run-rows-μ-loop
-run-rows-loop-holds t c = passed-none _ _ _ _ _ _ _ _ (c .before .before .before .before .before .before .pre .1 .0 .readable .standing .size) (c .before .table-place .ensures)
+run-rows-loop-holds t c = passed-none _ _ _ _ _ _ _ _ (c .before .before .before .before .before .before .before .pre .1 .0 .readable .standing .size) (c .before .table-place .ensures)
 
 run-rows-mul-v : (t : ℕ) → run-rows-lts.Need-mul-v (
   run-leaf-rows-reads.Asked,
@@ -477,7 +477,7 @@ run-rows-mul-v : (t : ℕ) → run-rows-lts.Need-mul-v (
   run-entry.Post,
 ) (run-rows-at t) run-rows.Post run-rows-Inv-loop run-rows-μ-loop
 run-rows-mul-v t c =
-    let o = c .before .before .before .before .before .before .before .before .before in
+    let o = c .before .before .before .before .before .before .before .before .before .before in
     let z = row-bounds (o .pre .1 .0) (o .args .q) (o .pre .1 .1) in
     omega arith
 
@@ -490,7 +490,7 @@ run-rows-array-write-v : (t : ℕ) → run-rows-lts.Need-array-write-v (
   run-entry.Post,
 ) (run-rows-at t) run-rows.Post run-rows-Inv-loop run-rows-μ-loop
 run-rows-array-write-v t c =
-    let o = c .before .before .before .before .before .before .before .before .before in
+    let o = c .before .before .before .before .before .before .before .before .before .before in
     let z = row-bounds (o .pre .1 .0) (o .args .q) (o .pre .1 .1) in
     omega arith
 
@@ -503,7 +503,7 @@ run-rows-add-run-entry : (t : ℕ) → run-rows-lts.Need-add-run-entry (
   run-entry.Post,
 ) (run-rows-at t) run-rows.Post run-rows-Inv-loop run-rows-μ-loop
 run-rows-add-run-entry t c =
-    let o = c .before .before .before .before .before .before .before .before .before in
+    let o = c .before .before .before .before .before .before .before .before .before .before in
     let z = row-bounds (o .pre .1 .0) (o .args .q) (o .pre .1 .1) in
     omega arith
 
@@ -516,7 +516,7 @@ run-rows-add-run-entry-2 : (t : ℕ) → run-rows-lts.Need-add-run-entry-2 (
   run-entry.Post,
 ) (run-rows-at t) run-rows.Post run-rows-Inv-loop run-rows-μ-loop
 run-rows-add-run-entry-2 t c =
-    let o = c .before .before .before .before .before .before .before .before .before .before in
+    let o = c .before .before .before .before .before .before .before .before .before .before .before in
     let z = row-bounds (o .pre .1 .0) (o .args .q) (o .pre .1 .1) in
     omega arith
 
@@ -529,7 +529,7 @@ run-rows-run-entry-requires : (t : ℕ) → run-rows-lts.Need-run-entry-requires
   run-entry.Post,
 ) (run-rows-at t) run-rows.Post run-rows-Inv-loop run-rows-μ-loop
 run-rows-run-entry-requires t c κs =
-    let o = c .before .before .before .before .before .before .before .before .before .before in
+    let o = c .before .before .before .before .before .before .before .before .before .before .before in
     let m = o .pre .0 in
     let z = row-bounds (o .pre .1 .0) (o .args .q) (o .pre .1 .1) in
     (omega arith, inner-run (o .pre .1 .0) (o .args .q) (o .pre .1 .1) (c .before .if2 .taken) (c .before .before .before .loop .inv))
@@ -543,7 +543,7 @@ run-rows-returns-2 : (t : ℕ) → run-rows-lts.Need-returns-2 (
   run-entry.Post,
 ) (run-rows-at t) run-rows.Post run-rows-Inv-loop run-rows-μ-loop
 run-rows-returns-2 t c = λ h.
-    let o = c .before .before .before .before .before .before .before .before .before .before .before .before in
+    let o = c .before .before .before .before .before .before .before .before .before .before .before .before .before in
     let below = c .before .before .before .if2 .taken in
     let passed = c .before .before .before .before .before .loop .inv in
     row-stops h (o .args .q) (o .pre .1 .1) passed below _ (c .before .run-entry .ensures (inner-run h (o .args .q) (o .pre .1 .1) below passed))
@@ -558,7 +558,7 @@ run-rows-add-first : (t : ℕ) → run-rows-lts.Need-add-first (
   run-entry.Post,
 ) (run-rows-at t) run-rows.Post run-rows-Inv-loop run-rows-μ-loop
 run-rows-add-first t c =
-    let o = c .before .before .before .before .before .before .before .before .before .before .before .before .before in
+    let o = c .before .before .before .before .before .before .before .before .before .before .before .before .before .before in
     let z = row-room (o .pre .1 .0) (o .args .q) (o .pre .1 .1) (c .before .before .before .before .if2 .taken) (c .before .before .before .before .before .before .loop .inv) in
     omega arith
 
@@ -571,7 +571,7 @@ run-rows-add-r : (t : ℕ) → run-rows-lts.Need-add-r (
   run-entry.Post,
 ) (run-rows-at t) run-rows.Post run-rows-Inv-loop run-rows-μ-loop
 run-rows-add-r t c =
-    let o = c .before .before .before .before .before .before .before .before .before .before .before .before .before in
+    let o = c .before .before .before .before .before .before .before .before .before .before .before .before .before .before in
     let z = row-few (o .pre .1 .0) (o .args .q) (o .pre .1 .1) (c .before .before .before .before .if2 .taken) (c .before .before .before .before .before .before .loop .inv) in
     omega arith
 
@@ -594,7 +594,7 @@ run-rows-loop-again : (t : ℕ) → run-rows-lts.Need-loop-again (
   run-entry.Post,
 ) (run-rows-at t) run-rows.Post run-rows-Inv-loop run-rows-μ-loop
 run-rows-loop-again t c =
-    let o = c .before .before .before .before .before .before .before .before .before .before .before .before .before in
+    let o = c .before .before .before .before .before .before .before .before .before .before .before .before .before .before in
     let below = c .before .before .before .before .if2 .taken in
     let passed = c .before .before .before .before .before .before .loop .inv in
     passed-more _ _ _ _ _ _ _ _ passed (λ h.
@@ -610,7 +610,7 @@ run-rows-returns-3 : (t : ℕ) → run-rows-lts.Need-returns-3 (
   run-entry.Post,
 ) (run-rows-at t) run-rows.Post run-rows-Inv-loop run-rows-μ-loop
 run-rows-returns-3 t c = λ h.
-    let o = c .before .before .before .before .before .before .before .before .before in
+    let o = c .before .before .before .before .before .before .before .before .before .before in
     rows-end h (o .args .q) (o .pre .1 .1) (c .before .before .loop .inv) (c .if2 .left)
 
 pub +run-entry+run-inner+run-rows-spec : {M : Type 1} → statement M
@@ -625,7 +625,7 @@ pub +run-entry+run-inner+run-rows-spec : {M : Type 1} → statement M
     run-entry.Post
     (run-entry-mul-if1 t)
     (run-entry-mul-if1-2 t)
-    (run-entry-element-copy-out-if1 t)
+    (run-entry-shared-slice-read-if1 t)
     (run-entry-run-leaf-requires t)
     (run-entry-returns t)
     (run-entry-run-inner-requires t)
@@ -636,11 +636,11 @@ pub +run-entry+run-inner+run-rows-spec : {M : Type 1} → statement M
     run-inner.Post
     (run-inner-mul-k t)
     (run-inner-mul-k-2 t)
-    (run-inner-element-copy-out-k t)
+    (run-inner-shared-slice-read-k t)
     (run-inner-mul-m t)
     (run-inner-add-m t)
     (run-inner-mul-m-2 t)
-    (run-inner-element-copy-out-m t)
+    (run-inner-shared-slice-read-m t)
     (run-inner-add-run-entry t)
     (run-inner-run-entry-requires t)
     (run-inner-returns t)
@@ -648,7 +648,7 @@ pub +run-entry+run-inner+run-rows-spec : {M : Type 1} → statement M
     (run-inner-mul-m-3 t)
     (run-inner-add-m-2 t)
     (run-inner-mul-m-4 t)
-    (run-inner-element-copy-out-m-2 t)
+    (run-inner-shared-slice-read-m-2 t)
     (run-inner-add-run-entry-2 t)
     (run-inner-run-entry-requires-3 t)
     (run-inner-returns-2 t)
@@ -674,13 +674,13 @@ pub +run-entry+run-inner+run-rows-spec : {M : Type 1} → statement M
     (run-rows-add-if1 t)
     (run-rows-mul-if1 t)
     (run-rows-mul-if1-2 t)
-    (run-rows-element-copy-out-if1 t)
+    (run-rows-shared-slice-read-if1 t)
     (run-rows-run-leaf-rows-requires t)
     (run-rows-returns t)
     (run-rows-mul-table-place t)
     (run-rows-add-table-place t)
     (run-rows-mul-table-place-2 t)
-    (run-rows-element-copy-out-table-place t)
+    (run-rows-shared-slice-read-table-place t)
     (run-rows-table-place-requires t)
     (run-rows-loop-holds t)
     (run-rows-mul-v t)

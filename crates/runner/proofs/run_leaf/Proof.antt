@@ -10,8 +10,8 @@ mul-k c = search needs
 mul-k-2 : tie.Need-mul-k-2
 mul-k-2 c = search needs
 
-element-copy-out-k : tie.Need-element-copy-out-k
-element-copy-out-k c = search needs
+shared-slice-read-k : tie.Need-shared-slice-read-k
+shared-slice-read-k c = search needs
 
 mul-look : tie.Need-mul-look
 mul-look c = search needs
@@ -22,8 +22,8 @@ add-look c = search needs
 mul-look-2 : tie.Need-mul-look-2
 mul-look-2 c = search needs
 
-element-copy-out-look : tie.Need-element-copy-out-look
-element-copy-out-look c = search needs
+shared-slice-read-look : tie.Need-shared-slice-read-look
+shared-slice-read-look c = search needs
 
 mul-look-3 : tie.Need-mul-look-3
 mul-look-3 c = search needs
@@ -34,11 +34,11 @@ add-look-2 c = search needs
 mul-look-4 : tie.Need-mul-look-4
 mul-look-4 c = search needs
 
-element-copy-out-look-2 : tie.Need-element-copy-out-look-2
-element-copy-out-look-2 c = search needs
+shared-slice-read-look-2 : tie.Need-shared-slice-read-look-2
+shared-slice-read-look-2 c = search needs
 
 look-requires : tie.Need-look-requires
-look-requires c κs = left-ready (c .before .before .before .before .pre)
+look-requires c κs = left-ready (c .before .before .before .before .before .pre)
 
 mul-look-5 : tie.Need-mul-look-5
 mul-look-5 c = search needs
@@ -49,8 +49,8 @@ add-look-3 c = search needs
 mul-look-6 : tie.Need-mul-look-6
 mul-look-6 c = search needs
 
-element-copy-out-look-3 : tie.Need-element-copy-out-look-3
-element-copy-out-look-3 c = search needs
+shared-slice-read-look-3 : tie.Need-shared-slice-read-look-3
+shared-slice-read-look-3 c = search needs
 
 mul-look-7 : tie.Need-mul-look-7
 mul-look-7 c = search needs
@@ -61,11 +61,11 @@ add-look-4 c = search needs
 mul-look-8 : tie.Need-mul-look-8
 mul-look-8 c = search needs
 
-element-copy-out-look-4 : tie.Need-element-copy-out-look-4
-element-copy-out-look-4 c = search needs
+shared-slice-read-look-4 : tie.Need-shared-slice-read-look-4
+shared-slice-read-look-4 c = search needs
 
 look-requires-2 : tie.Need-look-requires-2
-look-requires-2 c κs = right-ready (c .before .before .before .before .before .before .before .before .pre) (c .before .before .if1 .taken)
+look-requires-2 c κs = right-ready (c .before .before .before .before .before .before .before .before .before .pre) (c .before .before .if1 .taken)
 
 mul-cells-hold : tie.Need-mul-cells-hold
 mul-cells-hold c = search needs
@@ -76,8 +76,8 @@ add-cells-hold c = search needs
 mul-cells-hold-2 : tie.Need-mul-cells-hold-2
 mul-cells-hold-2 c = search needs
 
-element-copy-out-cells-hold : tie.Need-element-copy-out-cells-hold
-element-copy-out-cells-hold c = search needs
+shared-slice-read-cells-hold : tie.Need-shared-slice-read-cells-hold
+shared-slice-read-cells-hold c = search needs
 
 cells-hold-requires : tie.Need-cells-hold-requires
 cells-hold-requires c κs = search needs
@@ -104,29 +104,29 @@ run-leaf-spec =
     (tie.spec
     mul-k
     mul-k-2
-    element-copy-out-k
+    shared-slice-read-k
     mul-look
     add-look
     mul-look-2
-    element-copy-out-look
+    shared-slice-read-look
     mul-look-3
     add-look-2
     mul-look-4
-    element-copy-out-look-2
+    shared-slice-read-look-2
     look-requires
     mul-look-5
     add-look-3
     mul-look-6
-    element-copy-out-look-3
+    shared-slice-read-look-3
     mul-look-7
     add-look-4
     mul-look-8
-    element-copy-out-look-4
+    shared-slice-read-look-4
     look-requires-2
     mul-cells-hold
     add-cells-hold
     mul-cells-hold-2
-    element-copy-out-cells-hold
+    shared-slice-read-cells-hold
     cells-hold-requires
     returns
     returns-2

@@ -12,40 +12,40 @@ abbrev μ-loop : tie.MeasureT-loop
 μ-loop d g file s e w depth q table first₀ v₀ r₀ first v r = table .rows - r
 
 mul-table-place : tie.Need-mul-table-place Inv-loop μ-loop
-mul-table-place c = let o = c .before in let z = row-bounds (o .pre .0) (o .args .q) (o .pre .1 .0) in omega arith
+mul-table-place c = let o = c .before .before in let z = row-bounds (o .pre .0) (o .args .q) (o .pre .1 .0) in omega arith
 
 add-table-place : tie.Need-add-table-place Inv-loop μ-loop
-add-table-place c = let o = c .before in let z = row-bounds (o .pre .0) (o .args .q) (o .pre .1 .0) in omega arith
+add-table-place c = let o = c .before .before in let z = row-bounds (o .pre .0) (o .args .q) (o .pre .1 .0) in omega arith
 
 mul-table-place-2 : tie.Need-mul-table-place-2 Inv-loop μ-loop
-mul-table-place-2 c = let o = c .before in let z = row-bounds (o .pre .0) (o .args .q) (o .pre .1 .0) in omega arith
+mul-table-place-2 c = let o = c .before .before in let z = row-bounds (o .pre .0) (o .args .q) (o .pre .1 .0) in omega arith
 
-element-copy-out-table-place : tie.Need-element-copy-out-table-place Inv-loop μ-loop
-element-copy-out-table-place c = let o = c .before in let z = row-bounds (o .pre .0) (o .args .q) (o .pre .1 .0) in omega arith
+shared-slice-read-table-place : tie.Need-shared-slice-read-table-place Inv-loop μ-loop
+shared-slice-read-table-place c = let o = c .before .before .before in let z = row-bounds (o .pre .0) (o .args .q) (o .pre .1 .0) in omega arith
 
 table-place-requires : tie.Need-table-place-requires Inv-loop μ-loop
-table-place-requires c κs = let o = c .before .before in row-bounds (o .pre .0) (o .args .q) (o .pre .1 .0) .high
+table-place-requires c κs = let o = c .before .before .before in row-bounds (o .pre .0) (o .args .q) (o .pre .1 .0) .high
 
 loop-holds : tie.Need-loop-holds Inv-loop μ-loop
-loop-holds c = passed-none _ _ _ _ _ _ _ _ (c .before .before .before .before .pre .0 .readable .standing .size) (c .before .table-place .ensures)
+loop-holds c = passed-none _ _ _ _ _ _ _ _ (c .before .before .before .before .before .pre .0 .readable .standing .size) (c .before .table-place .ensures)
 
 mul-v : tie.Need-mul-v Inv-loop μ-loop
-mul-v c = let o = c .before .before .before .before .before .before .before in let z = row-bounds (o .pre .0) (o .args .q) (o .pre .1 .0) in omega arith
+mul-v c = let o = c .before .before .before .before .before .before .before .before in let z = row-bounds (o .pre .0) (o .args .q) (o .pre .1 .0) in omega arith
 
 array-write-v : tie.Need-array-write-v Inv-loop μ-loop
-array-write-v c = let o = c .before .before .before .before .before .before .before in let z = row-bounds (o .pre .0) (o .args .q) (o .pre .1 .0) in omega arith
+array-write-v c = let o = c .before .before .before .before .before .before .before .before in let z = row-bounds (o .pre .0) (o .args .q) (o .pre .1 .0) in omega arith
 
 add-run-leaf : tie.Need-add-run-leaf Inv-loop μ-loop
-add-run-leaf c = let o = c .before .before .before .before .before .before .before in let z = row-bounds (o .pre .0) (o .args .q) (o .pre .1 .0) in omega arith
+add-run-leaf c = let o = c .before .before .before .before .before .before .before .before in let z = row-bounds (o .pre .0) (o .args .q) (o .pre .1 .0) in omega arith
 
 run-leaf-requires : tie.Need-run-leaf-requires Inv-loop μ-loop
 run-leaf-requires c κs =
-    let o = c .before .before .before .before .before .before .before .before in
+    let o = c .before .before .before .before .before .before .before .before .before in
     leaf-ready (inner-run (o .pre .0) (o .args .q) (o .pre .1 .0) (c .before .if1 .taken) (c .before .before .before .loop .inv)) (o .pre .1 .1)
 
 returns : tie.Need-returns Inv-loop μ-loop
 returns c = λ h.
-    let o = c .before .before .before .before .before .before .before .before .before .before in
+    let o = c .before .before .before .before .before .before .before .before .before .before .before in
     let below = c .before .before .before .if1 .taken in
     let passed = c .before .before .before .before .before .loop .inv in
     let inner = inner-run h (o .args .q) (o .pre .1 .0) below passed in
@@ -54,13 +54,13 @@ returns c = λ h.
 
 add-first : tie.Need-add-first Inv-loop μ-loop
 add-first c =
-    let o = c .before .before .before .before .before .before .before .before .before .before .before in
+    let o = c .before .before .before .before .before .before .before .before .before .before .before .before in
     let z = row-room (o .pre .0) (o .args .q) (o .pre .1 .0) (c .before .before .before .before .if1 .taken) (c .before .before .before .before .before .before .loop .inv) in
     omega arith
 
 add-r : tie.Need-add-r Inv-loop μ-loop
 add-r c =
-    let o = c .before .before .before .before .before .before .before .before .before .before .before in
+    let o = c .before .before .before .before .before .before .before .before .before .before .before .before in
     let z = row-few (o .pre .0) (o .args .q) (o .pre .1 .0) (c .before .before .before .before .if1 .taken) (c .before .before .before .before .before .before .loop .inv) in
     omega arith
 
@@ -69,7 +69,7 @@ loop-less c = let z = c .before .before .before .before .if1 .taken in omega ari
 
 loop-again : tie.Need-loop-again Inv-loop μ-loop
 loop-again c =
-    let o = c .before .before .before .before .before .before .before .before .before .before .before in
+    let o = c .before .before .before .before .before .before .before .before .before .before .before .before in
     let below = c .before .before .before .before .if1 .taken in
     let passed = c .before .before .before .before .before .before .loop .inv in
     passed-more _ _ _ _ _ _ _ _ passed (λ h.
@@ -79,7 +79,7 @@ loop-again c =
 
 returns-2 : tie.Need-returns-2 Inv-loop μ-loop
 returns-2 c = λ h.
-    let o = c .before .before .before .before .before .before .before in
+    let o = c .before .before .before .before .before .before .before .before in
     rows-end h (o .args .q) (o .pre .1 .0) (c .before .before .loop .inv) (c .if1 .left)
 
 pub run-leaf-rows-spec : {M : Type 1} → statement M
@@ -91,7 +91,7 @@ run-leaf-rows-spec =
     mul-table-place
     add-table-place
     mul-table-place-2
-    element-copy-out-table-place
+    shared-slice-read-table-place
     table-place-requires
     loop-holds
     mul-v

@@ -4,8 +4,8 @@ use native.Mathlib.Omega.{arith}
 use Rattle.gate.proofs.Calls.{run-refused, run-no-row, run-says}
 use Rattle.gate.proofs.Judged.{laid-out, one-rows, row-room, judged, judged-says}
 use borrow.Author.Needs.{needs}
-use Rattle.gate.proofs.run.Statement.{statement}
-use Rattle.gate.proofs.run.Tie as tie
+use Rattle.gate.proofs.run_with.Statement.{statement}
+use Rattle.gate.proofs.run_with.Tie as tie
 
 prepare-requires : tie.Need-prepare-requires
 prepare-requires c κs = search needs
@@ -13,8 +13,11 @@ prepare-requires c κs = search needs
 enum-known-prepared : tie.Need-enum-known-prepared
 enum-known-prepared c = search needs
 
+same-length : tie.Need-same-length
+same-length c = search needs
+
 returns : tie.Need-returns
-returns c = run-refused _ _ _ (c .before .before .before .prepare .ensures .0) _ _ (c .before .prepared .given .1)
+returns c = run-refused _ _ _ (c .before .before .before .before .before .prepare .ensures .0) _ _ (c .before .prepared .given .1)
 
 enum-told : tie.Need-enum-told
 enum-told c = search needs
@@ -22,33 +25,39 @@ enum-told c = search needs
 table-place-requires : tie.Need-table-place-requires
 table-place-requires c κs = search needs
 
+same-length-2 : tie.Need-same-length-2
+same-length-2 c = search needs
+
 returns-2 : tie.Need-returns-2
 returns-2 c =
-    let p = c .before .before .before .before .before .before .prepare .ensures in
+    let p = c .before .before .before .before .before .before .before .before .prepare .ensures in
     let ready = c .before .before .before .before .enum-told .given .1 in
     run-no-row _ _ _ (p .0) _ ready (omega (arith, one-rows _ _ _ _ (p .1 ready) _ (c .before .before .table-place .ensures)))
 
 read16-requires : tie.Need-read16-requires
 read16-requires c κs =
-    let laid = laid-out _ (c .before .before .before .before .before .before .prepare .ensures .1 (c .before .before .before .before .enum-told .given .1) .sound-is) in
+    let laid = laid-out _ (c .before .before .before .before .before .before .before .before .prepare .ensures .1 (c .before .before .before .before .enum-told .given .1) .sound-is) in
     omega arith
 
-mul-t17 : tie.Need-mul-t17
-mul-t17 c =
+mul-t18 : tie.Need-mul-t18
+mul-t18 c =
     let test = c .before .before in
-    let o = test .before .before .before .before .before .before .prepare .ensures .1 (test .before .before .before .before .enum-told .given .1) in
+    let o = test .before .before .before .before .before .before .before .before .prepare .ensures .1 (test .before .before .before .before .enum-told .given .1) in
     omega (arith, row-room _ _ _ _ o _ (test .before .before .table-place .ensures) _ _ (test .if1 .left) refl)
 
 run-entry-requires : tie.Need-run-entry-requires
 run-entry-requires c κs =
     let test = c .before .before .before .before .before in
-    let o = test .before .before .before .before .before .before .prepare .ensures .1 (test .before .before .before .before .enum-told .given .1) in
+    let o = test .before .before .before .before .before .before .before .before .prepare .ensures .1 (test .before .before .before .before .enum-told .given .1) in
     judged _ _ _ _ o _ (test .before .before .table-place .ensures) _ _ (test .if1 .left) refl _ _ (c .before .before .before .before .read16 .ensures .0) refl refl
+
+same-length-3 : tie.Need-same-length-3
+same-length-3 c = search needs
 
 returns-3 : tie.Need-returns-3
 returns-3 c =
     let test = c .before .before .before .before .before .before .before in
-    let p = test .before .before .before .before .before .before .prepare .ensures in
+    let p = test .before .before .before .before .before .before .before .before .prepare .ensures in
     let ready = test .before .before .before .before .enum-told .given .1 in
     let o = p .1 ready in
     let is = test .before .before .table-place .ensures in
@@ -56,10 +65,13 @@ returns-3 c =
     let says = judged-says _ _ _ _ o _ is _ _ (test .if1 .left) refl _ _ whole refl refl _ (c .before .run-entry .ensures) in
     run-says _ _ _ (p .0) _ true ready (omega (arith, one-rows _ _ _ _ o _ is)) (sym (c .if2 .taken) ∙ says)
 
+same-length-4 : tie.Need-same-length-4
+same-length-4 c = search needs
+
 returns-4 : tie.Need-returns-4
 returns-4 c =
     let test = c .before .before .before .before .before .before .before in
-    let p = test .before .before .before .before .before .before .prepare .ensures in
+    let p = test .before .before .before .before .before .before .before .before .prepare .ensures in
     let ready = test .before .before .before .before .enum-told .given .1 in
     let o = p .1 ready in
     let is = test .before .before .table-place .ensures in
@@ -67,18 +79,22 @@ returns-4 c =
     let says = judged-says _ _ _ _ o _ is _ _ (test .if1 .left) refl _ _ whole refl refl _ (c .before .run-entry .ensures) in
     run-says _ _ _ (p .0) _ false ready (omega (arith, one-rows _ _ _ _ o _ is)) (sym (c .if2 .left) ∙ says)
 
-pub run-spec : {M : Type 1} → statement M
-run-spec =
+pub run-with-spec : {M : Type 1} → statement M
+run-with-spec =
     tie.close
     (tie.spec
     prepare-requires
     enum-known-prepared
+    same-length
     returns
     enum-told
     table-place-requires
+    same-length-2
     returns-2
     read16-requires
-    mul-t17
+    mul-t18
     run-entry-requires
+    same-length-3
     returns-3
+    same-length-4
     returns-4)

@@ -10,22 +10,25 @@ use borrow.Fn.Kinds.{In}
 use borrow.Fn.PlainCycle.{Measures, is, falls, and}
 use Rattle.evaluator.proofs.evaluate_and.Reads as evaluate-and
 use Rattle.evaluator.proofs.evaluate_and.Kinds as evaluate-and-kinds
-use Rattle.evaluator.proofs.+evaluate_and+evaluate_exists+evaluate_list+evaluate_or+evaluate_part+evaluate_row.Lts-evaluate_and as evaluate-and-lts
+use Rattle.evaluator.proofs.+evaluate_and+evaluate_exists+evaluate_list+evaluate_or+evaluate_part+evaluate_row+evaluate_where.Lts-evaluate_and as evaluate-and-lts
 use Rattle.evaluator.proofs.evaluate_exists.Reads as evaluate-exists
 use Rattle.evaluator.proofs.evaluate_exists.Kinds as evaluate-exists-kinds
-use Rattle.evaluator.proofs.+evaluate_and+evaluate_exists+evaluate_list+evaluate_or+evaluate_part+evaluate_row.Lts-evaluate_exists as evaluate-exists-lts
+use Rattle.evaluator.proofs.+evaluate_and+evaluate_exists+evaluate_list+evaluate_or+evaluate_part+evaluate_row+evaluate_where.Lts-evaluate_exists as evaluate-exists-lts
 use Rattle.evaluator.proofs.evaluate_list.Reads as evaluate-list
 use Rattle.evaluator.proofs.evaluate_list.Kinds as evaluate-list-kinds
-use Rattle.evaluator.proofs.+evaluate_and+evaluate_exists+evaluate_list+evaluate_or+evaluate_part+evaluate_row.Lts-evaluate_list as evaluate-list-lts
+use Rattle.evaluator.proofs.+evaluate_and+evaluate_exists+evaluate_list+evaluate_or+evaluate_part+evaluate_row+evaluate_where.Lts-evaluate_list as evaluate-list-lts
 use Rattle.evaluator.proofs.evaluate_or.Reads as evaluate-or
 use Rattle.evaluator.proofs.evaluate_or.Kinds as evaluate-or-kinds
-use Rattle.evaluator.proofs.+evaluate_and+evaluate_exists+evaluate_list+evaluate_or+evaluate_part+evaluate_row.Lts-evaluate_or as evaluate-or-lts
+use Rattle.evaluator.proofs.+evaluate_and+evaluate_exists+evaluate_list+evaluate_or+evaluate_part+evaluate_row+evaluate_where.Lts-evaluate_or as evaluate-or-lts
 use Rattle.evaluator.proofs.evaluate_part.Reads as evaluate-part
 use Rattle.evaluator.proofs.evaluate_part.Kinds as evaluate-part-kinds
-use Rattle.evaluator.proofs.+evaluate_and+evaluate_exists+evaluate_list+evaluate_or+evaluate_part+evaluate_row.Lts-evaluate_part as evaluate-part-lts
+use Rattle.evaluator.proofs.+evaluate_and+evaluate_exists+evaluate_list+evaluate_or+evaluate_part+evaluate_row+evaluate_where.Lts-evaluate_part as evaluate-part-lts
 use Rattle.evaluator.proofs.evaluate_row.Reads as evaluate-row
 use Rattle.evaluator.proofs.evaluate_row.Kinds as evaluate-row-kinds
-use Rattle.evaluator.proofs.+evaluate_and+evaluate_exists+evaluate_list+evaluate_or+evaluate_part+evaluate_row.Lts-evaluate_row as evaluate-row-lts
+use Rattle.evaluator.proofs.+evaluate_and+evaluate_exists+evaluate_list+evaluate_or+evaluate_part+evaluate_row+evaluate_where.Lts-evaluate_row as evaluate-row-lts
+use Rattle.evaluator.proofs.evaluate_where.Reads as evaluate-where
+use Rattle.evaluator.proofs.evaluate_where.Kinds as evaluate-where-kinds
+use Rattle.evaluator.proofs.+evaluate_and+evaluate_exists+evaluate_list+evaluate_or+evaluate_part+evaluate_row+evaluate_where.Lts-evaluate_where as evaluate-where-lts
 use Rattle.cells.proofs.table_place.Reads as table-place-reads
 use Rattle.evaluator.proofs.after.Reads as after-reads
 use Rattle.evaluator.proofs.compare.Reads as compare-reads
@@ -33,30 +36,33 @@ use Rattle.evaluator.proofs.evaluate_test.Reads as evaluate-test-reads
 use Rattle.evaluator.proofs.greater.Reads as greater-reads
 use Rattle.evaluator.proofs.lesser.Reads as lesser-reads
 use Rattle.values.proofs.look.Reads as look-reads
-use Rattle.evaluator.proofs.+evaluate_and+evaluate_exists+evaluate_list+evaluate_or+evaluate_part+evaluate_row.{
+use Rattle.evaluator.proofs.+evaluate_and+evaluate_exists+evaluate_list+evaluate_or+evaluate_part+evaluate_row+evaluate_where.{
   statement,
 }
-use Rattle.evaluator.proofs.+evaluate_and+evaluate_exists+evaluate_list+evaluate_or+evaluate_part+evaluate_row.Tie.{
+use Rattle.evaluator.proofs.+evaluate_and+evaluate_exists+evaluate_list+evaluate_or+evaluate_part+evaluate_row+evaluate_where.Tie.{
   close,
 }
 
 abbrev μ-evaluate-and : Measures 4 evaluate-and-kinds.ps ℕ
-μ-evaluate-and κs a = 3 * (64 - a .1 .1 .1 .0) + 1
+μ-evaluate-and κs a = 4 * (64 - a .1 .1 .1 .0) + 1
 
 abbrev μ-evaluate-exists : Measures 4 evaluate-exists-kinds.ps ℕ
-μ-evaluate-exists κs a = 3 * (64 - a .1 .1 .1 .0) + 1
+μ-evaluate-exists κs a = 4 * (64 - a .1 .1 .1 .0) + 1
 
 abbrev μ-evaluate-list : Measures 4 evaluate-list-kinds.ps ℕ
-μ-evaluate-list κs a = 3 * (64 - a .1 .1 .1 .0) + 1
+μ-evaluate-list κs a = 4 * (64 - a .1 .1 .1 .0) + 1
 
 abbrev μ-evaluate-or : Measures 4 evaluate-or-kinds.ps ℕ
-μ-evaluate-or κs a = 3 * (64 - a .1 .1 .1 .0) + 1
+μ-evaluate-or κs a = 4 * (64 - a .1 .1 .1 .0) + 1
 
 abbrev μ-evaluate-part : Measures 4 evaluate-part-kinds.ps ℕ
-μ-evaluate-part κs a = 3 * (64 - a .1 .1 .1 .0) + 2
+μ-evaluate-part κs a = 4 * (64 - a .1 .1 .1 .0) + 2
 
 abbrev μ-evaluate-row : Measures 4 evaluate-row-kinds.ps ℕ
-μ-evaluate-row κs a = 3 * (64 - a .1 .1 .1 .0)
+μ-evaluate-row κs a = 4 * (64 - a .1 .1 .1 .0)
+
+abbrev μ-evaluate-where : Measures 4 evaluate-where-kinds.ps ℕ
+μ-evaluate-where κs a = 4 * (64 - a .1 .1 .1 .0) + 3
 
 abbrev evaluate-and-at : ℕ → In 4 evaluate-and-kinds.ps
 evaluate-and-at t =
@@ -129,6 +135,22 @@ evaluate-row-below t =
     evaluate-row-kinds.ps
     (falls 4 evaluate-row-kinds.ps _<_ μ-evaluate-row t)
     evaluate-row.Pre
+
+abbrev evaluate-where-at : ℕ → In 4 evaluate-where-kinds.ps
+evaluate-where-at t =
+    and
+    4
+    evaluate-where-kinds.ps
+    (is 4 evaluate-where-kinds.ps μ-evaluate-where t)
+    evaluate-where.Pre
+
+abbrev evaluate-where-below : ℕ → In 4 evaluate-where-kinds.ps
+evaluate-where-below t =
+    and
+    4
+    evaluate-where-kinds.ps
+    (falls 4 evaluate-where-kinds.ps _<_ μ-evaluate-where t)
+    evaluate-where.Pre
 
 evaluate-and-add-evaluate-part : (t : ℕ) → evaluate-and-lts.Need-add-evaluate-part (
   evaluate-part-below t,
@@ -234,24 +256,24 @@ evaluate-exists-μ-loop p g file s w depth table first₀ v₀ r₀ first v r = 
 evaluate-exists-mul-table-place : (t : ℕ) → evaluate-exists-lts.Need-mul-table-place (
   table-place-reads.Asked,
   table-place-reads.Learnt,
-  evaluate-part-below t,
-  evaluate-part.Post,
+  evaluate-where-below t,
+  evaluate-where.Post,
 ) (evaluate-exists-at t) evaluate-exists.Post evaluate-exists-Inv-loop evaluate-exists-μ-loop
 evaluate-exists-mul-table-place t c = let z = start (c .before .pre .1 .0) in omega arith
 
 evaluate-exists-add-table-place : (t : ℕ) → evaluate-exists-lts.Need-add-table-place (
   table-place-reads.Asked,
   table-place-reads.Learnt,
-  evaluate-part-below t,
-  evaluate-part.Post,
+  evaluate-where-below t,
+  evaluate-where.Post,
 ) (evaluate-exists-at t) evaluate-exists.Post evaluate-exists-Inv-loop evaluate-exists-μ-loop
 evaluate-exists-add-table-place t c = let z = start (c .before .pre .1 .0) in omega arith
 
 evaluate-exists-mul-table-place-2 : (t : ℕ) → evaluate-exists-lts.Need-mul-table-place-2 (
   table-place-reads.Asked,
   table-place-reads.Learnt,
-  evaluate-part-below t,
-  evaluate-part.Post,
+  evaluate-where-below t,
+  evaluate-where.Post,
 ) (evaluate-exists-at t) evaluate-exists.Post evaluate-exists-Inv-loop evaluate-exists-μ-loop
 evaluate-exists-mul-table-place-2 t c = let z = start (c .before .pre .1 .0) in omega arith
 
@@ -259,66 +281,66 @@ evaluate-exists-element-copy-out-table-place :
     (t : ℕ) → evaluate-exists-lts.Need-element-copy-out-table-place (
       table-place-reads.Asked,
       table-place-reads.Learnt,
-      evaluate-part-below t,
-      evaluate-part.Post,
+      evaluate-where-below t,
+      evaluate-where.Post,
     ) (evaluate-exists-at t) evaluate-exists.Post evaluate-exists-Inv-loop evaluate-exists-μ-loop
 evaluate-exists-element-copy-out-table-place t c = let z = start (c .before .pre .1 .0) in omega arith
 
 evaluate-exists-table-place-requires : (t : ℕ) → evaluate-exists-lts.Need-table-place-requires (
   table-place-reads.Asked,
   table-place-reads.Learnt,
-  evaluate-part-below t,
-  evaluate-part.Post,
+  evaluate-where-below t,
+  evaluate-where.Post,
 ) (evaluate-exists-at t) evaluate-exists.Post evaluate-exists-Inv-loop evaluate-exists-μ-loop
 evaluate-exists-table-place-requires t c κs = let k = c .before .before .pre .1 in range-bounds (k .0) (exists-ranging (k .0) (k .1)) .high
 
 evaluate-exists-loop-holds : (t : ℕ) → evaluate-exists-lts.Need-loop-holds (
   table-place-reads.Asked,
   table-place-reads.Learnt,
-  evaluate-part-below t,
-  evaluate-part.Post,
+  evaluate-where-below t,
+  evaluate-where.Post,
 ) (evaluate-exists-at t) evaluate-exists.Post evaluate-exists-Inv-loop evaluate-exists-μ-loop
 evaluate-exists-loop-holds t c = passed-none _ _ _ _ _ _ 0 _ refl (c .before .before .before .before .pre .1 .0 .readable .standing .size)
 
 evaluate-exists-mul-v : (t : ℕ) → evaluate-exists-lts.Need-mul-v (
   table-place-reads.Asked,
   table-place-reads.Learnt,
-  evaluate-part-below t,
-  evaluate-part.Post,
+  evaluate-where-below t,
+  evaluate-where.Post,
 ) (evaluate-exists-at t) evaluate-exists.Post evaluate-exists-Inv-loop evaluate-exists-μ-loop
 evaluate-exists-mul-v t c = let k = c .before .before .before .before .before .before .before .pre .1 in let z = range-bounds (k .0) (exists-ranging (k .0) (k .1)) in omega arith
 
 evaluate-exists-array-write-v : (t : ℕ) → evaluate-exists-lts.Need-array-write-v (
   table-place-reads.Asked,
   table-place-reads.Learnt,
-  evaluate-part-below t,
-  evaluate-part.Post,
+  evaluate-where-below t,
+  evaluate-where.Post,
 ) (evaluate-exists-at t) evaluate-exists.Post evaluate-exists-Inv-loop evaluate-exists-μ-loop
 evaluate-exists-array-write-v t c = let k = c .before .before .before .before .before .before .before .pre .1 in let z = range-bounds (k .0) (exists-ranging (k .0) (k .1)) in omega arith
 
-evaluate-exists-add-evaluate-part : (t : ℕ) → evaluate-exists-lts.Need-add-evaluate-part (
+evaluate-exists-add-evaluate-where : (t : ℕ) → evaluate-exists-lts.Need-add-evaluate-where (
   table-place-reads.Asked,
   table-place-reads.Learnt,
-  evaluate-part-below t,
-  evaluate-part.Post,
+  evaluate-where-below t,
+  evaluate-where.Post,
 ) (evaluate-exists-at t) evaluate-exists.Post evaluate-exists-Inv-loop evaluate-exists-μ-loop
-evaluate-exists-add-evaluate-part t c = let k = c .before .before .before .before .before .before .before .pre .1 in let z = range-bounds (k .0) (exists-ranging (k .0) (k .1)) in omega arith
+evaluate-exists-add-evaluate-where t c = let k = c .before .before .before .before .before .before .before .pre .1 in let z = range-bounds (k .0) (exists-ranging (k .0) (k .1)) in omega arith
 
-evaluate-exists-add-evaluate-part-2 : (t : ℕ) → evaluate-exists-lts.Need-add-evaluate-part-2 (
+evaluate-exists-add-evaluate-where-2 : (t : ℕ) → evaluate-exists-lts.Need-add-evaluate-where-2 (
   table-place-reads.Asked,
   table-place-reads.Learnt,
-  evaluate-part-below t,
-  evaluate-part.Post,
+  evaluate-where-below t,
+  evaluate-where.Post,
 ) (evaluate-exists-at t) evaluate-exists.Post evaluate-exists-Inv-loop evaluate-exists-μ-loop
-evaluate-exists-add-evaluate-part-2 t c = let k = c .before .before .before .before .before .before .before .before .pre .1 in let z = range-bounds (k .0) (exists-ranging (k .0) (k .1)) in omega arith
+evaluate-exists-add-evaluate-where-2 t c = let k = c .before .before .before .before .before .before .before .before .pre .1 in let z = range-bounds (k .0) (exists-ranging (k .0) (k .1)) in omega arith
 
-evaluate-exists-evaluate-part-requires : (t : ℕ) → evaluate-exists-lts.Need-evaluate-part-requires (
+evaluate-exists-evaluate-where-requires : (t : ℕ) → evaluate-exists-lts.Need-evaluate-where-requires (
   table-place-reads.Asked,
   table-place-reads.Learnt,
-  evaluate-part-below t,
-  evaluate-part.Post,
+  evaluate-where-below t,
+  evaluate-where.Post,
 ) (evaluate-exists-at t) evaluate-exists.Post evaluate-exists-Inv-loop evaluate-exists-μ-loop
-evaluate-exists-evaluate-part-requires t c κs =
+evaluate-exists-evaluate-where-requires t c κs =
     let k = c .before .before .before .before .before .before .before .before .pre in
     let m = k .0 in
     let z = start (k .1 .0) in
@@ -327,17 +349,17 @@ evaluate-exists-evaluate-part-requires t c κs =
 evaluate-exists-returns : (t : ℕ) → evaluate-exists-lts.Need-returns (
   table-place-reads.Asked,
   table-place-reads.Learnt,
-  evaluate-part-below t,
-  evaluate-part.Post,
+  evaluate-where-below t,
+  evaluate-where.Post,
 ) (evaluate-exists-at t) evaluate-exists.Post evaluate-exists-Inv-loop evaluate-exists-μ-loop
 evaluate-exists-returns t c = λ h.
-    exists-true h (c .before .before .before .before .before .before .before .before .before .before .pre .1 .1) (c .before .before .before .before .before .before .before .table-place .ensures) (c .before .before .before .if1 .taken) (c .before .before .before .before .before .loop .inv) (c .before .evaluate-part .result) (c .before .evaluate-part .ensures) (c .if2 .taken)
+    exists-true h (c .before .before .before .before .before .before .before .before .before .before .pre .1 .1) (c .before .before .before .before .before .before .before .table-place .ensures) (c .before .before .before .if1 .taken) (c .before .before .before .before .before .loop .inv) (c .before .evaluate-where .result) (c .before .evaluate-where .ensures) (c .if2 .taken)
 
 evaluate-exists-add-first : (t : ℕ) → evaluate-exists-lts.Need-add-first (
   table-place-reads.Asked,
   table-place-reads.Learnt,
-  evaluate-part-below t,
-  evaluate-part.Post,
+  evaluate-where-below t,
+  evaluate-where.Post,
 ) (evaluate-exists-at t) evaluate-exists.Post evaluate-exists-Inv-loop evaluate-exists-μ-loop
 evaluate-exists-add-first t c =
     let k = c .before .before .before .before .before .before .before .before .before .before .before .pre .1 in
@@ -347,34 +369,34 @@ evaluate-exists-add-first t c =
 evaluate-exists-add-r : (t : ℕ) → evaluate-exists-lts.Need-add-r (
   table-place-reads.Asked,
   table-place-reads.Learnt,
-  evaluate-part-below t,
-  evaluate-part.Post,
+  evaluate-where-below t,
+  evaluate-where.Post,
 ) (evaluate-exists-at t) evaluate-exists.Post evaluate-exists-Inv-loop evaluate-exists-μ-loop
 evaluate-exists-add-r t c = omega arith
 
 evaluate-exists-loop-less : (t : ℕ) → evaluate-exists-lts.Need-loop-less (
   table-place-reads.Asked,
   table-place-reads.Learnt,
-  evaluate-part-below t,
-  evaluate-part.Post,
+  evaluate-where-below t,
+  evaluate-where.Post,
 ) (evaluate-exists-at t) evaluate-exists.Post evaluate-exists-Inv-loop evaluate-exists-μ-loop
 evaluate-exists-loop-less t c = omega arith
 
 evaluate-exists-loop-again : (t : ℕ) → evaluate-exists-lts.Need-loop-again (
   table-place-reads.Asked,
   table-place-reads.Learnt,
-  evaluate-part-below t,
-  evaluate-part.Post,
+  evaluate-where-below t,
+  evaluate-where.Post,
 ) (evaluate-exists-at t) evaluate-exists.Post evaluate-exists-Inv-loop evaluate-exists-μ-loop
 evaluate-exists-loop-again t c =
     passed-more _ _ _ _ _ _ 0 _ refl (c .before .before .before .before .before .before .loop .inv) (c .before .before .before .before .if1 .taken) 0 (λ e. omega arith) (λ h.
-    exists-lost h (c .before .before .before .before .before .before .before .before .before .before .before .pre .1 .1) (c .before .before .before .before .before .before .before .before .table-place .ensures) (c .before .before .before .before .if1 .taken) (c .before .before .before .before .before .before .loop .inv) (c .before .before .evaluate-part .result) (c .before .before .evaluate-part .ensures) (c .before .if2 .left)) 0 refl
+    exists-lost h (c .before .before .before .before .before .before .before .before .before .before .before .pre .1 .1) (c .before .before .before .before .before .before .before .before .table-place .ensures) (c .before .before .before .before .if1 .taken) (c .before .before .before .before .before .before .loop .inv) (c .before .before .evaluate-where .result) (c .before .before .evaluate-where .ensures) (c .before .if2 .left)) 0 refl
 
 evaluate-exists-returns-2 : (t : ℕ) → evaluate-exists-lts.Need-returns-2 (
   table-place-reads.Asked,
   table-place-reads.Learnt,
-  evaluate-part-below t,
-  evaluate-part.Post,
+  evaluate-where-below t,
+  evaluate-where.Post,
 ) (evaluate-exists-at t) evaluate-exists.Post evaluate-exists-Inv-loop evaluate-exists-μ-loop
 evaluate-exists-returns-2 t c = λ h. exists-false h (c .before .before .before .before .before .before .before .pre .1 .1) (c .before .before .before .before .table-place .ensures) (c .before .before .loop .inv) (c .if1 .left)
 
@@ -1122,39 +1144,39 @@ evaluate-part-returns-7 : (t : ℕ) → evaluate-part-lts.Need-returns-7 (
 ) (evaluate-part-at t) evaluate-part.Post
 evaluate-part-returns-7 t c = λ h. let (low, high) = test-kinds h (c .before .match .rest) in test-evaluated h low high (c .evaluate-test .result) (c .evaluate-test .ensures)
 
-evaluate-row-add-evaluate-part : (t : ℕ) → evaluate-row-lts.Need-add-evaluate-part (
-  evaluate-part-below t,
-  evaluate-part.Post,
+evaluate-row-add-evaluate-where : (t : ℕ) → evaluate-row-lts.Need-add-evaluate-where (
+  evaluate-where-below t,
+  evaluate-where.Post,
   look-reads.Asked,
   look-reads.Learnt,
   compare-reads.Asked,
   compare-reads.Learnt,
 ) (evaluate-row-at t) evaluate-row.Post
-evaluate-row-add-evaluate-part t c = let z = row-start (c .before .pre .1) in omega arith
+evaluate-row-add-evaluate-where t c = let z = row-start (c .before .pre .1) in omega arith
 
-evaluate-row-evaluate-part-requires : (t : ℕ) → evaluate-row-lts.Need-evaluate-part-requires (
-  evaluate-part-below t,
-  evaluate-part.Post,
+evaluate-row-evaluate-where-requires : (t : ℕ) → evaluate-row-lts.Need-evaluate-where-requires (
+  evaluate-where-below t,
+  evaluate-where.Post,
   look-reads.Asked,
   look-reads.Learnt,
   compare-reads.Asked,
   compare-reads.Learnt,
 ) (evaluate-row-at t) evaluate-row.Post
-evaluate-row-evaluate-part-requires t c κs = let m = c .before .pre .0 in let z = row-start (c .before .pre .1) in (omega arith, c .before .pre .1 .inner)
+evaluate-row-evaluate-where-requires t c κs = let m = c .before .pre .0 in let z = row-start (c .before .pre .1) in (omega arith, c .before .pre .1 .inner)
 
 evaluate-row-returns : (t : ℕ) → evaluate-row-lts.Need-returns (
-  evaluate-part-below t,
-  evaluate-part.Post,
+  evaluate-where-below t,
+  evaluate-where.Post,
   look-reads.Asked,
   look-reads.Learnt,
   compare-reads.Asked,
   compare-reads.Learnt,
 ) (evaluate-row-at t) evaluate-row.Post
-evaluate-row-returns t c = λ h. row-lost h (c .before .evaluate-part .result) (c .before .evaluate-part .ensures) (λ e. omega (arith, e, c .if1 .taken))
+evaluate-row-returns t c = λ h. row-lost h (c .before .evaluate-where .result) (c .before .evaluate-where .ensures) (λ e. omega (arith, e, c .if1 .taken))
 
 evaluate-row-mul-look : (t : ℕ) → evaluate-row-lts.Need-mul-look (
-  evaluate-part-below t,
-  evaluate-part.Post,
+  evaluate-where-below t,
+  evaluate-where.Post,
   look-reads.Asked,
   look-reads.Learnt,
   compare-reads.Asked,
@@ -1163,8 +1185,8 @@ evaluate-row-mul-look : (t : ℕ) → evaluate-row-lts.Need-mul-look (
 evaluate-row-mul-look t c = let z = row-start (c .before .before .before .pre .1) in omega arith
 
 evaluate-row-add-look : (t : ℕ) → evaluate-row-lts.Need-add-look (
-  evaluate-part-below t,
-  evaluate-part.Post,
+  evaluate-where-below t,
+  evaluate-where.Post,
   look-reads.Asked,
   look-reads.Learnt,
   compare-reads.Asked,
@@ -1173,8 +1195,8 @@ evaluate-row-add-look : (t : ℕ) → evaluate-row-lts.Need-add-look (
 evaluate-row-add-look t c = let z = row-start (c .before .before .before .pre .1) in omega arith
 
 evaluate-row-mul-look-2 : (t : ℕ) → evaluate-row-lts.Need-mul-look-2 (
-  evaluate-part-below t,
-  evaluate-part.Post,
+  evaluate-where-below t,
+  evaluate-where.Post,
   look-reads.Asked,
   look-reads.Learnt,
   compare-reads.Asked,
@@ -1183,8 +1205,8 @@ evaluate-row-mul-look-2 : (t : ℕ) → evaluate-row-lts.Need-mul-look-2 (
 evaluate-row-mul-look-2 t c = let z = row-start (c .before .before .before .pre .1) in omega arith
 
 evaluate-row-element-copy-out-look : (t : ℕ) → evaluate-row-lts.Need-element-copy-out-look (
-  evaluate-part-below t,
-  evaluate-part.Post,
+  evaluate-where-below t,
+  evaluate-where.Post,
   look-reads.Asked,
   look-reads.Learnt,
   compare-reads.Asked,
@@ -1193,8 +1215,8 @@ evaluate-row-element-copy-out-look : (t : ℕ) → evaluate-row-lts.Need-element
 evaluate-row-element-copy-out-look t c = let z = row-start (c .before .before .before .pre .1) in omega arith
 
 evaluate-row-mul-look-3 : (t : ℕ) → evaluate-row-lts.Need-mul-look-3 (
-  evaluate-part-below t,
-  evaluate-part.Post,
+  evaluate-where-below t,
+  evaluate-where.Post,
   look-reads.Asked,
   look-reads.Learnt,
   compare-reads.Asked,
@@ -1203,8 +1225,8 @@ evaluate-row-mul-look-3 : (t : ℕ) → evaluate-row-lts.Need-mul-look-3 (
 evaluate-row-mul-look-3 t c = let z = row-start (c .before .before .before .before .pre .1) in omega arith
 
 evaluate-row-add-look-2 : (t : ℕ) → evaluate-row-lts.Need-add-look-2 (
-  evaluate-part-below t,
-  evaluate-part.Post,
+  evaluate-where-below t,
+  evaluate-where.Post,
   look-reads.Asked,
   look-reads.Learnt,
   compare-reads.Asked,
@@ -1213,8 +1235,8 @@ evaluate-row-add-look-2 : (t : ℕ) → evaluate-row-lts.Need-add-look-2 (
 evaluate-row-add-look-2 t c = let z = row-start (c .before .before .before .before .pre .1) in omega arith
 
 evaluate-row-mul-look-4 : (t : ℕ) → evaluate-row-lts.Need-mul-look-4 (
-  evaluate-part-below t,
-  evaluate-part.Post,
+  evaluate-where-below t,
+  evaluate-where.Post,
   look-reads.Asked,
   look-reads.Learnt,
   compare-reads.Asked,
@@ -1223,8 +1245,8 @@ evaluate-row-mul-look-4 : (t : ℕ) → evaluate-row-lts.Need-mul-look-4 (
 evaluate-row-mul-look-4 t c = let z = row-start (c .before .before .before .before .pre .1) in omega arith
 
 evaluate-row-element-copy-out-look-2 : (t : ℕ) → evaluate-row-lts.Need-element-copy-out-look-2 (
-  evaluate-part-below t,
-  evaluate-part.Post,
+  evaluate-where-below t,
+  evaluate-where.Post,
   look-reads.Asked,
   look-reads.Learnt,
   compare-reads.Asked,
@@ -1233,8 +1255,8 @@ evaluate-row-element-copy-out-look-2 : (t : ℕ) → evaluate-row-lts.Need-eleme
 evaluate-row-element-copy-out-look-2 t c = let z = row-start (c .before .before .before .before .pre .1) in omega arith
 
 evaluate-row-look-requires : (t : ℕ) → evaluate-row-lts.Need-look-requires (
-  evaluate-part-below t,
-  evaluate-part.Post,
+  evaluate-where-below t,
+  evaluate-where.Post,
   look-reads.Asked,
   look-reads.Learnt,
   compare-reads.Asked,
@@ -1243,8 +1265,8 @@ evaluate-row-look-requires : (t : ℕ) → evaluate-row-lts.Need-look-requires (
 evaluate-row-look-requires t c κs = selected-ready (c .before .before .before .before .before .pre .1)
 
 evaluate-row-mul-compare : (t : ℕ) → evaluate-row-lts.Need-mul-compare (
-  evaluate-part-below t,
-  evaluate-part.Post,
+  evaluate-where-below t,
+  evaluate-where.Post,
   look-reads.Asked,
   look-reads.Learnt,
   compare-reads.Asked,
@@ -1253,8 +1275,8 @@ evaluate-row-mul-compare : (t : ℕ) → evaluate-row-lts.Need-mul-compare (
 evaluate-row-mul-compare t c = let z = row-start (c .before .before .before .before .before .before .pre .1) in omega arith
 
 evaluate-row-add-compare : (t : ℕ) → evaluate-row-lts.Need-add-compare (
-  evaluate-part-below t,
-  evaluate-part.Post,
+  evaluate-where-below t,
+  evaluate-where.Post,
   look-reads.Asked,
   look-reads.Learnt,
   compare-reads.Asked,
@@ -1263,8 +1285,8 @@ evaluate-row-add-compare : (t : ℕ) → evaluate-row-lts.Need-add-compare (
 evaluate-row-add-compare t c = let z = row-start (c .before .before .before .before .before .before .pre .1) in omega arith
 
 evaluate-row-mul-compare-2 : (t : ℕ) → evaluate-row-lts.Need-mul-compare-2 (
-  evaluate-part-below t,
-  evaluate-part.Post,
+  evaluate-where-below t,
+  evaluate-where.Post,
   look-reads.Asked,
   look-reads.Learnt,
   compare-reads.Asked,
@@ -1273,8 +1295,8 @@ evaluate-row-mul-compare-2 : (t : ℕ) → evaluate-row-lts.Need-mul-compare-2 (
 evaluate-row-mul-compare-2 t c = let z = row-start (c .before .before .before .before .before .before .pre .1) in omega arith
 
 evaluate-row-element-copy-out-compare : (t : ℕ) → evaluate-row-lts.Need-element-copy-out-compare (
-  evaluate-part-below t,
-  evaluate-part.Post,
+  evaluate-where-below t,
+  evaluate-where.Post,
   look-reads.Asked,
   look-reads.Learnt,
   compare-reads.Asked,
@@ -1283,8 +1305,8 @@ evaluate-row-element-copy-out-compare : (t : ℕ) → evaluate-row-lts.Need-elem
 evaluate-row-element-copy-out-compare t c = let z = row-start (c .before .before .before .before .before .before .pre .1) in omega arith
 
 evaluate-row-compare-requires : (t : ℕ) → evaluate-row-lts.Need-compare-requires (
-  evaluate-part-below t,
-  evaluate-part.Post,
+  evaluate-where-below t,
+  evaluate-where.Post,
   look-reads.Asked,
   look-reads.Learnt,
   compare-reads.Asked,
@@ -1293,18 +1315,74 @@ evaluate-row-compare-requires : (t : ℕ) → evaluate-row-lts.Need-compare-requ
 evaluate-row-compare-requires t c κs = search needs
 
 evaluate-row-returns-2 : (t : ℕ) → evaluate-row-lts.Need-returns-2 (
-  evaluate-part-below t,
-  evaluate-part.Post,
+  evaluate-where-below t,
+  evaluate-where.Post,
   look-reads.Asked,
   look-reads.Learnt,
   compare-reads.Asked,
   compare-reads.Learnt,
 ) (evaluate-row-at t) evaluate-row.Post
-evaluate-row-returns-2 t c = λ h. row-compared h (c .before .before .before .before .before .before .evaluate-part .result) (c .before .before .before .before .before .before .evaluate-part .ensures) (c .before .before .before .before .before .if1 .left) (c .before .before .look .result) (c .before .before .look .ensures) _ (c .compare .ensures)
+evaluate-row-returns-2 t c = λ h. row-compared h (c .before .before .before .before .before .before .evaluate-where .result) (c .before .before .before .before .before .before .evaluate-where .ensures) (c .before .before .before .before .before .if1 .left) (c .before .before .look .result) (c .before .before .look .ensures) _ (c .compare .ensures)
 
-pub +evaluate-and+evaluate-exists+evaluate-list+evaluate-or+evaluate-part+evaluate-row-spec :
+evaluate-where-mul-kind : (t : ℕ) → evaluate-where-lts.Need-mul-kind (
+  evaluate-test-reads.Asked,
+  evaluate-test-reads.Learnt,
+  evaluate-part-below t,
+  evaluate-part.Post,
+) (evaluate-where-at t) evaluate-where.Post
+evaluate-where-mul-kind t c = let z = start (c .before .pre .1) in omega arith
+
+evaluate-where-mul-kind-2 : (t : ℕ) → evaluate-where-lts.Need-mul-kind-2 (
+  evaluate-test-reads.Asked,
+  evaluate-test-reads.Learnt,
+  evaluate-part-below t,
+  evaluate-part.Post,
+) (evaluate-where-at t) evaluate-where.Post
+evaluate-where-mul-kind-2 t c = let z = start (c .before .pre .1) in omega arith
+
+evaluate-where-element-copy-out-kind : (t : ℕ) → evaluate-where-lts.Need-element-copy-out-kind (
+  evaluate-test-reads.Asked,
+  evaluate-test-reads.Learnt,
+  evaluate-part-below t,
+  evaluate-part.Post,
+) (evaluate-where-at t) evaluate-where.Post
+evaluate-where-element-copy-out-kind t c = let z = start (c .before .pre .1) in omega arith
+
+evaluate-where-evaluate-test-requires : (t : ℕ) → evaluate-where-lts.Need-evaluate-test-requires (
+  evaluate-test-reads.Asked,
+  evaluate-test-reads.Learnt,
+  evaluate-part-below t,
+  evaluate-part.Post,
+) (evaluate-where-at t) evaluate-where.Post
+evaluate-where-evaluate-test-requires t c κs = test-ready (c .before .before .before .before .pre .1) (c .before .if1 .left) (omega (arith, c .if2 .taken))
+
+evaluate-where-evaluate-part-requires : (t : ℕ) → evaluate-where-lts.Need-evaluate-part-requires (
+  evaluate-test-reads.Asked,
+  evaluate-test-reads.Learnt,
+  evaluate-part-below t,
+  evaluate-part.Post,
+) (evaluate-where-at t) evaluate-where.Post
+evaluate-where-evaluate-part-requires t c κs = let m = c .before .before .before .pre .0 in let z = start (c .before .before .before .pre .1) in (omega arith, c .before .before .before .pre .1)
+
+evaluate-where-returns : (t : ℕ) → evaluate-where-lts.Need-returns (
+  evaluate-test-reads.Asked,
+  evaluate-test-reads.Learnt,
+  evaluate-part-below t,
+  evaluate-part.Post,
+) (evaluate-where-at t) evaluate-where.Post
+evaluate-where-returns t c = λ h. test-evaluated h (c .before .before .if1 .left) (omega (arith, c .before .if2 .taken)) (c .evaluate-test .result) (c .evaluate-test .ensures)
+
+evaluate-where-returns-2 : (t : ℕ) → evaluate-where-lts.Need-returns-2 (
+  evaluate-test-reads.Asked,
+  evaluate-test-reads.Learnt,
+  evaluate-part-below t,
+  evaluate-part.Post,
+) (evaluate-where-at t) evaluate-where.Post
+evaluate-where-returns-2 t c = c .evaluate-part .ensures
+
+pub +evaluate-and+evaluate-exists+evaluate-list+evaluate-or+evaluate-part+evaluate-row+evaluate-where-spec :
     {M : Type 1} → statement M
-+evaluate-and+evaluate-exists+evaluate-list+evaluate-or+evaluate-part+evaluate-row-spec =
++evaluate-and+evaluate-exists+evaluate-list+evaluate-or+evaluate-part+evaluate-row+evaluate-where-spec =
     close
     μ-evaluate-and
     μ-evaluate-exists
@@ -1312,6 +1390,7 @@ pub +evaluate-and+evaluate-exists+evaluate-list+evaluate-or+evaluate-part+evalua
     μ-evaluate-or
     μ-evaluate-part
     μ-evaluate-row
+    μ-evaluate-where
     (λ t. evaluate-and-lts.spec (
       evaluate-part-below t,
       evaluate-part.Post,
@@ -1334,8 +1413,8 @@ pub +evaluate-and+evaluate-exists+evaluate-list+evaluate-or+evaluate-part+evalua
     (λ t. evaluate-exists-lts.spec (
       table-place-reads.Asked,
       table-place-reads.Learnt,
-      evaluate-part-below t,
-      evaluate-part.Post,
+      evaluate-where-below t,
+      evaluate-where.Post,
     )
     (evaluate-exists-at t)
     evaluate-exists.Post
@@ -1349,9 +1428,9 @@ pub +evaluate-and+evaluate-exists+evaluate-list+evaluate-or+evaluate-part+evalua
     (evaluate-exists-loop-holds t)
     (evaluate-exists-mul-v t)
     (evaluate-exists-array-write-v t)
-    (evaluate-exists-add-evaluate-part t)
-    (evaluate-exists-add-evaluate-part-2 t)
-    (evaluate-exists-evaluate-part-requires t)
+    (evaluate-exists-add-evaluate-where t)
+    (evaluate-exists-add-evaluate-where-2 t)
+    (evaluate-exists-evaluate-where-requires t)
     (evaluate-exists-returns t)
     (evaluate-exists-add-first t)
     (evaluate-exists-add-r t)
@@ -1453,9 +1532,9 @@ pub +evaluate-and+evaluate-exists+evaluate-list+evaluate-or+evaluate-part+evalua
     (evaluate-part-returns-5 t)
     (evaluate-part-returns-6 t)
     (evaluate-part-returns-7 t))
-    λ t. evaluate-row-lts.spec (
-      evaluate-part-below t,
-      evaluate-part.Post,
+    (λ t. evaluate-row-lts.spec (
+      evaluate-where-below t,
+      evaluate-where.Post,
       look-reads.Asked,
       look-reads.Learnt,
       compare-reads.Asked,
@@ -1463,8 +1542,8 @@ pub +evaluate-and+evaluate-exists+evaluate-list+evaluate-or+evaluate-part+evalua
     )
     (evaluate-row-at t)
     evaluate-row.Post
-    (evaluate-row-add-evaluate-part t)
-    (evaluate-row-evaluate-part-requires t)
+    (evaluate-row-add-evaluate-where t)
+    (evaluate-row-evaluate-where-requires t)
     (evaluate-row-returns t)
     (evaluate-row-mul-look t)
     (evaluate-row-add-look t)
@@ -1480,4 +1559,19 @@ pub +evaluate-and+evaluate-exists+evaluate-list+evaluate-or+evaluate-part+evalua
     (evaluate-row-mul-compare-2 t)
     (evaluate-row-element-copy-out-compare t)
     (evaluate-row-compare-requires t)
-    (evaluate-row-returns-2 t)
+    (evaluate-row-returns-2 t))
+    λ t. evaluate-where-lts.spec (
+      evaluate-test-reads.Asked,
+      evaluate-test-reads.Learnt,
+      evaluate-part-below t,
+      evaluate-part.Post,
+    )
+    (evaluate-where-at t)
+    evaluate-where.Post
+    (evaluate-where-mul-kind t)
+    (evaluate-where-mul-kind-2 t)
+    (evaluate-where-element-copy-out-kind t)
+    (evaluate-where-evaluate-test-requires t)
+    (evaluate-where-evaluate-part-requires t)
+    (evaluate-where-returns t)
+    (evaluate-where-returns-2 t)
