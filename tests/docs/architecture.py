@@ -61,8 +61,11 @@ def check_crates():
             faults.append(f"an edit of {name} rechecks {sorted(above - {name})}, not {quoted(cells[4])}")
 
 
-def defined(name, text):
-    return re.search(rf"(?:pub (?:record|data)|pub|fn|struct|enum|const) {re.escape(name)}\b", text) or re.search(rf"^  (?:pub )?{re.escape(name)} :", text, re.M)
+def is_defined(name, text):
+    """Whether a definition, function, type, constant, constructor or field has this name."""
+    word = re.escape(name)
+    return (re.search(rf"\b(?:pub (?:record|data)|pub|fn|struct|enum|const) {word}(?![\w-])", text)
+            or re.search(rf"^ +(?:pub )?(?:[\w′-]+ )*{word}(?: [\w′-]+)* :", text, re.M))
 
 
 def check_index():
@@ -76,8 +79,7 @@ def check_index():
                 if not re.fullmatch(r"[A-Za-z_][\w-]*", word):
                     continue
                 found += 1
-                constructor = re.search(rf"^  (?:\w+ )*{re.escape(word)}\b", everything, re.M) and re.search(rf"\b{re.escape(word)}\b", everything)
-                if not defined(word, everything) and not constructor and not (ROOT / "crates" / word).is_dir():
+                if not is_defined(word, everything) and not (ROOT / "crates" / word).is_dir():
                     faults.append(f"the index names {name}, which is defined nowhere")
             for path in re.findall(r"\b([a-z_]+/(?:specs|src)/\w+\.(?:antt|rt))", cell):
                 if not (ROOT / "crates" / path).is_file():
