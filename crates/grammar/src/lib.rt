@@ -77,23 +77,15 @@ pub struct Note {
     pub right_number: usize,
 }
 
-// A value, and the place after it.
+// A value, its letter and its number, and the place after it.
 pub enum ValueRead {
-    Value {
-        letter: usize,
-        number: usize,
-        next: usize,
-    },
+    Value(usize, usize, usize),
     NoValue,
 }
 
-// FROM number letter WHERE, and the place after it.
+// FROM number letter WHERE: the number, the letter, and the place after it.
 pub enum FromRead {
-    From {
-        table: usize,
-        letter: usize,
-        next: usize,
-    },
+    From(usize, usize, usize),
     NoFrom,
 }
 
@@ -133,11 +125,7 @@ fn read_value(s: &[usize], at: usize) -> ValueRead
 {
     let t = token(s, at);
     if NUMBER <= t {
-        return ValueRead::Value {
-            letter: 0,
-            number: t - NUMBER,
-            next: at + 1,
-        };
+        return ValueRead::Value(0, t - NUMBER, at + 1);
     }
     if t <= COMPARES + 6 {
         return ValueRead::NoValue;
@@ -149,11 +137,7 @@ fn read_value(s: &[usize], at: usize) -> ValueRead
     if n < NUMBER {
         return ValueRead::NoValue;
     }
-    ValueRead::Value {
-        letter: t,
-        number: n - NUMBER,
-        next: at + 3,
-    }
+    ValueRead::Value(t, n - NUMBER, at + 3)
 }
 
 // FROM number letter WHERE.
@@ -178,11 +162,7 @@ fn read_from(s: &[usize], at: usize) -> FromRead
     if token(s, at + 3) != WHERE {
         return FromRead::NoFrom;
     }
-    FromRead::From {
-        table: n - NUMBER,
-        letter: x,
-        next: at + 4,
-    }
+    FromRead::From(n - NUMBER, x, at + 4)
 }
 
 // ( SELECT value FROM number letter WHERE, after the value and what compares it; kind 8 or 9.
@@ -203,20 +183,10 @@ fn start_list(
     if token(s, at + 1) != SELECT {
         return Start::NoTest;
     }
-    let ValueRead::Value {
-        letter: right_letter,
-        number: right_number,
-        next: behind,
-    } = read_value(s, at + 2)
-    else {
+    let ValueRead::Value(right_letter, right_number, behind) = read_value(s, at + 2) else {
         return Start::NoTest;
     };
-    let FromRead::From {
-        table,
-        letter: bound,
-        next,
-    } = read_from(s, behind)
-    else {
+    let FromRead::From(table, bound, next) = read_from(s, behind) else {
         return Start::NoTest;
     };
     let note = Note {
@@ -285,12 +255,7 @@ fn start_comparison(s: &[usize], at: usize, letter: usize, number: usize) -> Sta
     if t == ALL {
         return start_list(s, at + 2, ALL_PART, comparison, letter, number);
     }
-    let ValueRead::Value {
-        letter: right_letter,
-        number: right_number,
-        next,
-    } = read_value(s, at + 1)
-    else {
+    let ValueRead::Value(right_letter, right_number, next) = read_value(s, at + 1) else {
         return Start::NoTest;
     };
     let note = Note {
@@ -341,12 +306,7 @@ fn start_exists(s: &[usize], at: usize) -> Start
     if token(s, at + 1) != OPEN {
         return Start::NoTest;
     }
-    let FromRead::From {
-        table,
-        letter,
-        next,
-    } = read_from(s, at + 2)
-    else {
+    let FromRead::From(table, letter, next) = read_from(s, at + 2) else {
         return Start::NoTest;
     };
     let note = Note {
@@ -374,12 +334,7 @@ fn start_test(s: &[usize], at: usize) -> Start
     if t == EXISTS {
         return start_exists(s, at);
     }
-    let ValueRead::Value {
-        letter,
-        number,
-        next,
-    } = read_value(s, at)
-    else {
+    let ValueRead::Value(letter, number, next) = read_value(s, at) else {
         return Start::NoTest;
     };
     start_value(s, next, letter, number)
