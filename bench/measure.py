@@ -8,6 +8,7 @@ import contextlib
 import os
 import pathlib
 import re
+import signal
 import subprocess
 import sys
 import tempfile
@@ -25,7 +26,7 @@ sys.path += [str(ROOT / "bindings" / "python"), str(ROOT / "tests" / "model")]
 import generate  # noqa: E402
 import roskudla  # noqa: E402
 
-ROUNDS = 4
+ROUNDS = 8
 ENGINES = ("SQLite", "PostgreSQL")
 LATE = float("inf")  # the time of a query that takes longer than it may
 COMPUTED_FROM, COMPUTED_FOR = 200, 1000  # rows of the longest RUN: measured, and computed from that
@@ -244,6 +245,8 @@ def main():
     parser.add_argument("--quick", action="store_true", help="one round, no PostgreSQL, not the longest RUNs")
     parser.add_argument("--worst", action="store_true", help="measure the longest RUN whole, which takes a quarter of an hour and more")
     words = parser.parse_args()
+    for ending in (signal.SIGTERM, signal.SIGHUP):
+        signal.signal(ending, lambda number, _: sys.exit(128 + number))  # so that PostgreSQL's server is stopped too
     try:
         measure(words.quick, words.worst)
     except (programs.Different, engines.EngineError, engines.ServerError) as error:

@@ -1142,7 +1142,7 @@ def check_worked_cards(manual, ask, known):
         if source[1]:
             demand(f"{example.name}, the columns that are said", f"one table of {file[1]} columns" in example.about)
     same("other texts with the same card", COUNTS["other texts with the same card"], 1)
-    room, = manual.numbers_said(5, r"than the card: (\d+) bytes for card A\.")
+    room, = manual.numbers_said(5, r"than the card, as with (\d+) bytes for card A\.")
     text = re.search(r"The rule `([^`]*)`", examples[0].about)[1].encode()
     answers = [ask.card(text, known["A was made with"][0], lent) for lent in (0, room, room + 1)]
     same("CARD of A with little room", answers, [model.Refused(12), model.Refused(12), known["A"]])
@@ -1336,7 +1336,7 @@ SENTENCES = (
     (2, "the first inner entry of entry i is entry i + #, and the second is the entry whose number is the end of the first.", (1,)),
     (2, "The end of an entry of kinds # to # is i + #, that of kinds # and # the end of its inner entry, "
         "that of kinds # and # the end of its second inner entry, and that of entry # is n.", (5, 8, 1, 3, 4, 1, 2, 0)),
-    (3, "CHECK accepts a card exactly when all of these hold, and refuses any other bytes with #:", (9,)),
+    (3, "CHECK accepts a card exactly when all of these hold, and refuses any other bytes with #.", (9,)),
     (3, "All four bytes of a constant are free, and a constant may stand wherever a value is used, in kinds # and # too.", (model.BLANK, model.NOT_BLANK)),
     (4, "The answer of a card on a row of table # is that of entry #, with level # at that row.", (1, 0, 0)),
     (4, "It refuses with the first of these that applies: # or #, by the tables file; #, the card is not sound; #, the card's T differs from the file's, "
@@ -1349,7 +1349,7 @@ SENTENCES = (
     (5, "`#` alone is an entry of kind #, and `#(x)` and `#(x, y)` are entries with their inner entries.", (5, 5, 3, 1)),
     (5, "Negating an entry replaces its kind, and in kinds # and # its comparison, by the number under Negated in section #,", (5, 6, 2)),
     (5, "With any later tables file that is not refused with # or # and has the same T and the same columns,", (1, 2)),
-    (5, "CARD refuses with # where the lent buffer has fewer bytes than the card:", (12,)),
+    (5, "CARD refuses with # where the lent buffer has fewer bytes than the card,", (12,)),
     (5, "Entry # is the negated WHERE, entry # the comparison with the selected value.", (2, 3)),
     (6, "so compare parts field by field; see # in [DECISIONS.md]", (29,)),
     (6, "Fields that a kind does not use are #. In kinds # and # the right value is the selected one,", (0, model.KIND_SOME, model.KIND_ALL)),
