@@ -35,7 +35,7 @@ PromiseClaim = (text file : List ℕ) → Accepted text file → Promised text f
 abbrev pub WholeFilesClaim : Type 0
 WholeFilesClaim = (text file : List ℕ) → output (take readOfText text) (take readOfTables file) ≡ output text file
 
--- decimal digits stand for their number, as in a rule's text: each digit is one of 0 to 9, a 0 stands at the front only by itself, and the digits spell the number
+-- decimal digits stand for their number, up to 9,999, as in a rule's text: each digit is one of 0 to 9, a 0 stands at the front only by itself, and the digits spell the number
 pub record DecimalClaim : Type 0 where
   pub zero-is : decimal 0 ≡ 48 ∷ []
   pub value : (n : ℕ) → n < 10000 → spelled 0 (decimal n) ≡ n

@@ -1,22 +1,21 @@
 -- The sizes of a tables file, table by table: where a table's cells start, and what is known of a file that is not refused with 1.
 use mathlib.Core.Path.{_≡_, refl, sym, ap, ap₂, subst, _∙_}
-use mathlib.Core.Bool.{Bool, true, false, _&&_, and-true, and-false}
-use mathlib.Core.List.{List, map}
-use Prim.Native.Nat.{ℕ, zero, suc, _+_, _-_, _*_, _/_, _%_, _≤_, _<_}
-use native.Mathlib.Nat.{le-of-suc-le-suc, not-suc-le-zero}
+use mathlib.Core.Bool.{Bool, true, false, _&&_, and-false}
+use mathlib.Core.List.{List}
+use Prim.Native.Nat.{ℕ, suc, _+_, _*_, _/_, _%_, _≤_, _<_, _-_}
 use native.Mathlib.Numerals.{add-one}
 use native.Mathlib.Omega.{arith}
 use borrow.Author.Tests.{le-leb, leb-true}
 use lib.Dec.{T, leb, eqb, leb→le, eqb→eq}
 use lib.Ieee.Fits.{and-l, and-r}
-use lib.ListN.{length, getD, take, set, length-set}
-use Rattle.tables.specs.Lists.{tabulate, all, total}
+use lib.ListN.{length, getD, set, length-set}
+use Rattle.tables.specs.Lists.{tabulate, all}
 use Rattle.tables.specs.Bytes.{between, byteAt}
-use Rattle.tables.specs.Tables.{mostTables, mostColumns, mostRows, mostCells, highestMark, Size, tableCount, sizeAt, sizes, cellsIn, cellsBefore, cellCount, valuesAt, marksAt, markOf, sizeFits, sizesFit, marksFit}
+use Rattle.tables.specs.Tables.{mostTables, mostColumns, mostRows, mostCells, highestMark, tableCount, sizeAt, sizes, cellsBefore, cellCount, valuesAt, marksAt, markOf, sizeFits, sizesFit, marksFit}
 use Rattle.cells.specs.Code.{Holds, SizeIn, Sized, placesOf, placeOf, Places}
 use Rattle.tables.proofs.Tests.{is-so, refuted}
 use Rattle.tables.proofs.Tabulated.{all-each, all-of, all-more}
-use Rattle.tables.proofs.Numbering.{cells-none, cells-more, cells-all, cells-within}
+use Rattle.tables.proofs.Numbering.{cells-more, cells-all, cells-within}
 use Rattle.cells.proofs.Holding.{holds-more, holds-none}
 
 -- ---- the test of the sizes

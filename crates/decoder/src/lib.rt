@@ -37,9 +37,9 @@ pub const DECODED: usize = FIELDS * MOST_ENTRIES;
 
 // A card with no more entries than these is decoded into an array that is no longer: to set the numbers of an array for all entries to 0 takes longer than
 // to run a short card.
-pub const FEW_ENTRIES: usize = 16;
+const FEW_ENTRIES: usize = 16;
 
-pub const MIDDLE_ENTRIES: usize = 64;
+const MIDDLE_ENTRIES: usize = 64;
 
 // The numbers of so many entries, and the bytes of the longest card that has no more.
 pub const FEW_DECODED: usize = FIELDS * FEW_ENTRIES;

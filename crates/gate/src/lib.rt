@@ -158,7 +158,7 @@ fn copy_rows(kept: &[u32; MOST_ROWS], k: usize, out: &mut [u32])
     }
 }
 
-// How many rows stand in the list, or why there are none.
+// How many rows stand in the list, or why LIST refuses.
 pub enum Listed {
     Rows(usize),
     NotListed(Reason),

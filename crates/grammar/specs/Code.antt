@@ -4,11 +4,11 @@ use mathlib.Core.Path.{_≡_}
 use mathlib.Core.Bool.{cond}
 use mathlib.Core.List.{List, [], _∷_, _++_}
 use mathlib.Core.Option.{Option, none, some}
-use Prim.Native.Nat.{ℕ, zero, suc, _+_, _*_, _-_, _<_, _≤_}
+use Prim.Native.Nat.{ℕ, zero, suc, _+_, _*_, _<_, _≤_, _-_}
 use lib.Dec.{eqb}
 use lib.ListN.{length, take, drop}
 use Rattle.tables.specs.Lists.{_>>=_}
-use Rattle.tables.specs.Values.{comparisonNumber, comparisonOf, And, Or, Quantifier, Some, All}
+use Rattle.tables.specs.Values.{comparisonNumber, comparisonOf, And, Or, Quantifier}
 use Rattle.cells.specs.Code.{fromExcess, toExcess}
 use Rattle.rule.specs.Tokens.{Close}
 use Rattle.rule.specs.Condition.{Compare, IsNull, IsNotNull, Atom, Join, Not, Exists, Listed, WrittenValue, Plain, Named, Over, WrittenCondition, parts, fromsDeep}

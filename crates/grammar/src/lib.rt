@@ -58,11 +58,11 @@ pub const NOTE_LETTER: usize = 3;
 
 pub const NOTE_LEFT_LETTER: usize = 4;
 
-pub const NOTE_LEFT_NUMBER: usize = 5;
+const NOTE_LEFT_NUMBER: usize = 5;
 
 pub const NOTE_RIGHT_LETTER: usize = 6;
 
-pub const NOTE_RIGHT_NUMBER: usize = 7;
+const NOTE_RIGHT_NUMBER: usize = 7;
 
 // What a part says by itself, as it is written: its kind and comparison as published, the number and the letter of its FROM, and its values. Numbers
 // are the written ones plus 2 ^ 31; the letter of a constant is 0, and so is whatever a kind does not use.
@@ -226,7 +226,7 @@ fn start_null(s: &[usize], at: usize, letter: usize, number: usize) -> Start
     }
 }
 
-// What a part says that has a left value alone: IS NULL and IS NOT NULL.
+// What a part says that has a left value and no other, as IS NULL and IS NOT NULL; for those without values it is 0.
 fn left_note(kind: usize, letter: usize, number: usize) -> Note
     ensures { λ r. ⌜ noteNumbers r ≡ leftNumbers kind letter number ⌝ }
 {

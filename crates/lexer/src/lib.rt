@@ -79,14 +79,14 @@ fn skip_gaps(text: &[u8], i: usize) -> usize
     e
 }
 
-// A run of bytes: the place after it, and the number that its bytes spell.
+// A run of bytes: the place after it, and the number that its bytes spell, unless it is too long.
 pub struct Run {
     pub end: usize,
     pub number: usize,
 }
 
 // The run of bytes from low to high that starts at i, and what it spells in a base, where zero is the byte of the digit 0. The bytes are looked at once;
-// those past the first `most` are passed alone, since no word and no number is so long.
+// those behind the first `most` are only passed over, since no word and no number is longer than that.
 fn spell_run(
     text: &[u8],
     i: usize,

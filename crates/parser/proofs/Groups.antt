@@ -65,7 +65,7 @@ limits-deep a h d = rw (le-leb (parts a) mostParts h, lt-leb (fromsDeep a) mostF
 
 module _ (s file : List ℕ) where
   abbrev pub FirstOfTokens : ℕ → Type 0
-  FirstOfTokens n = firstApplying (tokensRefusals (columnsOf file) (some (tokensIn s)) (readAll (tokensIn s))) ≡ some n
+  FirstOfTokens n = firstApplying (tokensRefusals (columnsOf file) (some (tokensIn s))) ≡ some n
 
   pub unfit-brackets : opensFit (pos 0) (tokensIn s) ≡ false → FirstOfTokens 5
   unfolding firstApplying
@@ -148,7 +148,7 @@ module _ (s new : List ℕ) (r : Step) (told : ReadsAll s new r) where
 -- ---- all of them
 
 module _ (text file : List ℕ) where
-  in-groups : (ts : Tokens) → tokensOf text ≡ some ts → readingRefusals text file ≡ tablesRefusals file ++ (textRefusals text ++ tokensRefusals (columnsOf file) (some ts) (readAll ts))
+  in-groups : (ts : Tokens) → tokensOf text ≡ some ts → readingRefusals text file ≡ tablesRefusals file ++ (textRefusals text ++ tokensRefusals (columnsOf file) (some ts))
   unfolding readingRefusals conditionOf
   in-groups ts e = rw e
 
@@ -178,7 +178,7 @@ module _ (text file : List ℕ) where
     parse-untokenized e = bytes-decide (ready .tables-pass) (no-tokens text (ready .short) e)
 
     module _ (s : List ℕ) (are : tokensOf text ≡ some (tokensIn s)) where
-      tokens-decide : firstApplying (readingRefusals text file) ≡ firstApplying (tokensRefusals (columnsOf file) (some (tokensIn s)) (readAll (tokensIn s)))
+      tokens-decide : firstApplying (readingRefusals text file) ≡ firstApplying (tokensRefusals (columnsOf file) (some (tokensIn s)))
       tokens-decide =
           ap firstApplying (in-groups _ are)
           ∙ first-append (tablesRefusals file) _ (ready .tables-pass)

@@ -40,7 +40,7 @@ pub record TokensParsing (s file new : List ℕ) (n : ℕ) : Type 0 where
 
 abbrev pub TokensParsedTo : (s file new : List ℕ) → Parsed → Type 0
 TokensParsedTo s file new (ParsedRule n) = TokensParsing s file new n
-TokensParsedTo s file new (ParsedRefused x) = firstApplying (tokensRefusals (columnsOf file) (some (tokensIn s)) (readAll (tokensIn s))) ≡ some (reasonNumber x)
+TokensParsedTo s file new (ParsedRefused x) = firstApplying (tokensRefusals (columnsOf file) (some (tokensIn s))) ≡ some (reasonNumber x)
 
 -- ---- reading as a whole
 

@@ -27,7 +27,7 @@ const MIDDLE_TEXT: usize = 1024;
 // reading a short rule.
 const FEW_PARTS: usize = 16;
 
-const FEW_NUMBERS: usize = NOTE_FIELDS * FEW_PARTS;
+const FEW_NOTES: usize = NOTE_FIELDS * FEW_PARTS;
 
 // What reading gives: the number of a rule's parts, or why there is no rule.
 pub enum Parsed {
@@ -36,7 +36,7 @@ pub enum Parsed {
 }
 
 // The first n numbers of from, at the start of notes.
-fn copy_few(from: &[usize; NOTE_NUMBERS], n: usize, notes: &mut [usize; FEW_NUMBERS])
+fn copy_few(from: &[usize; NOTE_NUMBERS], n: usize, notes: &mut [usize; FEW_NOTES])
     requires { ⌜ length (now from) ≡ notesSize ⌝ ∗ ⌜ n ≤ 128 ⌝ ∗ ⌜ length (now notes) ≡ 128 ⌝ }
     ensures copied { λ _. ⌜ take n (now (notes .exit)) ≡ take n (now (from .entry)) ⌝ }
     ensures size { λ _. ⌜ length (now (notes .exit)) ≡ 128 ⌝ }
@@ -48,14 +48,15 @@ fn copy_few(from: &[usize; NOTE_NUMBERS], n: usize, notes: &mut [usize; FEW_NUMB
     }
 }
 
-// The parts of the rule whose notes stand in parts, count of them. The parts are written over the notes, so these are copied first.
+// The parts of the rule whose notes stand in parts, count of them. The parts are written over the notes, so these are copied first. A note and a part have as
+// many numbers each.
 fn name_noted(file: &[u8], count: usize, parts: &mut [usize; PART_NUMBERS]) -> bool
     requires { ⌜ Nameable (now file) (now parts) count ⌝ ∗ ⌜ length (now parts) ≡ partsSize ⌝ }
     ensures named { λ r. ⌜ NamedTo (now (file .entry)) (now (parts .entry)) count (now (parts .exit)) r ⌝ }
     ensures size { λ _. ⌜ length (now (parts .exit)) ≡ partsSize ⌝ }
 {
     if count <= FEW_PARTS {
-        let mut notes = [0usize; FEW_NUMBERS];
+        let mut notes = [0usize; FEW_NOTES];
         copy_few(parts, NOTE_FIELDS * count, &mut notes);
         return names::name_parts(file, &notes, count, parts);
     }

@@ -43,6 +43,7 @@ few text file a r e =
 
 pub room-claim : RoomClaim
 room-claim = record {
+  numbers = (refl, refl, refl);
   reading = λ text file parts a room.
       let p = parts-claim text file a in
       ap (λ (l : Lent Part). isGiven (l .result)) (rule-by-cases .read-given text file parts a (p .rule) (p .is-rule) (omega (arith, p .few-parts)));

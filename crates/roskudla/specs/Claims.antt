@@ -26,6 +26,7 @@ ZeroIsSuccess a = statusOf a ≡ 0 → isGiven a ≡ true
 
 -- with so much room as the header names, a call that lends gives its answer where nothing else refuses it: 64 parts, 2,891 bytes of a card, 1,000 rows
 pub record RoomClaim : Type 0 where
+  pub numbers : (mostParts ≡ 64) × (mostCardBytes ≡ 2891) × (mostRows ≡ 1000)
   pub reading : (text file : List ℕ) (parts : List Part) → Accepted text file → mostParts ≤ length parts → isGiven (readCall text file parts .result) ≡ true
   pub making : (text file card : List ℕ) → Accepted text file → mostCardBytes ≤ length card → isGiven (cardCall text file card .result) ≡ true
   pub listing : (card file rows : List ℕ) → firstApplying (gateRefusals card file) ≡ none → mostRows ≤ length rows → isGiven (listCall card file rows .result) ≡ true

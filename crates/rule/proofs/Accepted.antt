@@ -45,7 +45,7 @@ record Unrefused (text file : List ℕ) : Type 0 where
   no-8 : fails (λ a. isThere (ruleIn (columnsOf file) outermost a)) (conditionOf text) ≡ false
 
 accepted-unrefused : (text file : List ℕ) → Accepted text file → Unrefused text file
-unfolding readingRefusals tablesRefusals
+unfolding readingRefusals tablesRefusals conditionOf
 accepted-unrefused text file e =
     let e1 = none-first 1 (not (sizesFit file)) _ e in
     let e2 = none-first 2 (not (marksFit file)) _ (e1 .1) in
@@ -58,7 +58,7 @@ accepted-unrefused text file e =
     record { no-1 = e1 .0; no-2 = e2 .0; no-3 = e3 .0; no-4 = e4 .0; no-5 = e5 .0; no-6 = e6 .0; no-7 = e7 .0; no-8 = e8 .0 }
 
 unrefused-accepted : (text file : List ℕ) → Unrefused text file → Accepted text file
-unfolding readingRefusals tablesRefusals
+unfolding readingRefusals tablesRefusals conditionOf
 unrefused-accepted text file u =
     first-none 1 _ _ (u .no-1) (first-none 2 _ _ (u .no-2) (first-none 3 _ _ (u .no-3) (first-none 4 _ _ (u .no-4)
     (first-none 5 _ _ (u .no-5) (first-none 6 _ _ (u .no-6) (first-none 7 _ _ (u .no-7) (first-none 8 _ _ (u .no-8) first-nil)))))))

@@ -45,8 +45,9 @@ abbrev pub textRefusals : List ℕ → List Refusal
 textRefusals text = (3 if ltb mostBytes (length text)) ∷ (4 if isMissing (tokensOf text)) ∷ []
 
 -- 5 to 8, of its tokens and of the condition that they read as, with the columns of the tables
-abbrev pub tokensRefusals : List ℕ → Option Tokens → Option WrittenCondition → List Refusal
-tokensRefusals columns tokens condition =
+abbrev pub tokensRefusals : List ℕ → Option Tokens → List Refusal
+tokensRefusals columns tokens =
+    let condition = tokens >>= readAll in
     (5 if fails (opensFit (pos 0)) tokens)
     ∷ (6 if fails (λ ts. isThere (readAll ts)) tokens)
     ∷ (7 if fails limitsFit condition)
@@ -54,7 +55,7 @@ tokensRefusals columns tokens condition =
     ∷ []
 
 unfoldable pub readingRefusals : List ℕ → List ℕ → List Refusal
-readingRefusals text file = tablesRefusals file ++ (textRefusals text ++ tokensRefusals (columnsOf file) (tokensOf text) (conditionOf text))
+readingRefusals text file = tablesRefusals file ++ (textRefusals text ++ tokensRefusals (columnsOf file) (tokensOf text))
 
 -- What demand 3 compares, first sentence: accepted with a tables file
 abbrev pub Accepted : List ℕ → List ℕ → Type 0

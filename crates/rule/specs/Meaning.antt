@@ -77,7 +77,7 @@ test3 env (IsNotNull l) = truth (not (isBlank (cellOf env l)))
 
 -- ---- subqueries
 
--- one value of those that a comparison takes over the retained rows.
+-- what a comparison's values over the retained rows come to.
 -- SOME: true if one is true, else unknown if one is unknown, else false. ALL: false if one is false, else unknown if one is unknown, else
 -- true. So over no rows SOME is false and ALL is true.
 abbrev pub over3 : Quantifier → List Truth → Truth

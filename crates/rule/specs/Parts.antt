@@ -30,7 +30,7 @@ pub data Head : Type 0 where
   ExistsHead : ℕ → Head
   ListedHead : Quantifier → Comparison → Value → Value → ℕ → Head
 
--- the numbers of the kinds
+-- the numbers of the kinds, of AND and OR, of SOME and ALL, and of the others
 abbrev pub joinKind : Connective → ℕ
 joinKind And = 1
 joinKind Or = 2
@@ -54,6 +54,7 @@ notNullKind = 6
 abbrev pub existsKind : ℕ
 existsKind = 7
 
+-- the kind of a part, by what it says
 abbrev pub kindOf : Head → ℕ
 kindOf (JoinHead j) = joinKind j
 kindOf NotHead = notKind
@@ -101,7 +102,7 @@ naturalOf (negsuc n) = 0
 abbrev pub valueOf : TaggedValue → Value
 valueOf f = cond (eqb (f .tag) constantTag) (Constant (f .number)) (Column (f .tag) (naturalOf (f .number)))
 
--- what a part of this record says; a kind above 9, or 0, which no part has, is taken as NOT
+-- what a part of this record says, in the order of the kinds' numbers; a kind above 9, or 0, which no part has, is taken as NOT
 abbrev pub headOf : Part → Head
 headOf p =
     let op = comparisonOf (p .comparison) in

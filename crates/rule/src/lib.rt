@@ -1,7 +1,7 @@
-// What a rule is, from its text to its value. The definitions are in specs/; this is the record of a part, as the definitions and the code have it, and the numbers of its kinds.
-// Laid out as C lays out the same struct, for callers in C.
+// What a rule is, from its text to its value. The definitions are in specs/; this is the record of a part, as the definitions and the code have it, and the
+// numbers of its kinds.
 
-// A value: a tag, 255 for a constant, else the level of a column; and the constant, or the column's number.
+// The two structs are laid out as C lays out the same, for callers in C. A value: a tag, 255 for a constant, else the level of a column; and the constant, or the column's number.
 #[repr(C)]
 pub struct TaggedValue {
     pub tag: u8,

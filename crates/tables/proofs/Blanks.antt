@@ -8,7 +8,7 @@ use lib.ListN.{length, getD}
 use Rattle.tables.specs.Lists.{tabulate, all}
 use Rattle.tables.specs.Tables.{highestMark, Size, tableCount, sizeAt, sizes, columnsOf, rowCount, cellsBefore, cellCount, valueBits, markOf, sizesFit, marksFit, cellFrom, cellAt, tableFrom, tablesOf}
 use Rattle.tables.specs.Refusals.{tablesRefusals}
-use Rattle.tables.specs.Claims.{BlanksDiffer, SameTables, BlankCellsClaim}
+use Rattle.tables.specs.Claims.{BlanksDiffer, BlankCellsClaim}
 use Rattle.tables.proofs.Tabulated.{tabulate-length, tabulate-at, tabulate-same, all-same}
 use Rattle.tables.proofs.Numbering.{cell-within}
 

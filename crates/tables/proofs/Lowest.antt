@@ -1,13 +1,13 @@
 -- The first refusal of a list that applies, and the lowest.
 use mathlib.Core.Path.{_≡_, refl, sym, ap, ap₂, _∙_}
 use mathlib.Core.Bool.{Bool, true, false}
-use mathlib.Core.List.{List, [], _∷_, map, List·Memᴰ, List·Memᴰ·head, List·Memᴰ·tail, IsChain, IsChain·nil, IsChain·singleton, IsChain·cons-cons}
+use mathlib.Core.List.{List, [], _∷_, map, List·Memᴰ, List·Memᴰ·head, List·Memᴰ·tail, IsChain, IsChain·nil, IsChain·cons-cons}
 use mathlib.Core.Option.{Option, none, some}
 use Prim.Native.Nat.{ℕ, _<_, _≤_}
 use native.Mathlib.Omega.{arith}
 use Rattle.tables.specs.Refusals.{Refusal, _if_, firstApplying}
 use Rattle.tables.specs.Claims.{LowestClaim}
-use Rattle.tables.proofs.Refusals.{first-nil, first-none, first-one, none-first}
+use Rattle.tables.proofs.Refusals.{first-nil, first-none, none-first}
 
 differ : true ≡ false → ⊥
 differ e = let z : _≡_ {A = ℕ} 0 1 = cc in absurd (omega arith)

@@ -4,9 +4,9 @@ use mathlib.Core.Bool.{Bool}
 use mathlib.Core.List.{List}
 use mathlib.Core.Option.{Option, none, some}
 use Prim.Native.Nat.{ℕ}
-use Rattle.tables.specs.Tables.{Tables, tablesOf, rowsWhere}
-use Rattle.tables.specs.Refusals.{Refusal, rowRefusal}
-use Rattle.tables.specs.Claims.{BlanksDiffer, SameTables}
+use Rattle.tables.specs.Tables.{Tables, rowsWhere}
+use Rattle.tables.specs.Refusals.{rowRefusal}
+use Rattle.tables.specs.Claims.{SameTables}
 use Rattle.tables.proofs.Blanks.{blank-cells-claim}
 use Rattle.card.specs.Card.{Card}
 use Rattle.card.specs.Layout.{cardBytes, cardFrom}

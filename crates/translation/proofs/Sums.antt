@@ -1,7 +1,7 @@
 -- The number of a card's entries is the published sum: parts − (parts of kind 3) + 2 × (parts of kinds 8 and 9).
 use mathlib.Core.Path.{_≡_, refl}
 use mathlib.Core.List.{List, [], _∷_, _++_}
-use Prim.Native.Nat.{ℕ, _+_, _-_, _*_, _≤_}
+use Prim.Native.Nat.{ℕ, _+_, _*_, _≤_, _-_}
 use native.Mathlib.Omega.{arith}
 use Rattle.tables.specs.Values.{And, Or, Some, All}
 use Rattle.card.specs.Card.{Interpretation, AsNo, Card, LeafEntry, PairEntry, RowEntry, entries}
@@ -9,7 +9,7 @@ use Rattle.rule.specs.Condition.{Compare, IsNull, IsNotNull, Atom, Join, Not, E
 use Rattle.rule.specs.Parts.{partsFrom}
 use Rattle.rule.specs.declared.Part.{Part}
 use Rattle.rule.proofs.Parts.{parts-length}
-use Rattle.translation.specs.Translation.{other, negated, cardOf, ruleCard, entrySum, ofKind}
+use Rattle.translation.specs.Translation.{other, negated, cardOf, entrySum, ofKind}
 use Rattle.translation.specs.Claims.{SumClaim}
 
 entries-negated : (c : Card) → entries (negated c) ≡ entries c

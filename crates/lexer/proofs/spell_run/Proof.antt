@@ -1,7 +1,6 @@
-use mathlib.Core.Path.{sym}
+use Prim.Native.Nat.{_-_}
 use mathlib.Core.Logic.{⊎-elim}
 use native.Mathlib.Omega.{arith}
-use Prim.Native.Nat.{_-_}
 use lib.ListN.{length}
 use Rattle.tables.proofs.Tests.{between-no}
 use Rattle.lexer.proofs.Runs.{passed-stop, passed-all}
