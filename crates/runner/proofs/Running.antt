@@ -388,6 +388,54 @@ module _ {d g file w : List ℕ} {s e depth : ℕ} (h : Runnable d g file w s e 
           let past = rw (passed .is) at end in
           over-end saysBy q (rowsAt g (tableIn d s)) rowBy (λ r m. inner-says _ ∙ passed .each h r (omega arith)) ∙ rows-answer
 
+-- ---- two inner entries, where the left one has none of its own
+
+-- which of the two joins them, by whether the kind is that of an or
+abbrev pub pairBy : Bool → Connective
+pairBy false = And
+pairBy true = Or
+
+pair-by : (k : ℕ) → 1 ≤ k → k < 3 → k ≡ pairKind (pairBy (eqb k 2))
+pair-by zero l m = absurd (not-suc-le-zero l)
+pair-by (suc zero) l m = refl
+pair-by (suc (suc zero)) l m = refl
+pair-by (suc (suc (suc k))) l m = absurd (omega arith)
+
+by-same : (a o : Bool) → Bool·beq a o ≡ true → a ≡ decides (pairBy o)
+by-same true true h = refl
+by-same true false h = absurd (false≢true h)
+by-same false true h = absurd (false≢true h)
+by-same false false h = refl
+
+by-other : (a o : Bool) → Bool·beq a o ≡ false → a ≡ not (decides (pairBy o))
+by-other true true h = absurd (true≢false h)
+by-other true false h = refl
+by-other false true h = refl
+by-other false false h = absurd (true≢false h)
+
+module _ {d g file w : List ℕ} {s e depth : ℕ} (h : Runnable d g file w s e depth) (two : kindIn d s < 3) where
+  abbrev pub joint : Connective
+  joint = pairBy (eqb (kindIn d s) 2)
+
+  pub joint-kind : kindIn d s ≡ pairKind joint
+  joint-kind = pair-by (kindIn d s) (some-kind h) two
+
+  module _ (k : 4 < kindIn d (s + 1)) where
+    abbrev pub test-ready : LeafReady d g file w (s + 1)
+    test-ready = leaf-ready (left-run h joint joint-kind) k
+
+    test-answer : (a : Bool) → a ≡ leafSays (test-ready .env) (test-ready .leaf)
+        → a ≡ answer (tablesOf file) (h .env) (pair-here h joint joint-kind .left)
+    test-answer a p = leaf-answer (left-run h joint joint-kind) k a p
+
+    module _ (a : Bool) (says : a ≡ leafSays (test-ready .env) (test-ready .leaf)) where
+      pub test-decides : Bool·beq a (eqb (kindIn d s) 2) ≡ true → a ≡ answer (tablesOf file) (h .env) (h .card)
+      test-decides p = left-decides h joint joint-kind a (test-answer a says) (by-same a _ p)
+
+      pub test-passes : Bool·beq a (eqb (kindIn d s) 2) ≡ false → (r : Bool)
+          → r ≡ answer (tablesOf file) (h .env) (pair-here h joint joint-kind .right) → r ≡ answer (tablesOf file) (h .env) (h .card)
+      test-passes p r right = right-decides h joint joint-kind a (test-answer a says) (by-other a _ p) r right
+
 -- ---- the loop over a table's rows
 
 module _ (d g file w : List ℕ) (s e depth : ℕ) (q : Bool) {place : Place} where

@@ -152,6 +152,33 @@ fn run_inner(
     }
 }
 
+// The same as `run_entry`, asked of each row. Most rows are decided by the left test of an and or of an or: it is run here, with no recursive call.
+// All else goes to `run_entry`: `run_inner` is compiled into that function only while nothing else calls it.
+fn run_row(
+    d: &[usize],
+    g: &[usize; PLACES],
+    file: &[u8],
+    s: usize,
+    e: usize,
+    w: &[usize; LEVELS],
+    depth: usize,
+) -> bool
+    requires { ⌜ Runnable (now d) (now g) (now file) (now w) s e depth ⌝ }
+    ensures { λ r. ⌜ Answers (now (d .entry)) (now (g .entry)) (now (file .entry)) (now (w .entry)) s e depth r ⌝ }
+{
+    let k = d[FIELDS * s];
+    if k < SOME_ROW {
+        if EVERY_ROW < d[FIELDS * (s + 1)] {
+            let left = run_leaf(d, g, file, s + 1, w);
+            if left == (k == OR_ENTRY) {
+                return left;
+            }
+            return run_entry(d, g, file, d[FIELDS * s + NEXT_END], e, w, depth);
+        }
+    }
+    run_entry(d, g, file, s, e, w, depth)
+}
+
 // The same where s asks for some row of its table, or for every row.
 fn run_rows(
     d: &[usize],
@@ -175,7 +202,7 @@ fn run_rows(
     let mut r: usize = 0;
     while r < table.rows {
         v[depth] = first;
-        let a = run_entry(d, g, file, s + 1, e, &v, depth + 1);
+        let a = run_row(d, g, file, s + 1, e, &v, depth + 1);
         if a != q {
             return a;
         }

@@ -4,33 +4,39 @@ use Prim.Native.Nat.{ℕ, _+_, _-_, _*_, _<_}
 use native.Mathlib.Omega.{arith}
 use borrow.Author.Tests.{not-true, not-false}
 use Rattle.tables.specs.Values.{And, Or}
-use Rattle.runner.proofs.Running.{RowsPassed, start, some-kind, leaf-ready, leaf-answer, middle, left-run, right-run, left-decides, right-decides, row-bounds, row-room, row-few, inner-run, inner-says, row-stops, rows-end, passed-none, passed-more, differ, agree}
+use Rattle.runner.proofs.Running.{RowsPassed, start, some-kind, leaf-ready, leaf-answer, middle, left-run, right-run, left-decides, right-decides, row-bounds, row-room, row-few, inner-run, inner-says, row-stops, rows-end, passed-none, passed-more, differ, agree, joint, joint-kind, test-ready, test-decides, test-passes}
 use Prim.Native.Nat.{ℕ, _<_}
 use borrow.Fn.Kinds.{In}
 use borrow.Fn.PlainCycle.{Measures, is, falls, and}
 use Rattle.runner.proofs.run_entry.Reads as run-entry
 use Rattle.runner.proofs.run_entry.Kinds as run-entry-kinds
-use Rattle.runner.proofs.+run_entry+run_inner+run_rows.Lts-run_entry as run-entry-lts
+use Rattle.runner.proofs.+run_entry+run_inner+run_row+run_rows.Lts-run_entry as run-entry-lts
 use Rattle.runner.proofs.run_inner.Reads as run-inner
 use Rattle.runner.proofs.run_inner.Kinds as run-inner-kinds
-use Rattle.runner.proofs.+run_entry+run_inner+run_rows.Lts-run_inner as run-inner-lts
+use Rattle.runner.proofs.+run_entry+run_inner+run_row+run_rows.Lts-run_inner as run-inner-lts
+use Rattle.runner.proofs.run_row.Reads as run-row
+use Rattle.runner.proofs.run_row.Kinds as run-row-kinds
+use Rattle.runner.proofs.+run_entry+run_inner+run_row+run_rows.Lts-run_row as run-row-lts
 use Rattle.runner.proofs.run_rows.Reads as run-rows
 use Rattle.runner.proofs.run_rows.Kinds as run-rows-kinds
-use Rattle.runner.proofs.+run_entry+run_inner+run_rows.Lts-run_rows as run-rows-lts
+use Rattle.runner.proofs.+run_entry+run_inner+run_row+run_rows.Lts-run_rows as run-rows-lts
 use Rattle.cells.proofs.table_place.Reads as table-place-reads
 use Rattle.runner.proofs.run_leaf.Reads as run-leaf-reads
 use Rattle.runner.proofs.run_leaf_rows.Reads as run-leaf-rows-reads
-use Rattle.runner.proofs.+run_entry+run_inner+run_rows.{statement}
-use Rattle.runner.proofs.+run_entry+run_inner+run_rows.Tie.{close}
+use Rattle.runner.proofs.+run_entry+run_inner+run_row+run_rows.{statement}
+use Rattle.runner.proofs.+run_entry+run_inner+run_row+run_rows.Tie.{close}
 
 abbrev μ-run-entry : Measures 4 run-entry-kinds.ps ℕ
-μ-run-entry κs a = 3 * (a .1 .1 .1 .1 .0 - a .1 .1 .1 .0) + 2
+μ-run-entry κs a = 4 * (a .1 .1 .1 .1 .0 - a .1 .1 .1 .0) + 2
 
 abbrev μ-run-inner : Measures 4 run-inner-kinds.ps ℕ
-μ-run-inner κs a = 3 * (a .1 .1 .1 .1 .0 - a .1 .1 .1 .0) + 1
+μ-run-inner κs a = 4 * (a .1 .1 .1 .1 .0 - a .1 .1 .1 .0) + 1
+
+abbrev μ-run-row : Measures 4 run-row-kinds.ps ℕ
+μ-run-row κs a = 4 * (a .1 .1 .1 .1 .0 - a .1 .1 .1 .0) + 3
 
 abbrev μ-run-rows : Measures 4 run-rows-kinds.ps ℕ
-μ-run-rows κs a = 3 * (a .1 .1 .1 .1 .0 - a .1 .1 .1 .0)
+μ-run-rows κs a = 4 * (a .1 .1 .1 .1 .0 - a .1 .1 .1 .0)
 
 abbrev run-entry-at : ℕ → In 4 run-entry-kinds.ps
 run-entry-at t = and 4 run-entry-kinds.ps (is 4 run-entry-kinds.ps μ-run-entry t) run-entry.Pre
@@ -46,6 +52,12 @@ abbrev run-inner-below : ℕ → In 4 run-inner-kinds.ps
 run-inner-below t =
     and 4 run-inner-kinds.ps (falls 4 run-inner-kinds.ps _<_ μ-run-inner t) run-inner.Pre
 
+abbrev run-row-at : ℕ → In 4 run-row-kinds.ps
+run-row-at t = and 4 run-row-kinds.ps (is 4 run-row-kinds.ps μ-run-row t) run-row.Pre
+
+abbrev run-row-below : ℕ → In 4 run-row-kinds.ps
+run-row-below t = and 4 run-row-kinds.ps (falls 4 run-row-kinds.ps _<_ μ-run-row t) run-row.Pre
+
 abbrev run-rows-at : ℕ → In 4 run-rows-kinds.ps
 run-rows-at t = and 4 run-rows-kinds.ps (is 4 run-rows-kinds.ps μ-run-rows t) run-rows.Pre
 
@@ -53,6 +65,7 @@ abbrev run-rows-below : ℕ → In 4 run-rows-kinds.ps
 run-rows-below t =
     and 4 run-rows-kinds.ps (falls 4 run-rows-kinds.ps _<_ μ-run-rows t) run-rows.Pre
 
+-- src/lib.rt:113:22
 run-entry-mul-if1 : (t : ℕ) → run-entry-lts.Need-mul-if1 (
   run-leaf-reads.Asked,
   run-leaf-reads.Learnt,
@@ -61,6 +74,7 @@ run-entry-mul-if1 : (t : ℕ) → run-entry-lts.Need-mul-if1 (
 ) (run-entry-at t) run-entry.Post
 run-entry-mul-if1 t c = let z = start (c .before .before .pre .1) in omega arith
 
+-- src/lib.rt:113:20
 run-entry-mul-if1-2 : (t : ℕ) → run-entry-lts.Need-mul-if1-2 (
   run-leaf-reads.Asked,
   run-leaf-reads.Learnt,
@@ -69,6 +83,7 @@ run-entry-mul-if1-2 : (t : ℕ) → run-entry-lts.Need-mul-if1-2 (
 ) (run-entry-at t) run-entry.Post
 run-entry-mul-if1-2 t c = let z = start (c .before .before .pre .1) in omega arith
 
+-- src/lib.rt:113:20
 run-entry-shared-slice-read-if1 : (t : ℕ) → run-entry-lts.Need-shared-slice-read-if1 (
   run-leaf-reads.Asked,
   run-leaf-reads.Learnt,
@@ -77,6 +92,7 @@ run-entry-shared-slice-read-if1 : (t : ℕ) → run-entry-lts.Need-shared-slice-
 ) (run-entry-at t) run-entry.Post
 run-entry-shared-slice-read-if1 t c = let z = start (c .before .before .before .pre .1) in omega arith
 
+-- src/lib.rt:114:9
 run-entry-run-leaf-requires : (t : ℕ) → run-entry-lts.Need-run-leaf-requires (
   run-leaf-reads.Asked,
   run-leaf-reads.Learnt,
@@ -85,6 +101,7 @@ run-entry-run-leaf-requires : (t : ℕ) → run-entry-lts.Need-run-leaf-requires
 ) (run-entry-at t) run-entry.Post
 run-entry-run-leaf-requires t c κs = leaf-ready (c .before .before .before .before .pre .1) (c .if1 .taken)
 
+-- src/lib.rt:114:9
 run-entry-returns : (t : ℕ) → run-entry-lts.Need-returns (
   run-leaf-reads.Asked,
   run-leaf-reads.Learnt,
@@ -93,6 +110,7 @@ run-entry-returns : (t : ℕ) → run-entry-lts.Need-returns (
 ) (run-entry-at t) run-entry.Post
 run-entry-returns t c = λ h. leaf-answer h (c .before .if1 .taken) _ (c .run-leaf .ensures (leaf-ready h (c .before .if1 .taken)))
 
+-- src/lib.rt:116:5
 run-entry-run-inner-requires : (t : ℕ) → run-entry-lts.Need-run-inner-requires (
   run-leaf-reads.Asked,
   run-leaf-reads.Learnt,
@@ -101,6 +119,7 @@ run-entry-run-inner-requires : (t : ℕ) → run-entry-lts.Need-run-inner-requir
 ) (run-entry-at t) run-entry.Post
 run-entry-run-inner-requires t c κs = let m = c .before .before .before .before .pre .0 in (omega arith, (c .before .before .before .before .pre .1, c .if1 .left))
 
+-- src/lib.rt:101:1
 run-entry-returns-2 : (t : ℕ) → run-entry-lts.Need-returns-2 (
   run-leaf-reads.Asked,
   run-leaf-reads.Learnt,
@@ -109,6 +128,7 @@ run-entry-returns-2 : (t : ℕ) → run-entry-lts.Need-returns-2 (
 ) (run-entry-at t) run-entry.Post
 run-entry-returns-2 t c = c .run-inner .ensures
 
+-- src/lib.rt:132:15
 run-inner-mul-k : (t : ℕ) → run-inner-lts.Need-mul-k (
   run-entry-below t,
   run-entry.Post,
@@ -117,6 +137,7 @@ run-inner-mul-k : (t : ℕ) → run-inner-lts.Need-mul-k (
 ) (run-inner-at t) run-inner.Post
 run-inner-mul-k t c = let z = start (c .before .before .pre .1 .0) in omega arith
 
+-- src/lib.rt:132:13
 run-inner-mul-k-2 : (t : ℕ) → run-inner-lts.Need-mul-k-2 (
   run-entry-below t,
   run-entry.Post,
@@ -125,6 +146,7 @@ run-inner-mul-k-2 : (t : ℕ) → run-inner-lts.Need-mul-k-2 (
 ) (run-inner-at t) run-inner.Post
 run-inner-mul-k-2 t c = let z = start (c .before .before .pre .1 .0) in omega arith
 
+-- src/lib.rt:132:13
 run-inner-shared-slice-read-k : (t : ℕ) → run-inner-lts.Need-shared-slice-read-k (
   run-entry-below t,
   run-entry.Post,
@@ -133,6 +155,7 @@ run-inner-shared-slice-read-k : (t : ℕ) → run-inner-lts.Need-shared-slice-re
 ) (run-inner-at t) run-inner.Post
 run-inner-shared-slice-read-k t c = let z = start (c .before .before .before .pre .1 .0) in omega arith
 
+-- src/lib.rt:135:23
 run-inner-mul-m : (t : ℕ) → run-inner-lts.Need-mul-m (
   run-entry-below t,
   run-entry.Post,
@@ -141,6 +164,7 @@ run-inner-mul-m : (t : ℕ) → run-inner-lts.Need-mul-m (
 ) (run-inner-at t) run-inner.Post
 run-inner-mul-m t c = let h = c .before .before .before .before .pre .1 .0 in let z = start h in let y = middle h And (c .match .keys1) in omega arith
 
+-- src/lib.rt:135:23
 run-inner-add-m : (t : ℕ) → run-inner-lts.Need-add-m (
   run-entry-below t,
   run-entry.Post,
@@ -149,6 +173,7 @@ run-inner-add-m : (t : ℕ) → run-inner-lts.Need-add-m (
 ) (run-inner-at t) run-inner.Post
 run-inner-add-m t c = let h = c .before .before .before .before .pre .1 .0 in let z = start h in let y = middle h And (c .match .keys1) in omega arith
 
+-- src/lib.rt:135:21
 run-inner-mul-m-2 : (t : ℕ) → run-inner-lts.Need-mul-m-2 (
   run-entry-below t,
   run-entry.Post,
@@ -157,6 +182,7 @@ run-inner-mul-m-2 : (t : ℕ) → run-inner-lts.Need-mul-m-2 (
 ) (run-inner-at t) run-inner.Post
 run-inner-mul-m-2 t c = let h = c .before .before .before .before .pre .1 .0 in let z = start h in let y = middle h And (c .match .keys1) in omega arith
 
+-- src/lib.rt:135:21
 run-inner-shared-slice-read-m : (t : ℕ) → run-inner-lts.Need-shared-slice-read-m (
   run-entry-below t,
   run-entry.Post,
@@ -165,6 +191,7 @@ run-inner-shared-slice-read-m : (t : ℕ) → run-inner-lts.Need-shared-slice-re
 ) (run-inner-at t) run-inner.Post
 run-inner-shared-slice-read-m t c = let h = c .before .before .before .before .before .pre .1 .0 in let z = start h in let y = middle h And (c .before .match .keys1) in omega arith
 
+-- src/lib.rt:136:46
 run-inner-add-run-entry : (t : ℕ) → run-inner-lts.Need-add-run-entry (
   run-entry-below t,
   run-entry.Post,
@@ -173,6 +200,7 @@ run-inner-add-run-entry : (t : ℕ) → run-inner-lts.Need-add-run-entry (
 ) (run-inner-at t) run-inner.Post
 run-inner-add-run-entry t c = let z = start (c .before .before .before .before .before .pre .1 .0) in omega arith
 
+-- src/lib.rt:136:17
 run-inner-run-entry-requires : (t : ℕ) → run-inner-lts.Need-run-entry-requires (
   run-entry-below t,
   run-entry.Post,
@@ -185,6 +213,7 @@ run-inner-run-entry-requires t c κs =
     let y = middle (p .1 .0) And (c .before .match .keys1) in
     (omega arith, left-run (p .1 .0) And (c .before .match .keys1))
 
+-- src/lib.rt:138:17
 run-inner-returns : (t : ℕ) → run-inner-lts.Need-returns (
   run-entry-below t,
   run-entry.Post,
@@ -196,6 +225,7 @@ run-inner-returns t c = λ h.
     let e = not-true _ (c .if1 .taken) in
     left-decides h And k false (sym e ∙ c .before .run-entry .ensures (left-run h And k)) refl
 
+-- src/lib.rt:140:13
 run-inner-run-entry-requires-2 : (t : ℕ) → run-inner-lts.Need-run-entry-requires-2 (
   run-entry-below t,
   run-entry.Post,
@@ -208,6 +238,7 @@ run-inner-run-entry-requires-2 t c κs =
     let y = middle (p .1 .0) And (c .before .before .before .match .keys1) in
     (omega arith, right-run (p .1 .0) And (c .before .before .before .match .keys1))
 
+-- src/lib.rt:143:23
 run-inner-mul-m-3 : (t : ℕ) → run-inner-lts.Need-mul-m-3 (
   run-entry-below t,
   run-entry.Post,
@@ -216,6 +247,7 @@ run-inner-mul-m-3 : (t : ℕ) → run-inner-lts.Need-mul-m-3 (
 ) (run-inner-at t) run-inner.Post
 run-inner-mul-m-3 t c = let h = c .before .before .before .before .pre .1 .0 in let z = start h in let y = middle h Or (c .match .keys2) in omega arith
 
+-- src/lib.rt:143:23
 run-inner-add-m-2 : (t : ℕ) → run-inner-lts.Need-add-m-2 (
   run-entry-below t,
   run-entry.Post,
@@ -224,6 +256,7 @@ run-inner-add-m-2 : (t : ℕ) → run-inner-lts.Need-add-m-2 (
 ) (run-inner-at t) run-inner.Post
 run-inner-add-m-2 t c = let h = c .before .before .before .before .pre .1 .0 in let z = start h in let y = middle h Or (c .match .keys2) in omega arith
 
+-- src/lib.rt:143:21
 run-inner-mul-m-4 : (t : ℕ) → run-inner-lts.Need-mul-m-4 (
   run-entry-below t,
   run-entry.Post,
@@ -232,6 +265,7 @@ run-inner-mul-m-4 : (t : ℕ) → run-inner-lts.Need-mul-m-4 (
 ) (run-inner-at t) run-inner.Post
 run-inner-mul-m-4 t c = let h = c .before .before .before .before .pre .1 .0 in let z = start h in let y = middle h Or (c .match .keys2) in omega arith
 
+-- src/lib.rt:143:21
 run-inner-shared-slice-read-m-2 : (t : ℕ) → run-inner-lts.Need-shared-slice-read-m-2 (
   run-entry-below t,
   run-entry.Post,
@@ -240,6 +274,7 @@ run-inner-shared-slice-read-m-2 : (t : ℕ) → run-inner-lts.Need-shared-slice-
 ) (run-inner-at t) run-inner.Post
 run-inner-shared-slice-read-m-2 t c = let h = c .before .before .before .before .before .pre .1 .0 in let z = start h in let y = middle h Or (c .before .match .keys2) in omega arith
 
+-- src/lib.rt:144:46
 run-inner-add-run-entry-2 : (t : ℕ) → run-inner-lts.Need-add-run-entry-2 (
   run-entry-below t,
   run-entry.Post,
@@ -248,6 +283,7 @@ run-inner-add-run-entry-2 : (t : ℕ) → run-inner-lts.Need-add-run-entry-2 (
 ) (run-inner-at t) run-inner.Post
 run-inner-add-run-entry-2 t c = let z = start (c .before .before .before .before .before .pre .1 .0) in omega arith
 
+-- src/lib.rt:144:17
 run-inner-run-entry-requires-3 : (t : ℕ) → run-inner-lts.Need-run-entry-requires-3 (
   run-entry-below t,
   run-entry.Post,
@@ -260,6 +296,7 @@ run-inner-run-entry-requires-3 t c κs =
     let y = middle (p .1 .0) Or (c .before .match .keys2) in
     (omega arith, left-run (p .1 .0) Or (c .before .match .keys2))
 
+-- src/lib.rt:146:17
 run-inner-returns-2 : (t : ℕ) → run-inner-lts.Need-returns-2 (
   run-entry-below t,
   run-entry.Post,
@@ -270,6 +307,7 @@ run-inner-returns-2 t c = λ h.
     let k = c .before .before .before .match .keys2 in
     left-decides h Or k true (sym (c .if2 .taken) ∙ c .before .run-entry3 .ensures (left-run h Or k)) refl
 
+-- src/lib.rt:148:13
 run-inner-run-entry-requires-4 : (t : ℕ) → run-inner-lts.Need-run-entry-requires-4 (
   run-entry-below t,
   run-entry.Post,
@@ -282,6 +320,7 @@ run-inner-run-entry-requires-4 t c κs =
     let y = middle (p .1 .0) Or (c .before .before .before .match .keys2) in
     (omega arith, right-run (p .1 .0) Or (c .before .before .before .match .keys2))
 
+-- src/lib.rt:150:21
 run-inner-run-rows-requires : (t : ℕ) → run-inner-lts.Need-run-rows-requires (
   run-entry-below t,
   run-entry.Post,
@@ -290,6 +329,7 @@ run-inner-run-rows-requires : (t : ℕ) → run-inner-lts.Need-run-rows-requires
 ) (run-inner-at t) run-inner.Post
 run-inner-run-rows-requires t c κs = let p = c .before .before .before .before .pre in let m = p .0 in (omega arith, (p .1 .0, c .match .keys3))
 
+-- src/lib.rt:151:14
 run-inner-run-rows-requires-2 : (t : ℕ) → run-inner-lts.Need-run-rows-requires-2 (
   run-entry-below t,
   run-entry.Post,
@@ -304,6 +344,7 @@ run-inner-run-rows-requires-2 t c κs =
     let r = c .match .rest in
     (omega arith, (p .1 .0, omega arith))
 
+-- src/lib.rt:120:1
 run-inner-returns-3 : (t : ℕ) → run-inner-lts.Need-returns-3 (
   run-entry-below t,
   run-entry.Post,
@@ -315,6 +356,7 @@ run-inner-returns-3 t c = λ h.
     right-decides h And k _ (c .before .before .run-entry .ensures (left-run h And k)) (not-false _ (c .before .if1 .left)) _
     (c .run-entry2 .ensures (right-run h And k))
 
+-- src/lib.rt:120:1
 run-inner-returns-4 : (t : ℕ) → run-inner-lts.Need-returns-4 (
   run-entry-below t,
   run-entry.Post,
@@ -326,6 +368,7 @@ run-inner-returns-4 t c = λ h.
     right-decides h Or k _ (c .before .before .run-entry3 .ensures (left-run h Or k)) (c .before .if2 .left) _
     (c .run-entry4 .ensures (right-run h Or k))
 
+-- src/lib.rt:120:1
 run-inner-returns-5 : (t : ℕ) → run-inner-lts.Need-returns-5 (
   run-entry-below t,
   run-entry.Post,
@@ -334,6 +377,7 @@ run-inner-returns-5 : (t : ℕ) → run-inner-lts.Need-returns-5 (
 ) (run-inner-at t) run-inner.Post
 run-inner-returns-5 t c = c .run-rows .ensures
 
+-- src/lib.rt:120:1
 run-inner-returns-6 : (t : ℕ) → run-inner-lts.Need-returns-6 (
   run-entry-below t,
   run-entry.Post,
@@ -342,280 +386,513 @@ run-inner-returns-6 : (t : ℕ) → run-inner-lts.Need-returns-6 (
 ) (run-inner-at t) run-inner.Post
 run-inner-returns-6 t c = c .run-rows2 .ensures
 
+-- src/lib.rt:169:15
+run-row-mul-k : (t : ℕ) → run-row-lts.Need-mul-k (
+  run-leaf-reads.Asked,
+  run-leaf-reads.Learnt,
+  run-entry-below t,
+  run-entry.Post,
+) (run-row-at t) run-row.Post
+run-row-mul-k t c = let z = start (c .before .before .pre .1) in omega arith
+
+-- src/lib.rt:169:13
+run-row-mul-k-2 : (t : ℕ) → run-row-lts.Need-mul-k-2 (
+  run-leaf-reads.Asked,
+  run-leaf-reads.Learnt,
+  run-entry-below t,
+  run-entry.Post,
+) (run-row-at t) run-row.Post
+run-row-mul-k-2 t c = let z = start (c .before .before .pre .1) in omega arith
+
+-- src/lib.rt:169:13
+run-row-shared-slice-read-k : (t : ℕ) → run-row-lts.Need-shared-slice-read-k (
+  run-leaf-reads.Asked,
+  run-leaf-reads.Learnt,
+  run-entry-below t,
+  run-entry.Post,
+) (run-row-at t) run-row.Post
+run-row-shared-slice-read-k t c = let z = start (c .before .before .before .pre .1) in omega arith
+
+-- src/lib.rt:171:36
+run-row-add-if2 : (t : ℕ) → run-row-lts.Need-add-if2 (
+  run-leaf-reads.Asked,
+  run-leaf-reads.Learnt,
+  run-entry-below t,
+  run-entry.Post,
+) (run-row-at t) run-row.Post
+run-row-add-if2 t c =
+    let h = c .before .before .before .before .pre .1 in
+    let z = start h in
+    let y = middle h (joint h (c .if1 .taken)) (joint-kind h (c .if1 .taken)) in
+    omega arith
+
+-- src/lib.rt:171:26
+run-row-mul-if2 : (t : ℕ) → run-row-lts.Need-mul-if2 (
+  run-leaf-reads.Asked,
+  run-leaf-reads.Learnt,
+  run-entry-below t,
+  run-entry.Post,
+) (run-row-at t) run-row.Post
+run-row-mul-if2 t c =
+    let h = c .before .before .before .before .pre .1 in
+    let z = start h in
+    let y = middle h (joint h (c .if1 .taken)) (joint-kind h (c .if1 .taken)) in
+    omega arith
+
+-- src/lib.rt:171:24
+run-row-mul-if2-2 : (t : ℕ) → run-row-lts.Need-mul-if2-2 (
+  run-leaf-reads.Asked,
+  run-leaf-reads.Learnt,
+  run-entry-below t,
+  run-entry.Post,
+) (run-row-at t) run-row.Post
+run-row-mul-if2-2 t c =
+    let h = c .before .before .before .before .pre .1 in
+    let z = start h in
+    let y = middle h (joint h (c .if1 .taken)) (joint-kind h (c .if1 .taken)) in
+    omega arith
+
+-- src/lib.rt:171:24
+run-row-shared-slice-read-if2 : (t : ℕ) → run-row-lts.Need-shared-slice-read-if2 (
+  run-leaf-reads.Asked,
+  run-leaf-reads.Learnt,
+  run-entry-below t,
+  run-entry.Post,
+) (run-row-at t) run-row.Post
+run-row-shared-slice-read-if2 t c =
+    let h = c .before .before .before .before .before .pre .1 in
+    let z = start h in
+    let y = middle h (joint h (c .before .if1 .taken)) (joint-kind h (c .before .if1 .taken)) in
+    omega arith
+
+-- src/lib.rt:172:45
+run-row-add-run-leaf : (t : ℕ) → run-row-lts.Need-add-run-leaf (
+  run-leaf-reads.Asked,
+  run-leaf-reads.Learnt,
+  run-entry-below t,
+  run-entry.Post,
+) (run-row-at t) run-row.Post
+run-row-add-run-leaf t c =
+    let h = c .before .before .before .before .before .before .pre .1 in
+    let z = start h in
+    let y = middle h (joint h (c .before .before .if1 .taken)) (joint-kind h (c .before .before .if1 .taken)) in
+    omega arith
+
+-- src/lib.rt:172:17
+run-row-run-leaf-requires : (t : ℕ) → run-row-lts.Need-run-leaf-requires (
+  run-leaf-reads.Asked,
+  run-leaf-reads.Learnt,
+  run-entry-below t,
+  run-entry.Post,
+) (run-row-at t) run-row.Post
+run-row-run-leaf-requires t c κs = test-ready (c .before .before .before .before .before .before .pre .1) (c .before .before .if1 .taken) (c .if2 .taken)
+
+-- src/lib.rt:174:17
+run-row-returns : (t : ℕ) → run-row-lts.Need-returns (
+  run-leaf-reads.Asked,
+  run-leaf-reads.Learnt,
+  run-entry-below t,
+  run-entry.Post,
+) (run-row-at t) run-row.Post
+run-row-returns t c = λ h.
+    let two = c .before .before .before .before .if1 .taken in
+    let k = c .before .before .if2 .taken in
+    test-decides h two k _ (c .before .run-leaf .ensures (test-ready h two k)) (c .if3 .taken)
+
+-- src/lib.rt:176:44
+run-row-mul-run-entry : (t : ℕ) → run-row-lts.Need-mul-run-entry (
+  run-leaf-reads.Asked,
+  run-leaf-reads.Learnt,
+  run-entry-below t,
+  run-entry.Post,
+) (run-row-at t) run-row.Post
+run-row-mul-run-entry t c =
+    let h = c .before .before .before .before .before .before .before .before .pre .1 in
+    let z = start h in
+    let y = middle h (joint h (c .before .before .before .before .if1 .taken)) (joint-kind h (c .before .before .before .before .if1 .taken)) in
+    omega arith
+
+-- src/lib.rt:176:44
+run-row-add-run-entry : (t : ℕ) → run-row-lts.Need-add-run-entry (
+  run-leaf-reads.Asked,
+  run-leaf-reads.Learnt,
+  run-entry-below t,
+  run-entry.Post,
+) (run-row-at t) run-row.Post
+run-row-add-run-entry t c =
+    let h = c .before .before .before .before .before .before .before .before .pre .1 in
+    let z = start h in
+    let y = middle h (joint h (c .before .before .before .before .if1 .taken)) (joint-kind h (c .before .before .before .before .if1 .taken)) in
+    omega arith
+
+-- src/lib.rt:176:42
+run-row-mul-run-entry-2 : (t : ℕ) → run-row-lts.Need-mul-run-entry-2 (
+  run-leaf-reads.Asked,
+  run-leaf-reads.Learnt,
+  run-entry-below t,
+  run-entry.Post,
+) (run-row-at t) run-row.Post
+run-row-mul-run-entry-2 t c =
+    let h = c .before .before .before .before .before .before .before .before .pre .1 in
+    let z = start h in
+    let y = middle h (joint h (c .before .before .before .before .if1 .taken)) (joint-kind h (c .before .before .before .before .if1 .taken)) in
+    omega arith
+
+-- src/lib.rt:176:42
+run-row-shared-slice-read-run-entry : (t : ℕ) → run-row-lts.Need-shared-slice-read-run-entry (
+  run-leaf-reads.Asked,
+  run-leaf-reads.Learnt,
+  run-entry-below t,
+  run-entry.Post,
+) (run-row-at t) run-row.Post
+run-row-shared-slice-read-run-entry t c =
+    let h = c .before .before .before .before .before .before .before .before .before .pre .1 in
+    let z = start h in
+    let y = middle h (joint h (c .before .before .before .before .before .if1 .taken)) (joint-kind h (c .before .before .before .before .before .if1 .taken)) in
+    omega arith
+
+-- src/lib.rt:176:13
+run-row-run-entry-requires : (t : ℕ) → run-row-lts.Need-run-entry-requires (
+  run-leaf-reads.Asked,
+  run-leaf-reads.Learnt,
+  run-entry-below t,
+  run-entry.Post,
+) (run-row-at t) run-row.Post
+run-row-run-entry-requires t c κs =
+    let p = c .before .before .before .before .before .before .before .before .before .pre in
+    let two = c .before .before .before .before .before .if1 .taken in
+    let m = p .0 in
+    let y = middle (p .1) (joint (p .1) two) (joint-kind (p .1) two) in
+    (omega arith, right-run (p .1) (joint (p .1) two) (joint-kind (p .1) two))
+
+-- src/lib.rt:176:13
+run-row-returns-2 : (t : ℕ) → run-row-lts.Need-returns-2 (
+  run-leaf-reads.Asked,
+  run-leaf-reads.Learnt,
+  run-entry-below t,
+  run-entry.Post,
+) (run-row-at t) run-row.Post
+run-row-returns-2 t c = λ h.
+    let two = c .before .before .before .before .before .before .if1 .taken in
+    let k = c .before .before .before .before .if2 .taken in
+    test-passes h two k _ (c .before .before .before .run-leaf .ensures (test-ready h two k)) (c .before .before .if3 .left) _
+    (c .run-entry .ensures (right-run h (joint h two) (joint-kind h two)))
+
+-- src/lib.rt:179:5
+run-row-run-entry-requires-2 : (t : ℕ) → run-row-lts.Need-run-entry-requires-2 (
+  run-leaf-reads.Asked,
+  run-leaf-reads.Learnt,
+  run-entry-below t,
+  run-entry.Post,
+) (run-row-at t) run-row.Post
+run-row-run-entry-requires-2 t c κs = let p = c .before .before .before .before .pre in let m = p .0 in (omega arith, p .1)
+
+-- src/lib.rt:157:1
+run-row-returns-3 : (t : ℕ) → run-row-lts.Need-returns-3 (
+  run-leaf-reads.Asked,
+  run-leaf-reads.Learnt,
+  run-entry-below t,
+  run-entry.Post,
+) (run-row-at t) run-row.Post
+run-row-returns-3 t c = c .run-entry2 .ensures
+
 abbrev run-rows-Inv-loop : run-rows-lts.InvT-loop
 run-rows-Inv-loop d g file s e w depth q table first₀ v₀ r₀ first v r = RowsPassed d g file w s e depth q table r first v
 
 abbrev run-rows-μ-loop : run-rows-lts.MeasureT-loop
 run-rows-μ-loop d g file s e w depth q table first₀ v₀ r₀ first v r = table .rows - r
 
+-- src/lib.rt:196:32
 run-rows-add-if1 : (t : ℕ) → run-rows-lts.Need-add-if1 (
   run-leaf-rows-reads.Asked,
   run-leaf-rows-reads.Learnt,
   table-place-reads.Asked,
   table-place-reads.Learnt,
-  run-entry-below t,
-  run-entry.Post,
+  run-row-below t,
+  run-row.Post,
 ) (run-rows-at t) run-rows.Post run-rows-Inv-loop run-rows-μ-loop
 run-rows-add-if1 t c = let o = c .before .before in let z = row-bounds (o .pre .1 .0) (o .args .q) (o .pre .1 .1) in omega arith
 
+-- src/lib.rt:196:22
 run-rows-mul-if1 : (t : ℕ) → run-rows-lts.Need-mul-if1 (
   run-leaf-rows-reads.Asked,
   run-leaf-rows-reads.Learnt,
   table-place-reads.Asked,
   table-place-reads.Learnt,
-  run-entry-below t,
-  run-entry.Post,
+  run-row-below t,
+  run-row.Post,
 ) (run-rows-at t) run-rows.Post run-rows-Inv-loop run-rows-μ-loop
 run-rows-mul-if1 t c = let o = c .before .before in let z = row-bounds (o .pre .1 .0) (o .args .q) (o .pre .1 .1) in omega arith
 
+-- src/lib.rt:196:20
 run-rows-mul-if1-2 : (t : ℕ) → run-rows-lts.Need-mul-if1-2 (
   run-leaf-rows-reads.Asked,
   run-leaf-rows-reads.Learnt,
   table-place-reads.Asked,
   table-place-reads.Learnt,
-  run-entry-below t,
-  run-entry.Post,
+  run-row-below t,
+  run-row.Post,
 ) (run-rows-at t) run-rows.Post run-rows-Inv-loop run-rows-μ-loop
 run-rows-mul-if1-2 t c = let o = c .before .before in let z = row-bounds (o .pre .1 .0) (o .args .q) (o .pre .1 .1) in omega arith
 
+-- src/lib.rt:196:20
 run-rows-shared-slice-read-if1 : (t : ℕ) → run-rows-lts.Need-shared-slice-read-if1 (
   run-leaf-rows-reads.Asked,
   run-leaf-rows-reads.Learnt,
   table-place-reads.Asked,
   table-place-reads.Learnt,
-  run-entry-below t,
-  run-entry.Post,
+  run-row-below t,
+  run-row.Post,
 ) (run-rows-at t) run-rows.Post run-rows-Inv-loop run-rows-μ-loop
 run-rows-shared-slice-read-if1 t c = let o = c .before .before .before in let z = row-bounds (o .pre .1 .0) (o .args .q) (o .pre .1 .1) in omega arith
 
+-- src/lib.rt:197:9
 run-rows-run-leaf-rows-requires : (t : ℕ) → run-rows-lts.Need-run-leaf-rows-requires (
   run-leaf-rows-reads.Asked,
   run-leaf-rows-reads.Learnt,
   table-place-reads.Asked,
   table-place-reads.Learnt,
-  run-entry-below t,
-  run-entry.Post,
+  run-row-below t,
+  run-row.Post,
 ) (run-rows-at t) run-rows.Post run-rows-Inv-loop run-rows-μ-loop
 run-rows-run-leaf-rows-requires t c κs = let o = c .before .before .before .before in (o .pre .1 .0, (o .pre .1 .1, c .if1 .taken))
 
+-- src/lib.rt:197:9
 run-rows-returns : (t : ℕ) → run-rows-lts.Need-returns (
   run-leaf-rows-reads.Asked,
   run-leaf-rows-reads.Learnt,
   table-place-reads.Asked,
   table-place-reads.Learnt,
-  run-entry-below t,
-  run-entry.Post,
+  run-row-below t,
+  run-row.Post,
 ) (run-rows-at t) run-rows.Post run-rows-Inv-loop run-rows-μ-loop
 run-rows-returns t c = c .run-leaf-rows .ensures
 
+-- src/lib.rt:199:41
 run-rows-mul-table-place : (t : ℕ) → run-rows-lts.Need-mul-table-place (
   run-leaf-rows-reads.Asked,
   run-leaf-rows-reads.Learnt,
   table-place-reads.Asked,
   table-place-reads.Learnt,
-  run-entry-below t,
-  run-entry.Post,
+  run-row-below t,
+  run-row.Post,
 ) (run-rows-at t) run-rows.Post run-rows-Inv-loop run-rows-μ-loop
 run-rows-mul-table-place t c = let o = c .before .before .before .before in let z = row-bounds (o .pre .1 .0) (o .args .q) (o .pre .1 .1) in omega arith
 
+-- src/lib.rt:199:41
 run-rows-add-table-place : (t : ℕ) → run-rows-lts.Need-add-table-place (
   run-leaf-rows-reads.Asked,
   run-leaf-rows-reads.Learnt,
   table-place-reads.Asked,
   table-place-reads.Learnt,
-  run-entry-below t,
-  run-entry.Post,
+  run-row-below t,
+  run-row.Post,
 ) (run-rows-at t) run-rows.Post run-rows-Inv-loop run-rows-μ-loop
 run-rows-add-table-place t c = let o = c .before .before .before .before in let z = row-bounds (o .pre .1 .0) (o .args .q) (o .pre .1 .1) in omega arith
 
+-- src/lib.rt:199:39
 run-rows-mul-table-place-2 : (t : ℕ) → run-rows-lts.Need-mul-table-place-2 (
   run-leaf-rows-reads.Asked,
   run-leaf-rows-reads.Learnt,
   table-place-reads.Asked,
   table-place-reads.Learnt,
-  run-entry-below t,
-  run-entry.Post,
+  run-row-below t,
+  run-row.Post,
 ) (run-rows-at t) run-rows.Post run-rows-Inv-loop run-rows-μ-loop
 run-rows-mul-table-place-2 t c = let o = c .before .before .before .before in let z = row-bounds (o .pre .1 .0) (o .args .q) (o .pre .1 .1) in omega arith
 
+-- src/lib.rt:199:39
 run-rows-shared-slice-read-table-place : (t : ℕ) → run-rows-lts.Need-shared-slice-read-table-place (
   run-leaf-rows-reads.Asked,
   run-leaf-rows-reads.Learnt,
   table-place-reads.Asked,
   table-place-reads.Learnt,
-  run-entry-below t,
-  run-entry.Post,
+  run-row-below t,
+  run-row.Post,
 ) (run-rows-at t) run-rows.Post run-rows-Inv-loop run-rows-μ-loop
 run-rows-shared-slice-read-table-place t c = let o = c .before .before .before .before .before in let z = row-bounds (o .pre .1 .0) (o .args .q) (o .pre .1 .1) in omega arith
 
+-- src/lib.rt:199:9
 run-rows-table-place-requires : (t : ℕ) → run-rows-lts.Need-table-place-requires (
   run-leaf-rows-reads.Asked,
   run-leaf-rows-reads.Learnt,
   table-place-reads.Asked,
   table-place-reads.Learnt,
-  run-entry-below t,
-  run-entry.Post,
+  run-row-below t,
+  run-row.Post,
 ) (run-rows-at t) run-rows.Post run-rows-Inv-loop run-rows-μ-loop
 run-rows-table-place-requires t c κs = let o = c .before .before .before .before .before in row-bounds (o .pre .1 .0) (o .args .q) (o .pre .1 .1) .high
 
+-- src/lib.rt:203:5
 run-rows-loop-holds : (t : ℕ) → run-rows-lts.Need-loop-holds (
   run-leaf-rows-reads.Asked,
   run-leaf-rows-reads.Learnt,
   table-place-reads.Asked,
   table-place-reads.Learnt,
-  run-entry-below t,
-  run-entry.Post,
+  run-row-below t,
+  run-row.Post,
 ) (run-rows-at t) run-rows.Post run-rows-Inv-loop run-rows-μ-loop
 run-rows-loop-holds t c = passed-none _ _ _ _ _ _ _ _ (c .before .before .before .before .before .before .before .pre .1 .0 .readable .standing .size) (c .before .table-place .ensures)
 
+-- src/lib.rt:204:9
 run-rows-mul-v : (t : ℕ) → run-rows-lts.Need-mul-v (
   run-leaf-rows-reads.Asked,
   run-leaf-rows-reads.Learnt,
   table-place-reads.Asked,
   table-place-reads.Learnt,
-  run-entry-below t,
-  run-entry.Post,
+  run-row-below t,
+  run-row.Post,
 ) (run-rows-at t) run-rows.Post run-rows-Inv-loop run-rows-μ-loop
 run-rows-mul-v t c =
     let o = c .before .before .before .before .before .before .before .before .before .before in
     let z = row-bounds (o .pre .1 .0) (o .args .q) (o .pre .1 .1) in
     omega arith
 
+-- src/lib.rt:204:9
 run-rows-array-write-v : (t : ℕ) → run-rows-lts.Need-array-write-v (
   run-leaf-rows-reads.Asked,
   run-leaf-rows-reads.Learnt,
   table-place-reads.Asked,
   table-place-reads.Learnt,
-  run-entry-below t,
-  run-entry.Post,
+  run-row-below t,
+  run-row.Post,
 ) (run-rows-at t) run-rows.Post run-rows-Inv-loop run-rows-μ-loop
 run-rows-array-write-v t c =
     let o = c .before .before .before .before .before .before .before .before .before .before in
     let z = row-bounds (o .pre .1 .0) (o .args .q) (o .pre .1 .1) in
     omega arith
 
-run-rows-add-run-entry : (t : ℕ) → run-rows-lts.Need-add-run-entry (
+-- src/lib.rt:205:37
+run-rows-add-run-row : (t : ℕ) → run-rows-lts.Need-add-run-row (
   run-leaf-rows-reads.Asked,
   run-leaf-rows-reads.Learnt,
   table-place-reads.Asked,
   table-place-reads.Learnt,
-  run-entry-below t,
-  run-entry.Post,
+  run-row-below t,
+  run-row.Post,
 ) (run-rows-at t) run-rows.Post run-rows-Inv-loop run-rows-μ-loop
-run-rows-add-run-entry t c =
+run-rows-add-run-row t c =
     let o = c .before .before .before .before .before .before .before .before .before .before in
     let z = row-bounds (o .pre .1 .0) (o .args .q) (o .pre .1 .1) in
     omega arith
 
-run-rows-add-run-entry-2 : (t : ℕ) → run-rows-lts.Need-add-run-entry-2 (
+-- src/lib.rt:205:51
+run-rows-add-run-row-2 : (t : ℕ) → run-rows-lts.Need-add-run-row-2 (
   run-leaf-rows-reads.Asked,
   run-leaf-rows-reads.Learnt,
   table-place-reads.Asked,
   table-place-reads.Learnt,
-  run-entry-below t,
-  run-entry.Post,
+  run-row-below t,
+  run-row.Post,
 ) (run-rows-at t) run-rows.Post run-rows-Inv-loop run-rows-μ-loop
-run-rows-add-run-entry-2 t c =
+run-rows-add-run-row-2 t c =
     let o = c .before .before .before .before .before .before .before .before .before .before .before in
     let z = row-bounds (o .pre .1 .0) (o .args .q) (o .pre .1 .1) in
     omega arith
 
-run-rows-run-entry-requires : (t : ℕ) → run-rows-lts.Need-run-entry-requires (
+-- src/lib.rt:205:13
+run-rows-run-row-requires : (t : ℕ) → run-rows-lts.Need-run-row-requires (
   run-leaf-rows-reads.Asked,
   run-leaf-rows-reads.Learnt,
   table-place-reads.Asked,
   table-place-reads.Learnt,
-  run-entry-below t,
-  run-entry.Post,
+  run-row-below t,
+  run-row.Post,
 ) (run-rows-at t) run-rows.Post run-rows-Inv-loop run-rows-μ-loop
-run-rows-run-entry-requires t c κs =
+run-rows-run-row-requires t c κs =
     let o = c .before .before .before .before .before .before .before .before .before .before .before in
     let m = o .pre .0 in
     let z = row-bounds (o .pre .1 .0) (o .args .q) (o .pre .1 .1) in
     (omega arith, inner-run (o .pre .1 .0) (o .args .q) (o .pre .1 .1) (c .before .if2 .taken) (c .before .before .before .loop .inv))
 
+-- src/lib.rt:207:13
 run-rows-returns-2 : (t : ℕ) → run-rows-lts.Need-returns-2 (
   run-leaf-rows-reads.Asked,
   run-leaf-rows-reads.Learnt,
   table-place-reads.Asked,
   table-place-reads.Learnt,
-  run-entry-below t,
-  run-entry.Post,
+  run-row-below t,
+  run-row.Post,
 ) (run-rows-at t) run-rows.Post run-rows-Inv-loop run-rows-μ-loop
 run-rows-returns-2 t c = λ h.
     let o = c .before .before .before .before .before .before .before .before .before .before .before .before .before in
     let below = c .before .before .before .if2 .taken in
     let passed = c .before .before .before .before .before .loop .inv in
-    row-stops h (o .args .q) (o .pre .1 .1) passed below _ (c .before .run-entry .ensures (inner-run h (o .args .q) (o .pre .1 .1) below passed))
+    row-stops h (o .args .q) (o .pre .1 .1) passed below _ (c .before .run-row .ensures (inner-run h (o .args .q) (o .pre .1 .1) below passed))
     (differ _ _ (c .if3 .taken))
 
+-- src/lib.rt:209:9
 run-rows-add-first : (t : ℕ) → run-rows-lts.Need-add-first (
   run-leaf-rows-reads.Asked,
   run-leaf-rows-reads.Learnt,
   table-place-reads.Asked,
   table-place-reads.Learnt,
-  run-entry-below t,
-  run-entry.Post,
+  run-row-below t,
+  run-row.Post,
 ) (run-rows-at t) run-rows.Post run-rows-Inv-loop run-rows-μ-loop
 run-rows-add-first t c =
     let o = c .before .before .before .before .before .before .before .before .before .before .before .before .before .before in
     let z = row-room (o .pre .1 .0) (o .args .q) (o .pre .1 .1) (c .before .before .before .before .if2 .taken) (c .before .before .before .before .before .before .loop .inv) in
     omega arith
 
+-- src/lib.rt:210:9
 run-rows-add-r : (t : ℕ) → run-rows-lts.Need-add-r (
   run-leaf-rows-reads.Asked,
   run-leaf-rows-reads.Learnt,
   table-place-reads.Asked,
   table-place-reads.Learnt,
-  run-entry-below t,
-  run-entry.Post,
+  run-row-below t,
+  run-row.Post,
 ) (run-rows-at t) run-rows.Post run-rows-Inv-loop run-rows-μ-loop
 run-rows-add-r t c =
     let o = c .before .before .before .before .before .before .before .before .before .before .before .before .before .before in
     let z = row-few (o .pre .1 .0) (o .args .q) (o .pre .1 .1) (c .before .before .before .before .if2 .taken) (c .before .before .before .before .before .before .loop .inv) in
     omega arith
 
+-- src/lib.rt:203:5
 run-rows-loop-less : (t : ℕ) → run-rows-lts.Need-loop-less (
   run-leaf-rows-reads.Asked,
   run-leaf-rows-reads.Learnt,
   table-place-reads.Asked,
   table-place-reads.Learnt,
-  run-entry-below t,
-  run-entry.Post,
+  run-row-below t,
+  run-row.Post,
 ) (run-rows-at t) run-rows.Post run-rows-Inv-loop run-rows-μ-loop
 run-rows-loop-less t c = let z = c .before .before .before .before .if2 .taken in omega arith
 
+-- src/lib.rt:203:5
 run-rows-loop-again : (t : ℕ) → run-rows-lts.Need-loop-again (
   run-leaf-rows-reads.Asked,
   run-leaf-rows-reads.Learnt,
   table-place-reads.Asked,
   table-place-reads.Learnt,
-  run-entry-below t,
-  run-entry.Post,
+  run-row-below t,
+  run-row.Post,
 ) (run-rows-at t) run-rows.Post run-rows-Inv-loop run-rows-μ-loop
 run-rows-loop-again t c =
     let o = c .before .before .before .before .before .before .before .before .before .before .before .before .before .before in
     let below = c .before .before .before .before .if2 .taken in
     let passed = c .before .before .before .before .before .before .loop .inv in
     passed-more _ _ _ _ _ _ _ _ passed (λ h.
-    sym (c .before .before .run-entry .ensures (inner-run h (o .args .q) (o .pre .1 .1) below passed) ∙ inner-says h (o .args .q) (o .pre .1 .1) _)
+    sym (c .before .before .run-row .ensures (inner-run h (o .args .q) (o .pre .1 .1) below passed) ∙ inner-says h (o .args .q) (o .pre .1 .1) _)
     ∙ agree _ _ (c .before .if3 .left))
 
+-- src/lib.rt:183:1
 run-rows-returns-3 : (t : ℕ) → run-rows-lts.Need-returns-3 (
   run-leaf-rows-reads.Asked,
   run-leaf-rows-reads.Learnt,
   table-place-reads.Asked,
   table-place-reads.Learnt,
-  run-entry-below t,
-  run-entry.Post,
+  run-row-below t,
+  run-row.Post,
 ) (run-rows-at t) run-rows.Post run-rows-Inv-loop run-rows-μ-loop
 run-rows-returns-3 t c = λ h.
     let o = c .before .before .before .before .before .before .before .before .before .before in
     rows-end h (o .args .q) (o .pre .1 .1) (c .before .before .loop .inv) (c .if2 .left)
 
-pub +run-entry+run-inner+run-rows-spec : {M : Type 1} → statement M
-+run-entry+run-inner+run-rows-spec =
-    close μ-run-entry μ-run-inner μ-run-rows (λ t. run-entry-lts.spec (
+pub +run-entry+run-inner+run-row+run-rows-spec : {M : Type 1} → statement M
++run-entry+run-inner+run-row+run-rows-spec =
+    close μ-run-entry μ-run-inner μ-run-row μ-run-rows (λ t. run-entry-lts.spec (
       run-leaf-reads.Asked,
       run-leaf-reads.Learnt,
       run-inner-below t,
@@ -659,13 +936,39 @@ pub +run-entry+run-inner+run-rows-spec : {M : Type 1} → statement M
     (run-inner-returns-4 t)
     (run-inner-returns-5 t)
     (run-inner-returns-6 t))
+    (λ t. run-row-lts.spec (
+      run-leaf-reads.Asked,
+      run-leaf-reads.Learnt,
+      run-entry-below t,
+      run-entry.Post,
+    )
+    (run-row-at t)
+    run-row.Post
+    (run-row-mul-k t)
+    (run-row-mul-k-2 t)
+    (run-row-shared-slice-read-k t)
+    (run-row-add-if2 t)
+    (run-row-mul-if2 t)
+    (run-row-mul-if2-2 t)
+    (run-row-shared-slice-read-if2 t)
+    (run-row-add-run-leaf t)
+    (run-row-run-leaf-requires t)
+    (run-row-returns t)
+    (run-row-mul-run-entry t)
+    (run-row-add-run-entry t)
+    (run-row-mul-run-entry-2 t)
+    (run-row-shared-slice-read-run-entry t)
+    (run-row-run-entry-requires t)
+    (run-row-returns-2 t)
+    (run-row-run-entry-requires-2 t)
+    (run-row-returns-3 t))
     λ t. run-rows-lts.spec (
       run-leaf-rows-reads.Asked,
       run-leaf-rows-reads.Learnt,
       table-place-reads.Asked,
       table-place-reads.Learnt,
-      run-entry-below t,
-      run-entry.Post,
+      run-row-below t,
+      run-row.Post,
     )
     (run-rows-at t)
     run-rows.Post
@@ -685,9 +988,9 @@ pub +run-entry+run-inner+run-rows-spec : {M : Type 1} → statement M
     (run-rows-loop-holds t)
     (run-rows-mul-v t)
     (run-rows-array-write-v t)
-    (run-rows-add-run-entry t)
-    (run-rows-add-run-entry-2 t)
-    (run-rows-run-entry-requires t)
+    (run-rows-add-run-row t)
+    (run-rows-add-run-row-2 t)
+    (run-rows-run-row-requires t)
     (run-rows-returns-2 t)
     (run-rows-add-first t)
     (run-rows-add-r t)
