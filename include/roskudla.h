@@ -3,7 +3,8 @@
  * Six calls. Each returns 0, or the number of a refusal (1 to 12, below): the lowest that applies. The answer comes through pointers, and a
  * refusal leaves everything that they point to as it was; after a success what lies past the answer is untouched. docs/RULES.md says how
  * rules are written and what they mean, docs/FORMATS.md what the bytes of tables and cards are; the definitions that the calls are proved
- * against are in crates/rule/specs, crates/tables/specs and crates/card/specs, with an index in docs/ARCHITECTURE.md.
+ * against are in crates/rule/specs, crates/tables/specs, crates/card/specs and crates/translation/specs, with an index in
+ * docs/ARCHITECTURE.md.
  *
  * A slice is a pointer and its length, in elements. Where the length is 0 the pointer is not looked at and may be NULL. All other pointers
  * point to as many elements as their length says, or to one where they have no length; they are never NULL, and are aligned as C aligns what

@@ -55,6 +55,8 @@ def check_crates():
             if not more:
                 break
             above |= more
+        if not all(int(cell.replace(",", "")) for cell in cells[2:4]):
+            faults.append(f"{name} has no measured time or memory")
         if set(quoted(cells[1])) != uses.get(name, set()):
             faults.append(f"{name} uses {sorted(uses.get(name, ()))}, not {quoted(cells[1])}")
         if set(quoted(cells[4])) != above - {name}:
