@@ -16,7 +16,7 @@ const TURN: Duration = Duration::from_millis(2);
 /// Calls that take longer than this are made no second time.
 const LONG: Duration = Duration::from_secs(1);
 
-/// Moves all code behind it, the library's and the reference's: where code lies against cache lines makes a difference to both.
+/// Moves all code behind it, the library's and the reference's: where code lies against cache lines makes a difference to both. BENCH_PADDING says by how much.
 #[inline(never)]
 fn padding() {
     unsafe { arch::asm!(concat!(".skip ", env!("BENCH_PADDING"))) }

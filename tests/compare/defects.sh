@@ -17,7 +17,7 @@ work="$root/target/cargo-defects/work"
 rm -rf "$work"
 mkdir -p "$work/tests/compare" "$work/bindings" "$work/reference"
 # the copies must be younger than what was built of a defect before, else cargo would take that for theirs
-cp "$root/Cargo.toml" "$work/Cargo.toml"
+printf '[workspace]\nresolver = "2"\nmembers = ["bindings/rust", "reference", "tests/compare"]\n' > "$work/Cargo.toml" # what is copied, and no other package
 cp -r "$here/Cargo.toml" "$here/src" "$work/tests/compare/"
 cp -r "$root/bindings/rust" "$work/bindings/rust"
 cp -r "$root/reference/Cargo.toml" "$root/reference/src" "$work/reference/"
