@@ -26,7 +26,7 @@ sys.path += [str(ROOT / "bindings" / "python"), str(ROOT / "tests" / "model")]
 import generate  # noqa: E402
 import roskudla  # noqa: E402
 
-ROUNDS = 8
+ROUNDS = 4
 ENGINES = ("SQLite", "PostgreSQL")
 LATE = float("inf")  # the time of a query that takes longer than it may
 COMPUTED_FROM, COMPUTED_FOR = 200, 1000  # rows of the longest RUN: measured, and computed from that

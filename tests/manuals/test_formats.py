@@ -796,16 +796,15 @@ def with_compound(sheet, number, kind, table=0):
     return changed_at(sheet[:record + 2] + bytes([table]) + bytes(11) + sheet[record + 14:], 3 + sheet[2] + number, kind)
 
 
-def clause_cards(clauses, a, b):
-    """For each clause, cards that break it and no other, and cards that keep all of them, on the good side of its limits; from the worked cards A and B."""
+def broken_cards(clauses, a, b):
+    """For each clause, cards that break it and no other, just past its limits; from the worked cards A and B."""
     low_n, high_n = clauses.numbers(1)
     low_t, high_t = clauses.numbers(2)
     low_c, high_c = clauses.numbers(3)
     low_k, high_k = clauses.numbers(5)
     most_rows, _ = clauses.numbers(10)
     low_op, high_op = clauses.numbers(11)
-    wide = [model.card_bytes(blank_test(0, column), [count]) for column, count in ((1, low_c), (high_c, high_c), (low_c, high_c))]
-    bad = {
+    return {
         1: [(low_n - 1).to_bytes(2, "little") + a[2:4], model.card_bytes(chain_of(high_n + 1), [3]), model.card_bytes(chain_of(256), [3])],
         2: [a[:2] + bytes([count]) + bytes([3]) * count + a[4:] for count in (low_t - 1, high_t + 1, 255)],
         3: [changed_at(b, 5, low_c - 1), changed_at(b, 5, high_c + 1), changed_at(b, 5, 255), changed_at(a, 3, high_c + 1)],
@@ -827,7 +826,17 @@ def clause_cards(clauses, a, b):
         14: [changed_at(a, 7, byte) for byte in (1, 255)]
             + [changed_at(b, place, byte) for byte in (1, 255) for place in (*range(13, 24), *range(26, 38), 40, 54)],
     }
-    good = {
+
+
+def kept_cards(clauses, a, b):
+    """For each clause, cards that keep all of them, on the good side of its limits; from the same two cards."""
+    low_n, high_n = clauses.numbers(1)
+    low_t, high_t = clauses.numbers(2)
+    low_c, high_c = clauses.numbers(3)
+    most_rows, _ = clauses.numbers(10)
+    low_op, high_op = clauses.numbers(11)
+    wide = [model.card_bytes(blank_test(0, column), [count]) for column, count in ((1, low_c), (high_c, high_c), (low_c, high_c))]
+    return {
         1: [model.card_bytes(chain_of(count), [3]) for count in (low_n, low_n + 1, high_n - 1, high_n)],
         2: [a[:2] + bytes([count]) + bytes([3]) * count + a[4:] for count in range(low_t, high_t + 1)],
         3: wide + [changed_at(a, 3, count) for count in range(2, high_c + 1)] + [changed_at(b, 5, count) for count in range(low_c, high_c + 1)],
@@ -847,7 +856,6 @@ def clause_cards(clauses, a, b):
             + [model.card_bytes(model.blank_entry(kind, model.TaggedValue(255, -1)), [1]) for kind in (7, 8)],
         14: [a, b],
     }
-    return bad, good
 
 
 def every_kind():
@@ -861,7 +869,7 @@ def every_kind():
 def check_soundness(manual, ask, draws, known):
     clauses = Clauses(manual.clauses(3), known["record"])
     a, b = known["A"], known["B"]
-    bad, good = clause_cards(clauses, a, b)
+    bad, good = broken_cards(clauses, a, b), kept_cards(clauses, a, b)
     for number in CLAUSE_PATTERNS:
         demand(f"cards for clause {number}", bad[number] and good[number])
         for sheet in bad[number]:
@@ -874,6 +882,15 @@ def check_soundness(manual, ask, draws, known):
         COUNTS["accepted cards"] += len(good[number])
     COUNTS["clauses"] = len(CLAUSE_PATTERNS)
 
+    check_changed_cards(ask, draws, known, clauses)
+    check_limits_said_twice(manual, known, clauses)
+    check_card_of_no_rule(manual, ask, known)
+    check_depth(manual, ask, clauses)
+
+
+def check_changed_cards(ask, draws, known, clauses):
+    """Cards A and B with each byte changed and cut at each length, and drawn cards: CHECK refuses exactly those that break a clause."""
+    a, b = known["A"], known["B"]
     changed = [changed_at(sheet, place, byte) for sheet in (a, b) for place in range(len(sheet)) for byte in BYTE_VALUES]
     changed += [sheet[:length] for sheet in (a, b) for length in range(len(sheet))]
     changed += [generate.damaged_card(draws, sheet) for sheet in known["drawn cards"] for _ in range(3)]
@@ -883,6 +900,9 @@ def check_soundness(manual, ask, draws, known):
         same(f"{sheet.hex(' ')} breaks {clauses.broken(sheet)}", ask.check(sheet), wanted)
     COUNTS["changed cards"] = len(changed)
 
+
+def check_limits_said_twice(manual, known, clauses):
+    """What sections 2 and 3 both say is the same."""
     limits = {"n": 1, "T": 2, "the columns of table t": 3, "the kind of entry i": 5}
     same("the limits of section 2 and of section 3", known["card limits"], {name: clauses.numbers(clause) for name, clause in limits.items()})
     same("the inner entries of section 2 and of section 3", {kind: clauses.inner(kind) for kind in known["kinds"]},
@@ -891,6 +911,9 @@ def check_soundness(manual, ask, draws, known):
     same("the levels", (low, high), (0, clauses.numbers(10)[0]))
     same("the tag of a constant", manual.numbers_said(2, r"With tag (\d+) the value is a constant, the signed number itself\."), [int(clauses.said[12][0])])
 
+
+def check_card_of_no_rule(manual, ask, known):
+    """The sound card that is said to come from no rule."""
     name, new, old, place = manual.said(3, r"Card ([A-Z]) below with `(..)` in place of `(..)` at offset (\d+) is sound, and no rule has it\.")
     sheet = known[name]
     same("the byte that is replaced", sheet[int(place)], from_hex(old)[0])
@@ -899,7 +922,6 @@ def check_soundness(manual, ask, draws, known):
     for nots in range(4):
         text = b"NOT " * nots + (b"m.2 >= 5" if nots % 2 == 0 else b"m.2 < 5")
         demand(f"{text} does not have it", ask.card(text, *known["A was made with"]) != other)
-    check_depth(manual, ask, clauses)
 
 
 def check_depth(manual, ask, clauses):
@@ -940,6 +962,12 @@ def check_answers(manual, ask, known):
     same("the kinds over no rows", sorted(over_none), sorted(names[name] for name in ("some row", "every row")))
     same("the kinds with a blank value", sorted(with_blank), [5, 6, 7, 8])
 
+    check_compound_answers(ask, names, over_none)
+    check_test_answers(ask, known, names, with_blank)
+
+
+def check_compound_answers(ask, names, over_none):
+    """And, or, some row and every row over all answers of their inner entries."""
     for name, joined in (("and", all), ("or", any)):
         for inner in itertools.product((YES, NO), repeat=2):
             sheet = model.card_bytes(model.pair_entry(names[name], *inner), [1])
@@ -954,6 +982,9 @@ def check_answers(manual, ask, known):
                 same(f"{name} over {inner}", ask.run(sheet, file, 0), wanted)
                 COUNTS["answers of kinds tried"] += 1
 
+
+def check_test_answers(ask, known, names, with_blank):
+    """Every comparison of every pair of cells, and the two tests of blanks."""
     pairs = list(itertools.product(CELLS, repeat=2))
     file = generate.tables_file([(2, [list(pair) for pair in pairs])])
     left, right = model.TaggedValue(0, 1), model.TaggedValue(0, 2)
