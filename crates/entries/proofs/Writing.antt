@@ -22,7 +22,7 @@ use Rattle.parser.proofs.Small.{heldNumber}
 use Rattle.parser.proofs.Parts.{parts-low, part-comparison, part-table, part-left-tag, part-left-number, part-right-tag, part-right-number, IsJoin, IsNot, IsCompare, IsExists, IsListed, is-join, is-not, is-compare, is-blank, is-present, is-exists, is-listed}
 use Rattle.records.specs.Code.{byteNumber, plainRecord, pairKindAs, rowKindAs}
 use Rattle.records.proofs.Flags.{row-small}
-use Rattle.entries.specs.Code.{interpretationOf, leafAs, nullLeaf, cardAs, Room, Wrote, valueBytesIn, CompareReady, ComparedTo, NullReady, NulledTo, Writable, WroteTo}
+use Rattle.entries.specs.Code.{interpretationOf, leafAs, nullLeaf, cardAs, Room, Wrote, valueBytesIn, CompareReady, ComparedTo, NullReady, NulledTo, Writable, WroteTo, StandsUnder}
 use Rattle.entries.proofs.Cards.{connectiveAs, quantifierOf, listConnective, everyRow, card-atom, card-not, card-join, card-exists, card-listed, pair-kind-is, list-kind-is, row-kind-is}
 use Rattle.translation.proofs.Demand3.{some-entries}
 use Rattle.entries.proofs.Spread.{Plain, room-less, room-plain, room-wrote, plain-asked, end-asked, row-written, pair-written}
@@ -526,3 +526,18 @@ module _ {p : List ℕ} {s : ℕ} {negate unknown : Bool} {kinds records : List 
                   let long = list-room .records-fit in
                   rw list-card
                   (row-written (omega (arith, h .room .kinds-size)) (omega arith) put-row (quantifierOf every) (is-row ∙ row-kind-is every (getD p (8 * s + 2) 0)) refl pair-done e)
+
+-- ---- under NOTs
+
+module _ {p : List ℕ} {s : ℕ} {negate unknown : Bool} where
+  pub under-none : StandsUnder p s negate unknown (record { part = s; negate = negate; unknown = unknown })
+  under-none = record { behind = omega arith; ready = λ h. h; wrote = λ f. f }
+
+  pub under-more : {t : ℕ} {a b : Bool} → StandsUnder p s negate unknown (record { part = t; negate = a; unknown = b }) → getD p (8 * t) 0 ≡ 3
+      → StandsUnder p s negate unknown (record { part = t + 1; negate = not a; unknown = not b })
+  under-more u kind =
+      record {
+        behind = omega (arith, u .behind);
+        ready = λ h. not-ready (u .ready h) kind;
+        wrote = λ f. u .wrote (λ h. not-wrote h kind f);
+      }

@@ -18,6 +18,7 @@ use Rattle.names.specs.Code.{partSize, partsSize}
 use Rattle.translation.specs.Translation.{otherLeaf, negated, cardOf}
 use Rattle.parser.specs.Parts.{Stands, SmallPart, SmallParts}
 use Rattle.records.specs.Code.{byteNumber}
+use Rattle.entries.specs.declared.Under.{Under}
 
 -- ---- the card of a rule: false- or true-interpreted, and negated or not
 
@@ -107,3 +108,10 @@ pub record Writable (p : List ℕ) (s : ℕ) (negate unknown : Bool) (kinds reco
 abbrev pub WroteTo : (p : List ℕ) (s : ℕ) (negate unknown : Bool) (kinds records kinds′ records′ : List ℕ) (k : ℕ) → ℕ → Type 0
 WroteTo p s negate unknown kinds records kinds′ records′ k r =
     (h : Writable p s negate unknown kinds records k) → Wrote k (cardAs negate unknown (h .rule)) kinds records kinds′ records′ r
+
+-- under NOTs: the entries of what stands there are those of the parts from number s on
+pub record StandsUnder (p : List ℕ) (s : ℕ) (negate unknown : Bool) (u : Under) : Type 0 where
+  pub behind : s ≤ u .part
+  pub ready : {kinds records : List ℕ} {k : ℕ} → Writable p s negate unknown kinds records k → Writable p (u .part) (u .negate) (u .unknown) kinds records k
+  pub wrote : {kinds records kinds′ records′ : List ℕ} {k r : ℕ} → WroteTo p (u .part) (u .negate) (u .unknown) kinds records kinds′ records′ k r
+      → WroteTo p s negate unknown kinds records kinds′ records′ k r

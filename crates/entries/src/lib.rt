@@ -4,13 +4,14 @@
 // negate, whether the part is negated.
 ghost use mathlib.Core.Path.{_≡_};
 ghost use Prim.Native.Nat.{_*_, _≤_};
-ghost use lib.ListN.{getD};
+ghost use lib.ListN.{length, getD};
 ghost use Rattle.tables.specs.Values.{And, Or, Some};
 ghost use Rattle.rule.specs.Parts.{joinKind, listKind, existsKind};
-ghost use Rattle.names.specs.Code.{partSize};
-ghost use Rattle.entries.specs.Code.{CompareReady, ComparedTo, NullReady, NulledTo, Writable, WroteTo};
+ghost use Rattle.names.specs.Code.{partSize, partsSize};
+ghost use Rattle.entries.specs.Code.{CompareReady, ComparedTo, NullReady, NulledTo, StandsUnder, Writable, WroteTo};
 use card::MOST_ENTRIES;
 use card::RECORD_SIZE;
+use grammar::MOST_PARTS;
 use names::PART_COMPARISON;
 use names::PART_END;
 use names::PART_FIELDS;
@@ -79,6 +80,40 @@ fn write_null(
     k + 1
 }
 
+// A part, whether it is negated, and what unknown counts as in it.
+pub struct Under {
+    pub part: usize,
+    pub negate: bool,
+    pub unknown: bool,
+}
+
+// What stands under the NOTs that begin at part s: they are passed in a loop, where a recursive call for each would hand all arguments on.
+fn under_nots(p: &[usize; PART_NUMBERS], s: usize, negate: bool, unknown: bool) -> Under
+    requires { ⌜ length (now p) ≡ partsSize ⌝ }
+    ensures { λ r. ⌜ StandsUnder (now (p .entry)) s negate unknown r ⌝ }
+{
+    let mut part = s;
+    let mut negated = negate;
+    let mut counted = unknown;
+    while part < MOST_PARTS {
+        if p[PART_FIELDS * part] != NOT_PART {
+            return Under {
+                part: part,
+                negate: negated,
+                unknown: counted,
+            };
+        }
+        part += 1;
+        negated = !negated;
+        counted = !counted;
+    }
+    Under {
+        part: part,
+        negate: negated,
+        unknown: counted,
+    }
+}
+
 // The entries of part s with its inner parts, from number k on; the number of the next entry.
 pub fn write_part(
     p: &[usize; PART_NUMBERS],
@@ -96,7 +131,18 @@ pub fn write_part(
     match kind {
         AND_PART | OR_PART => write_pair(p, s, negate, unknown, kinds, records, k),
         // NOT has no entry: what is under it is negated, in the other interpretation.
-        NOT_PART => write_part(p, s + 1, !negate, !unknown, kinds, records, k),
+        NOT_PART => {
+            let under = under_nots(p, s + 1, !negate, !unknown);
+            write_part(
+                p,
+                under.part,
+                under.negate,
+                under.unknown,
+                kinds,
+                records,
+                k,
+            )
+        }
         COMPARISON_PART => write_comparison(p, s, negate, unknown, kinds, records, k),
         NULL_PART | NOT_NULL_PART => write_null(p, s, negate, kinds, records, k),
         EXISTS_PART => write_exists(p, s, negate, unknown, kinds, records, k),

@@ -23,6 +23,7 @@ use Rattle.records.proofs.pair_kind.Reads as pair-kind-reads
 use Rattle.records.proofs.put16.Reads as put16-reads
 use Rattle.records.proofs.put_plain.Reads as put-plain-reads
 use Rattle.records.proofs.row_kind.Reads as row-kind-reads
+use Rattle.entries.proofs.under_nots.Reads as under-nots-reads
 use Rattle.entries.proofs.write_comparison.Reads as write-comparison-reads
 use Rattle.entries.proofs.write_null.Reads as write-null-reads
 use Rattle.entries.proofs.+write_exists+write_list+write_pair+write_part.{statement}
@@ -1041,6 +1042,8 @@ write-pair-returns t c =
     (c .before .before .put16 .ensures)
 
 write-part-mul-kind : (t : ℕ) → write-part-lts.Need-mul-kind (
+  under-nots-reads.Asked,
+  under-nots-reads.Learnt,
   write-part-below t,
   write-part.Post,
   write-comparison-reads.Asked,
@@ -1058,6 +1061,8 @@ write-part-mul-kind t c =
     let o = c .before in let few = part-few (o .pre .1) in let fewer = entry-few (o .pre .1) in search needs
 
 write-part-mul-kind-2 : (t : ℕ) → write-part-lts.Need-mul-kind-2 (
+  under-nots-reads.Asked,
+  under-nots-reads.Learnt,
   write-part-below t,
   write-part.Post,
   write-comparison-reads.Asked,
@@ -1075,6 +1080,8 @@ write-part-mul-kind-2 t c =
     let o = c .before in let few = part-few (o .pre .1) in let fewer = entry-few (o .pre .1) in search needs
 
 write-part-element-copy-out-kind : (t : ℕ) → write-part-lts.Need-element-copy-out-kind (
+  under-nots-reads.Asked,
+  under-nots-reads.Learnt,
   write-part-below t,
   write-part.Post,
   write-comparison-reads.Asked,
@@ -1091,7 +1098,9 @@ write-part-element-copy-out-kind : (t : ℕ) → write-part-lts.Need-element-cop
 write-part-element-copy-out-kind t c =
     let o = c .before in let few = part-few (o .pre .1) in let fewer = entry-few (o .pre .1) in search needs
 
-write-part-add-write-part : (t : ℕ) → write-part-lts.Need-add-write-part (
+write-part-add-under-nots : (t : ℕ) → write-part-lts.Need-add-under-nots (
+  under-nots-reads.Asked,
+  under-nots-reads.Learnt,
   write-part-below t,
   write-part.Post,
   write-comparison-reads.Asked,
@@ -1105,13 +1114,33 @@ write-part-add-write-part : (t : ℕ) → write-part-lts.Need-add-write-part (
   write-list-below t,
   write-list.Post,
 ) (write-part-at t) write-part.Post
-write-part-add-write-part t c =
+write-part-add-under-nots t c =
     let o = c .before .before .before in
     let few = part-few (o .pre .1) in
     let fewer = entry-few (o .pre .1) in
     search needs
 
+write-part-under-nots-requires : (t : ℕ) → write-part-lts.Need-under-nots-requires (
+  under-nots-reads.Asked,
+  under-nots-reads.Learnt,
+  write-part-below t,
+  write-part.Post,
+  write-comparison-reads.Asked,
+  write-comparison-reads.Learnt,
+  write-exists-below t,
+  write-exists.Post,
+  write-pair-below t,
+  write-pair.Post,
+  write-null-reads.Asked,
+  write-null-reads.Learnt,
+  write-list-below t,
+  write-list.Post,
+) (write-part-at t) write-part.Post
+write-part-under-nots-requires t c κs = c .before .before .before .pre .1 .size
+
 write-part-write-part-requires : (t : ℕ) → write-part-lts.Need-write-part-requires (
+  under-nots-reads.Asked,
+  under-nots-reads.Learnt,
   write-part-below t,
   write-part.Post,
   write-comparison-reads.Asked,
@@ -1126,12 +1155,15 @@ write-part-write-part-requires : (t : ℕ) → write-part-lts.Need-write-part-re
   write-list.Post,
 ) (write-part-at t) write-part.Post
 write-part-write-part-requires t c κs =
-    let o = c .before .before .before .before .before in
+    let o = c .before .before .before .before .before .before in
     let few = part-few (o .pre .1) in
     let m = o .pre .0 in
-    (omega arith, not-ready (o .pre .1) (c .before .before .match .keys1))
+    let u = c .before .before .under-nots .ensures in
+    (omega (arith, u .behind), u .ready (not-ready (o .pre .1) (c .before .before .before .match .keys1)))
 
 write-part-write-comparison-requires : (t : ℕ) → write-part-lts.Need-write-comparison-requires (
+  under-nots-reads.Asked,
+  under-nots-reads.Learnt,
   write-part-below t,
   write-part.Post,
   write-comparison-reads.Asked,
@@ -1150,6 +1182,8 @@ write-part-write-comparison-requires t c κs =
     compare-ready (o .pre .1) (c .before .before .match .keys2)
 
 write-part-write-exists-requires : (t : ℕ) → write-part-lts.Need-write-exists-requires (
+  under-nots-reads.Asked,
+  under-nots-reads.Learnt,
   write-part-below t,
   write-part.Post,
   write-comparison-reads.Asked,
@@ -1169,6 +1203,8 @@ write-part-write-exists-requires t c κs =
     (omega arith, (o .pre .1, c .before .before .match .keys3))
 
 write-part-write-pair-requires : (t : ℕ) → write-part-lts.Need-write-pair-requires (
+  under-nots-reads.Asked,
+  under-nots-reads.Learnt,
   write-part-below t,
   write-part.Post,
   write-comparison-reads.Asked,
@@ -1188,6 +1224,8 @@ write-part-write-pair-requires t c κs =
     (omega arith, (o .pre .1, (c .before .before .before .if1 .left, omega (arith, c .before .before .if2 .taken))))
 
 write-part-write-null-requires : (t : ℕ) → write-part-lts.Need-write-null-requires (
+  under-nots-reads.Asked,
+  under-nots-reads.Learnt,
   write-part-below t,
   write-part.Post,
   write-comparison-reads.Asked,
@@ -1211,6 +1249,8 @@ write-part-write-null-requires t c κs =
     null-ready (o .pre .1) (omega arith) (omega arith)
 
 write-part-write-list-requires : (t : ℕ) → write-part-lts.Need-write-list-requires (
+  under-nots-reads.Asked,
+  under-nots-reads.Learnt,
   write-part-below t,
   write-part.Post,
   write-comparison-reads.Asked,
@@ -1232,6 +1272,8 @@ write-part-write-list-requires t c κs =
     )
 
 write-part-same-length : (t : ℕ) → write-part-lts.Need-same-length (
+  under-nots-reads.Asked,
+  under-nots-reads.Learnt,
   write-part-below t,
   write-part.Post,
   write-comparison-reads.Asked,
@@ -1248,6 +1290,8 @@ write-part-same-length : (t : ℕ) → write-part-lts.Need-same-length (
 write-part-same-length t c = search needs
 
 write-part-returns : (t : ℕ) → write-part-lts.Need-returns (
+  under-nots-reads.Asked,
+  under-nots-reads.Learnt,
   write-part-below t,
   write-part.Post,
   write-comparison-reads.Asked,
@@ -1262,9 +1306,12 @@ write-part-returns : (t : ℕ) → write-part-lts.Need-returns (
   write-list.Post,
 ) (write-part-at t) write-part.Post
 write-part-returns t c =
-    λ h. not-wrote h (c .before .before .before .before .before .match .keys1) (c .before .before .write-part .ensures)
+    let u = c .before .before .before .before .before .under-nots .ensures in
+    λ h. not-wrote h (c .before .before .before .before .before .before .match .keys1) (u .wrote (c .before .before .write-part .ensures))
 
 write-part-same-length-2 : (t : ℕ) → write-part-lts.Need-same-length-2 (
+  under-nots-reads.Asked,
+  under-nots-reads.Learnt,
   write-part-below t,
   write-part.Post,
   write-comparison-reads.Asked,
@@ -1281,6 +1328,8 @@ write-part-same-length-2 : (t : ℕ) → write-part-lts.Need-same-length-2 (
 write-part-same-length-2 t c = search needs
 
 write-part-returns-2 : (t : ℕ) → write-part-lts.Need-returns-2 (
+  under-nots-reads.Asked,
+  under-nots-reads.Learnt,
   write-part-below t,
   write-part.Post,
   write-comparison-reads.Asked,
@@ -1298,6 +1347,8 @@ write-part-returns-2 t c =
     λ h. compare-wrote h (c .before .before .before .before .before .match .keys2) (c .before .before .write-comparison .ensures)
 
 write-part-same-length-3 : (t : ℕ) → write-part-lts.Need-same-length-3 (
+  under-nots-reads.Asked,
+  under-nots-reads.Learnt,
   write-part-below t,
   write-part.Post,
   write-comparison-reads.Asked,
@@ -1314,6 +1365,8 @@ write-part-same-length-3 : (t : ℕ) → write-part-lts.Need-same-length-3 (
 write-part-same-length-3 t c = search needs
 
 write-part-returns-3 : (t : ℕ) → write-part-lts.Need-returns-3 (
+  under-nots-reads.Asked,
+  under-nots-reads.Learnt,
   write-part-below t,
   write-part.Post,
   write-comparison-reads.Asked,
@@ -1331,6 +1384,8 @@ write-part-returns-3 t c =
     c .before .before .write-exists .ensures
 
 write-part-same-length-4 : (t : ℕ) → write-part-lts.Need-same-length-4 (
+  under-nots-reads.Asked,
+  under-nots-reads.Learnt,
   write-part-below t,
   write-part.Post,
   write-comparison-reads.Asked,
@@ -1347,6 +1402,8 @@ write-part-same-length-4 : (t : ℕ) → write-part-lts.Need-same-length-4 (
 write-part-same-length-4 t c = search needs
 
 write-part-returns-4 : (t : ℕ) → write-part-lts.Need-returns-4 (
+  under-nots-reads.Asked,
+  under-nots-reads.Learnt,
   write-part-below t,
   write-part.Post,
   write-comparison-reads.Asked,
@@ -1364,6 +1421,8 @@ write-part-returns-4 t c =
     c .before .before .write-pair .ensures
 
 write-part-same-length-5 : (t : ℕ) → write-part-lts.Need-same-length-5 (
+  under-nots-reads.Asked,
+  under-nots-reads.Learnt,
   write-part-below t,
   write-part.Post,
   write-comparison-reads.Asked,
@@ -1380,6 +1439,8 @@ write-part-same-length-5 : (t : ℕ) → write-part-lts.Need-same-length-5 (
 write-part-same-length-5 t c = search needs
 
 write-part-returns-5 : (t : ℕ) → write-part-lts.Need-returns-5 (
+  under-nots-reads.Asked,
+  under-nots-reads.Learnt,
   write-part-below t,
   write-part.Post,
   write-comparison-reads.Asked,
@@ -1402,6 +1463,8 @@ write-part-returns-5 t c =
     λ h. null-wrote h (omega arith) (omega arith) (c .before .before .write-null .ensures)
 
 write-part-same-length-6 : (t : ℕ) → write-part-lts.Need-same-length-6 (
+  under-nots-reads.Asked,
+  under-nots-reads.Learnt,
   write-part-below t,
   write-part.Post,
   write-comparison-reads.Asked,
@@ -1418,6 +1481,8 @@ write-part-same-length-6 : (t : ℕ) → write-part-lts.Need-same-length-6 (
 write-part-same-length-6 t c = search needs
 
 write-part-returns-6 : (t : ℕ) → write-part-lts.Need-returns-6 (
+  under-nots-reads.Asked,
+  under-nots-reads.Learnt,
   write-part-below t,
   write-part.Post,
   write-comparison-reads.Asked,
@@ -1531,6 +1596,8 @@ pub +write-exists+write-list+write-pair+write-part-spec : {M : Type 1} → state
     (write-pair-same-length t)
     (write-pair-returns t))
     λ t. write-part-lts.spec (
+      under-nots-reads.Asked,
+      under-nots-reads.Learnt,
       write-part-below t,
       write-part.Post,
       write-comparison-reads.Asked,
@@ -1549,7 +1616,8 @@ pub +write-exists+write-list+write-pair+write-part-spec : {M : Type 1} → state
     (write-part-mul-kind t)
     (write-part-mul-kind-2 t)
     (write-part-element-copy-out-kind t)
-    (write-part-add-write-part t)
+    (write-part-add-under-nots t)
+    (write-part-under-nots-requires t)
     (write-part-write-part-requires t)
     (write-part-write-comparison-requires t)
     (write-part-write-exists-requires t)

@@ -1,0 +1,58 @@
+-- `entries::under_nots` meets its contract. The loop's invariant is the contract, of the part that is reached.
+use Prim.Native.Nat.{_-_}
+use native.Mathlib.Omega.{arith}
+use borrow.Author.Needs.{needs}
+use Rattle.entries.specs.Code.{StandsUnder}
+use Rattle.entries.proofs.Writing.{under-none, under-more}
+use Rattle.entries.proofs.under_nots.Statement.{statement}
+use Rattle.entries.proofs.under_nots.Tie as tie
+
+abbrev Inv-loop : tie.InvT-loop
+Inv-loop p s negate unknown part₀ negated₀ counted₀ part negated counted =
+    StandsUnder p s negate unknown (record { part = part; negate = negated; unknown = counted })
+
+abbrev μ-loop : tie.MeasureT-loop
+μ-loop p s negate unknown part₀ negated₀ counted₀ part negated counted = 64 - part
+
+loop-holds : tie.Need-loop-holds Inv-loop μ-loop
+loop-holds c = under-none
+
+mul-if1 : tie.Need-mul-if1 Inv-loop μ-loop
+mul-if1 c = omega arith
+
+mul-if1-2 : tie.Need-mul-if1-2 Inv-loop μ-loop
+mul-if1-2 c = omega arith
+
+element-copy-out-if1 : tie.Need-element-copy-out-if1 Inv-loop μ-loop
+element-copy-out-if1 c = omega arith
+
+returns : tie.Need-returns Inv-loop μ-loop
+returns c = c .before .before .before .loop .inv
+
+add-part : tie.Need-add-part Inv-loop μ-loop
+add-part c = omega arith
+
+loop-less : tie.Need-loop-less Inv-loop μ-loop
+loop-less c = omega arith
+
+loop-again : tie.Need-loop-again Inv-loop μ-loop
+loop-again c = under-more (c .before .before .before .loop .inv) (omega arith)
+
+returns-2 : tie.Need-returns-2 Inv-loop μ-loop
+returns-2 c = c .before .loop .inv
+
+pub under-nots-spec : {M : Type 1} → statement M
+under-nots-spec =
+    tie.close
+    (tie.spec
+    Inv-loop
+    μ-loop
+    loop-holds
+    mul-if1
+    mul-if1-2
+    element-copy-out-if1
+    returns
+    add-part
+    loop-less
+    loop-again
+    returns-2)
