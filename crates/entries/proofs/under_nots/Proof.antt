@@ -1,7 +1,6 @@
 -- `entries::under_nots` meets its contract. The loop's invariant is the contract, of the part that is reached.
 use Prim.Native.Nat.{_-_}
 use native.Mathlib.Omega.{arith}
-use borrow.Author.Needs.{needs}
 use Rattle.entries.specs.Code.{StandsUnder}
 use Rattle.entries.proofs.Writing.{under-none, under-more}
 use Rattle.entries.proofs.under_nots.Statement.{statement}
