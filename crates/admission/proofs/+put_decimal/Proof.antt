@@ -23,24 +23,18 @@ abbrev put-decimal-below : ℕ → In 1 put-decimal-kinds.ps
 put-decimal-below t =
     and 1 put-decimal-kinds.ps (falls 1 put-decimal-kinds.ps _<_ μ-put-decimal t) put-decimal.Pre
 
-put-decimal-put-decimal-requires : (t : ℕ) → put-decimal-lts.Need-put-decimal-requires (
-  put-decimal-below t,
-  put-decimal.Post,
-) (put-decimal-at t) put-decimal.Post
+abbrev put-decimal-claims : ℕ → put-decimal-lts.Claims
+put-decimal-claims t = (put-decimal-below t, put-decimal.Post)
+
+put-decimal-put-decimal-requires : (t : ℕ) → put-decimal-lts.Need-put-decimal-requires (put-decimal-claims t) (put-decimal-at t) put-decimal.Post
 put-decimal-put-decimal-requires t c κs =
     let p = c .before .before .pre in
     (omega arith, (p .1 .0, (omega arith, p .1 .1 .1)))
 
-put-decimal-add-out : (t : ℕ) → put-decimal-lts.Need-add-out (
-  put-decimal-below t,
-  put-decimal.Post,
-) (put-decimal-at t) put-decimal.Post
+put-decimal-add-out : (t : ℕ) → put-decimal-lts.Need-add-out (put-decimal-claims t) (put-decimal-at t) put-decimal.Post
 put-decimal-add-out t c = omega arith
 
-put-decimal-cast-out : (t : ℕ) → put-decimal-lts.Need-cast-out (
-  put-decimal-below t,
-  put-decimal.Post,
-) (put-decimal-at t) put-decimal.Post
+put-decimal-cast-out : (t : ℕ) → put-decimal-lts.Need-cast-out (put-decimal-claims t) (put-decimal-at t) put-decimal.Post
 put-decimal-cast-out t c = omega arith
 
 -- where the branches meet, all digits but the last are written
@@ -56,22 +50,13 @@ joined t c =
     (λ w. rw (w .1, w .2) (higher-none before i n (w .0 .left)))
     (c .if1 .came)
 
-put-decimal-element-write-out : (t : ℕ) → put-decimal-lts.Need-element-write-out (
-  put-decimal-below t,
-  put-decimal.Post,
-) (put-decimal-at t) put-decimal.Post
+put-decimal-element-write-out : (t : ℕ) → put-decimal-lts.Need-element-write-out (put-decimal-claims t) (put-decimal-at t) put-decimal.Post
 put-decimal-element-write-out t c = omega (arith, joined t c, higher-length (c .before .args .n))
 
-put-decimal-add-result : (t : ℕ) → put-decimal-lts.Need-add-result (
-  put-decimal-below t,
-  put-decimal.Post,
-) (put-decimal-at t) put-decimal.Post
+put-decimal-add-result : (t : ℕ) → put-decimal-lts.Need-add-result (put-decimal-claims t) (put-decimal-at t) put-decimal.Post
 put-decimal-add-result t c = omega (arith, joined t (c .before), higher-length (c .before .before .args .n))
 
-put-decimal-returns : (t : ℕ) → put-decimal-lts.Need-returns (
-  put-decimal-below t,
-  put-decimal.Post,
-) (put-decimal-at t) put-decimal.Post
+put-decimal-returns : (t : ℕ) → put-decimal-lts.Need-returns (put-decimal-claims t) (put-decimal-at t) put-decimal.Post
 put-decimal-returns t c =
     let start = c .before .before in
     let before = start .args .out .now in

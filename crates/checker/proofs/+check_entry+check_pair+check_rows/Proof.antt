@@ -54,118 +54,50 @@ abbrev check-rows-below : ℕ → In 3 check-rows-kinds.ps
 check-rows-below t =
     and 3 check-rows-kinds.ps (falls 3 check-rows-kinds.ps _<_ μ-check-rows t) check-rows.Pre
 
-check-entry-mul-k : (t : ℕ) → check-entry-lts.Need-mul-k (
-  check-pair-below t,
-  check-pair.Post,
-  check-rows-below t,
-  check-rows.Post,
-  check-leaf-reads.Asked,
-  check-leaf-reads.Learnt,
-) (check-entry-at t) check-entry.Post
+abbrev check-entry-claims : ℕ → check-entry-lts.Claims
+check-entry-claims t = (check-pair-below t, check-pair.Post, check-rows-below t, check-rows.Post, check-leaf-reads.Asked, check-leaf-reads.Learnt)
+
+abbrev check-pair-claims : ℕ → check-pair-lts.Claims
+check-pair-claims t = (check-entry-below t, check-entry.Post)
+
+abbrev check-rows-claims : ℕ → check-rows-lts.Claims
+check-rows-claims t = (byte-reads.Asked, byte-reads.Learnt, check-entry-below t, check-entry.Post)
+
+check-entry-mul-k : (t : ℕ) → check-entry-lts.Need-mul-k (check-entry-claims t) (check-entry-at t) check-entry.Post
 check-entry-mul-k t c = search needs
 
-check-entry-mul-k-2 : (t : ℕ) → check-entry-lts.Need-mul-k-2 (
-  check-pair-below t,
-  check-pair.Post,
-  check-rows-below t,
-  check-rows.Post,
-  check-leaf-reads.Asked,
-  check-leaf-reads.Learnt,
-) (check-entry-at t) check-entry.Post
+check-entry-mul-k-2 : (t : ℕ) → check-entry-lts.Need-mul-k-2 (check-entry-claims t) (check-entry-at t) check-entry.Post
 check-entry-mul-k-2 t c = search needs
 
-check-entry-shared-slice-read-k : (t : ℕ) → check-entry-lts.Need-shared-slice-read-k (
-  check-pair-below t,
-  check-pair.Post,
-  check-rows-below t,
-  check-rows.Post,
-  check-leaf-reads.Asked,
-  check-leaf-reads.Learnt,
-) (check-entry-at t) check-entry.Post
+check-entry-shared-slice-read-k : (t : ℕ) → check-entry-lts.Need-shared-slice-read-k (check-entry-claims t) (check-entry-at t) check-entry.Post
 check-entry-shared-slice-read-k t c = search needs
 
-check-entry-check-pair-requires : (t : ℕ) → check-entry-lts.Need-check-pair-requires (
-  check-pair-below t,
-  check-pair.Post,
-  check-rows-below t,
-  check-rows.Post,
-  check-leaf-reads.Asked,
-  check-leaf-reads.Learnt,
-) (check-entry-at t) check-entry.Post
+check-entry-check-pair-requires : (t : ℕ) → check-entry-lts.Need-check-pair-requires (check-entry-claims t) (check-entry-at t) check-entry.Post
 check-entry-check-pair-requires t c κs =
     let m = c .before .before .before .before .before .pre .0 in
     (omega arith, (c .before .before .before .before .before .pre .1, (omega arith, omega arith)))
 
-check-entry-check-rows-requires : (t : ℕ) → check-entry-lts.Need-check-rows-requires (
-  check-pair-below t,
-  check-pair.Post,
-  check-rows-below t,
-  check-rows.Post,
-  check-leaf-reads.Asked,
-  check-leaf-reads.Learnt,
-) (check-entry-at t) check-entry.Post
+check-entry-check-rows-requires : (t : ℕ) → check-entry-lts.Need-check-rows-requires (check-entry-claims t) (check-entry-at t) check-entry.Post
 check-entry-check-rows-requires t c κs =
     let m = c .before .before .before .before .before .before .pre .0 in
     (omega arith, (c .before .before .before .before .before .before .pre .1, (omega arith, omega arith)))
 
-check-entry-check-leaf-requires : (t : ℕ) → check-entry-lts.Need-check-leaf-requires (
-  check-pair-below t,
-  check-pair.Post,
-  check-rows-below t,
-  check-rows.Post,
-  check-leaf-reads.Asked,
-  check-leaf-reads.Learnt,
-) (check-entry-at t) check-entry.Post
+check-entry-check-leaf-requires : (t : ℕ) → check-entry-lts.Need-check-leaf-requires (check-entry-claims t) (check-entry-at t) check-entry.Post
 check-entry-check-leaf-requires t c κs = (c .before .before .before .before .before .before .before .pre .1, (omega arith, omega arith))
 
-check-entry-returns : (t : ℕ) → check-entry-lts.Need-returns (
-  check-pair-below t,
-  check-pair.Post,
-  check-rows-below t,
-  check-rows.Post,
-  check-leaf-reads.Asked,
-  check-leaf-reads.Learnt,
-) (check-entry-at t) check-entry.Post
+check-entry-returns : (t : ℕ) → check-entry-lts.Need-returns (check-entry-claims t) (check-entry-at t) check-entry.Post
 check-entry-returns t c = c .check-pair .ensures
 
-check-entry-returns-2 : (t : ℕ) → check-entry-lts.Need-returns-2 (
-  check-pair-below t,
-  check-pair.Post,
-  check-rows-below t,
-  check-rows.Post,
-  check-leaf-reads.Asked,
-  check-leaf-reads.Learnt,
-) (check-entry-at t) check-entry.Post
+check-entry-returns-2 : (t : ℕ) → check-entry-lts.Need-returns-2 (check-entry-claims t) (check-entry-at t) check-entry.Post
 check-entry-returns-2 t c = c .check-rows .ensures
 
-check-entry-returns-3 : (t : ℕ) → check-entry-lts.Need-returns-3 (
-  check-pair-below t,
-  check-pair.Post,
-  check-rows-below t,
-  check-rows.Post,
-  check-leaf-reads.Asked,
-  check-leaf-reads.Learnt,
-) (check-entry-at t) check-entry.Post
+check-entry-returns-3 : (t : ℕ) → check-entry-lts.Need-returns-3 (check-entry-claims t) (check-entry-at t) check-entry.Post
 check-entry-returns-3 t c = c .check-leaf .ensures
 
-check-entry-returns-4 : (t : ℕ) → check-entry-lts.Need-returns-4 (
-  check-pair-below t,
-  check-pair.Post,
-  check-rows-below t,
-  check-rows.Post,
-  check-leaf-reads.Asked,
-  check-leaf-reads.Learnt,
-) (check-entry-at t) check-entry.Post
+check-entry-returns-4 : (t : ℕ) → check-entry-lts.Need-returns-4 (check-entry-claims t) (check-entry-at t) check-entry.Post
 check-entry-returns-4 t c = wrong-kind (λ low high. omega arith)
 
-check-entry-returns-5 : (t : ℕ) → check-entry-lts.Need-returns-5 (
-  check-pair-below t,
-  check-pair.Post,
-  check-rows-below t,
-  check-rows.Post,
-  check-leaf-reads.Asked,
-  check-leaf-reads.Learnt,
-) (check-entry-at t) check-entry.Post
+check-entry-returns-5 : (t : ℕ) → check-entry-lts.Need-returns-5 (check-entry-claims t) (check-entry-at t) check-entry.Post
 check-entry-returns-5 t c = wrong-kind (λ low high. omega arith)
 
 check-pair-mul-if1 :
@@ -184,16 +116,10 @@ check-pair-add-if1 :
     check-pair.Post
 check-pair-add-if1 t c = search needs
 
-check-pair-mul-if1-2 : (t : ℕ) → check-pair-lts.Need-mul-if1-2 (
-  check-entry-below t,
-  check-entry.Post,
-) (check-pair-at t) check-pair.Post
+check-pair-mul-if1-2 : (t : ℕ) → check-pair-lts.Need-mul-if1-2 (check-pair-claims t) (check-pair-at t) check-pair.Post
 check-pair-mul-if1-2 t c = search needs
 
-check-pair-shared-slice-read-if1 : (t : ℕ) → check-pair-lts.Need-shared-slice-read-if1 (
-  check-entry-below t,
-  check-entry.Post,
-) (check-pair-at t) check-pair.Post
+check-pair-shared-slice-read-if1 : (t : ℕ) → check-pair-lts.Need-shared-slice-read-if1 (check-pair-claims t) (check-pair-at t) check-pair.Post
 check-pair-shared-slice-read-if1 t c = search needs
 
 check-pair-returns :
@@ -212,10 +138,7 @@ check-pair-add-if2 :
     check-pair.Post
 check-pair-add-if2 t c = search needs
 
-check-pair-returns-2 : (t : ℕ) → check-pair-lts.Need-returns-2 (
-  check-entry-below t,
-  check-entry.Post,
-) (check-pair-at t) check-pair.Post
+check-pair-returns-2 : (t : ℕ) → check-pair-lts.Need-returns-2 (check-pair-claims t) (check-pair-at t) check-pair.Post
 check-pair-returns-2 t c =
     let p = c .before .before .before .before .before .pre .1 .1 in
     pair-short _ _ _ _ _ (p .0) (p .1) (λ l r. omega arith)
@@ -244,10 +167,7 @@ check-pair-mul-m-2 :
     check-pair.Post
 check-pair-mul-m-2 t c = search needs
 
-check-pair-shared-slice-read-m : (t : ℕ) → check-pair-lts.Need-shared-slice-read-m (
-  check-entry-below t,
-  check-entry.Post,
-) (check-pair-at t) check-pair.Post
+check-pair-shared-slice-read-m : (t : ℕ) → check-pair-lts.Need-shared-slice-read-m (check-pair-claims t) (check-pair-at t) check-pair.Post
 check-pair-shared-slice-read-m t c = search needs
 
 check-pair-add-if3 :
@@ -258,237 +178,111 @@ check-pair-add-if3 :
     check-pair.Post
 check-pair-add-if3 t c = search needs
 
-check-pair-returns-3 : (t : ℕ) → check-pair-lts.Need-returns-3 (
-  check-entry-below t,
-  check-entry.Post,
-) (check-pair-at t) check-pair.Post
+check-pair-returns-3 : (t : ℕ) → check-pair-lts.Need-returns-3 (check-pair-claims t) (check-pair-at t) check-pair.Post
 check-pair-returns-3 t c =
     let p = c .before .before .before .before .before .before .before .pre .1 .1 in
     pair-short _ _ _ _ _ (p .0) (p .1) (λ l r. omega arith)
 
-check-pair-returns-4 : (t : ℕ) → check-pair-lts.Need-returns-4 (
-  check-entry-below t,
-  check-entry.Post,
-) (check-pair-at t) check-pair.Post
+check-pair-returns-4 : (t : ℕ) → check-pair-lts.Need-returns-4 (check-pair-claims t) (check-pair-at t) check-pair.Post
 check-pair-returns-4 t c =
     let p = c .before .before .before .before .before .before .before .before .pre .1 .1 in
     pair-short _ _ _ _ _ (p .0) (p .1) (λ l r. omega arith)
 
-check-pair-add-check-entry : (t : ℕ) → check-pair-lts.Need-add-check-entry (
-  check-entry-below t,
-  check-entry.Post,
-) (check-pair-at t) check-pair.Post
+check-pair-add-check-entry : (t : ℕ) → check-pair-lts.Need-add-check-entry (check-pair-claims t) (check-pair-at t) check-pair.Post
 check-pair-add-check-entry t c = search needs
 
-check-pair-check-entry-requires : (t : ℕ) → check-pair-lts.Need-check-entry-requires (
-  check-entry-below t,
-  check-entry.Post,
-) (check-pair-at t) check-pair.Post
+check-pair-check-entry-requires : (t : ℕ) → check-pair-lts.Need-check-entry-requires (check-pair-claims t) (check-pair-at t) check-pair.Post
 check-pair-check-entry-requires t c κs =
     let p = c .before .before .before .before .before .before .before .before .pre in
     (omega (arith, p .0), checkable-within (p .1 .0) _ _ (omega arith) (omega arith))
 
-check-pair-returns-5 : (t : ℕ) → check-pair-lts.Need-returns-5 (
-  check-entry-below t,
-  check-entry.Post,
-) (check-pair-at t) check-pair.Post
+check-pair-returns-5 : (t : ℕ) → check-pair-lts.Need-returns-5 (check-pair-claims t) (check-pair-at t) check-pair.Post
 check-pair-returns-5 t c =
     let p = c .before .before .before .before .before .before .before .before .before .before .pre .1 .1 in
     pair-left-no _ _ _ _ _ (p .0) (p .1) (c .before .check-entry .ensures) (not-true _ (c .if5 .taken))
 
-check-pair-check-entry-requires-2 : (t : ℕ) → check-pair-lts.Need-check-entry-requires-2 (
-  check-entry-below t,
-  check-entry.Post,
-) (check-pair-at t) check-pair.Post
+check-pair-check-entry-requires-2 : (t : ℕ) → check-pair-lts.Need-check-entry-requires-2 (check-pair-claims t) (check-pair-at t) check-pair.Post
 check-pair-check-entry-requires-2 t c κs =
     let p = c .before .before .before .before .before .before .before .before .before .before .pre in
     (omega (arith, p .0), checkable-within (p .1 .0) _ _ (omega arith) (omega arith))
 
-check-pair-returns-6 : (t : ℕ) → check-pair-lts.Need-returns-6 (
-  check-entry-below t,
-  check-entry.Post,
-) (check-pair-at t) check-pair.Post
+check-pair-returns-6 : (t : ℕ) → check-pair-lts.Need-returns-6 (check-pair-claims t) (check-pair-at t) check-pair.Post
 check-pair-returns-6 t c =
     let p = c .before .before .before .before .before .before .before .before .before .before .before .pre .1 .1 in
     pair-last _ _ _ _ _ (p .0) (p .1) (c .before .before .check-entry .ensures) (not-false _ (c .before .if5 .left)) (omega arith) (c .check-entry2 .ensures)
 
-check-rows-mul-if1 : (t : ℕ) → check-rows-lts.Need-mul-if1 (
-  byte-reads.Asked,
-  byte-reads.Learnt,
-  check-entry-below t,
-  check-entry.Post,
-) (check-rows-at t) check-rows.Post
+check-rows-mul-if1 : (t : ℕ) → check-rows-lts.Need-mul-if1 (check-rows-claims t) (check-rows-at t) check-rows.Post
 check-rows-mul-if1 t c = search needs
 
-check-rows-add-if1 : (t : ℕ) → check-rows-lts.Need-add-if1 (
-  byte-reads.Asked,
-  byte-reads.Learnt,
-  check-entry-below t,
-  check-entry.Post,
-) (check-rows-at t) check-rows.Post
+check-rows-add-if1 : (t : ℕ) → check-rows-lts.Need-add-if1 (check-rows-claims t) (check-rows-at t) check-rows.Post
 check-rows-add-if1 t c = search needs
 
-check-rows-mul-if1-2 : (t : ℕ) → check-rows-lts.Need-mul-if1-2 (
-  byte-reads.Asked,
-  byte-reads.Learnt,
-  check-entry-below t,
-  check-entry.Post,
-) (check-rows-at t) check-rows.Post
+check-rows-mul-if1-2 : (t : ℕ) → check-rows-lts.Need-mul-if1-2 (check-rows-claims t) (check-rows-at t) check-rows.Post
 check-rows-mul-if1-2 t c = search needs
 
-check-rows-shared-slice-read-if1 : (t : ℕ) → check-rows-lts.Need-shared-slice-read-if1 (
-  byte-reads.Asked,
-  byte-reads.Learnt,
-  check-entry-below t,
-  check-entry.Post,
-) (check-rows-at t) check-rows.Post
+check-rows-shared-slice-read-if1 : (t : ℕ) → check-rows-lts.Need-shared-slice-read-if1 (check-rows-claims t) (check-rows-at t) check-rows.Post
 check-rows-shared-slice-read-if1 t c = search needs
 
-check-rows-returns : (t : ℕ) → check-rows-lts.Need-returns (
-  byte-reads.Asked,
-  byte-reads.Learnt,
-  check-entry-below t,
-  check-entry.Post,
-) (check-rows-at t) check-rows.Post
+check-rows-returns : (t : ℕ) → check-rows-lts.Need-returns (check-rows-claims t) (check-rows-at t) check-rows.Post
 check-rows-returns t c = wrong-end (c .if1 .taken)
 
-check-rows-add-if2 : (t : ℕ) → check-rows-lts.Need-add-if2 (
-  byte-reads.Asked,
-  byte-reads.Learnt,
-  check-entry-below t,
-  check-entry.Post,
-) (check-rows-at t) check-rows.Post
+check-rows-add-if2 : (t : ℕ) → check-rows-lts.Need-add-if2 (check-rows-claims t) (check-rows-at t) check-rows.Post
 check-rows-add-if2 t c = search needs
 
-check-rows-returns-2 : (t : ℕ) → check-rows-lts.Need-returns-2 (
-  byte-reads.Asked,
-  byte-reads.Learnt,
-  check-entry-below t,
-  check-entry.Post,
-) (check-rows-at t) check-rows.Post
+check-rows-returns-2 : (t : ℕ) → check-rows-lts.Need-returns-2 (check-rows-claims t) (check-rows-at t) check-rows.Post
 check-rows-returns-2 t c =
     let p = c .before .before .before .before .before .pre .1 in
     rows-short _ _ _ _ _ _ (p .1 .0) (p .1 .1) (p .0 .levels) (omega arith)
 
-check-rows-mul-t : (t : ℕ) → check-rows-lts.Need-mul-t (
-  byte-reads.Asked,
-  byte-reads.Learnt,
-  check-entry-below t,
-  check-entry.Post,
-) (check-rows-at t) check-rows.Post
+check-rows-mul-t : (t : ℕ) → check-rows-lts.Need-mul-t (check-rows-claims t) (check-rows-at t) check-rows.Post
 check-rows-mul-t t c = search needs
 
-check-rows-add-t : (t : ℕ) → check-rows-lts.Need-add-t (
-  byte-reads.Asked,
-  byte-reads.Learnt,
-  check-entry-below t,
-  check-entry.Post,
-) (check-rows-at t) check-rows.Post
+check-rows-add-t : (t : ℕ) → check-rows-lts.Need-add-t (check-rows-claims t) (check-rows-at t) check-rows.Post
 check-rows-add-t t c = search needs
 
-check-rows-mul-t-2 : (t : ℕ) → check-rows-lts.Need-mul-t-2 (
-  byte-reads.Asked,
-  byte-reads.Learnt,
-  check-entry-below t,
-  check-entry.Post,
-) (check-rows-at t) check-rows.Post
+check-rows-mul-t-2 : (t : ℕ) → check-rows-lts.Need-mul-t-2 (check-rows-claims t) (check-rows-at t) check-rows.Post
 check-rows-mul-t-2 t c = search needs
 
-check-rows-shared-slice-read-t : (t : ℕ) → check-rows-lts.Need-shared-slice-read-t (
-  byte-reads.Asked,
-  byte-reads.Learnt,
-  check-entry-below t,
-  check-entry.Post,
-) (check-rows-at t) check-rows.Post
+check-rows-shared-slice-read-t : (t : ℕ) → check-rows-lts.Need-shared-slice-read-t (check-rows-claims t) (check-rows-at t) check-rows.Post
 check-rows-shared-slice-read-t t c = search needs
 
-check-rows-returns-3 : (t : ℕ) → check-rows-lts.Need-returns-3 (
-  byte-reads.Asked,
-  byte-reads.Learnt,
-  check-entry-below t,
-  check-entry.Post,
-) (check-rows-at t) check-rows.Post
+check-rows-returns-3 : (t : ℕ) → check-rows-lts.Need-returns-3 (check-rows-claims t) (check-rows-at t) check-rows.Post
 check-rows-returns-3 t c =
     let p = c .before .before .before .before .before .before .before .pre .1 in
     rows-no _ _ _ _ _ _ (p .1 .0) (p .1 .1) (p .0 .levels) (λ x. omega (arith, x .table-low))
 
-check-rows-byte-requires : (t : ℕ) → check-rows-lts.Need-byte-requires (
-  byte-reads.Asked,
-  byte-reads.Learnt,
-  check-entry-below t,
-  check-entry.Post,
-) (check-rows-at t) check-rows.Post
+check-rows-byte-requires : (t : ℕ) → check-rows-lts.Need-byte-requires (check-rows-claims t) (check-rows-at t) check-rows.Post
 check-rows-byte-requires t c κs = omega (arith, c .before .before .before .before .before .before .before .pre .1 .0 .levels .laid-out .long)
 
-check-rows-returns-4 : (t : ℕ) → check-rows-lts.Need-returns-4 (
-  byte-reads.Asked,
-  byte-reads.Learnt,
-  check-entry-below t,
-  check-entry.Post,
-) (check-rows-at t) check-rows.Post
+check-rows-returns-4 : (t : ℕ) → check-rows-lts.Need-returns-4 (check-rows-claims t) (check-rows-at t) check-rows.Post
 check-rows-returns-4 t c =
     let p = c .before .before .before .before .before .before .before .before .before .pre .1 in
     rows-no _ _ _ _ _ _ (p .1 .0) (p .1 .1) (p .0 .levels) (λ x. omega (arith, x .table-high, c .before .byte .ensures .0))
 
-check-rows-returns-5 : (t : ℕ) → check-rows-lts.Need-returns-5 (
-  byte-reads.Asked,
-  byte-reads.Learnt,
-  check-entry-below t,
-  check-entry.Post,
-) (check-rows-at t) check-rows.Post
+check-rows-returns-5 : (t : ℕ) → check-rows-lts.Need-returns-5 (check-rows-claims t) (check-rows-at t) check-rows.Post
 check-rows-returns-5 t c =
     let p = c .before .before .before .before .before .before .before .before .before .before .pre .1 in
     rows-no _ _ _ _ _ _ (p .1 .0) (p .1 .1) (p .0 .levels) (λ x. omega (arith, x .few))
 
-check-rows-mul-v : (t : ℕ) → check-rows-lts.Need-mul-v (
-  byte-reads.Asked,
-  byte-reads.Learnt,
-  check-entry-below t,
-  check-entry.Post,
-) (check-rows-at t) check-rows.Post
+check-rows-mul-v : (t : ℕ) → check-rows-lts.Need-mul-v (check-rows-claims t) (check-rows-at t) check-rows.Post
 check-rows-mul-v t c = search needs
 
-check-rows-array-write-v : (t : ℕ) → check-rows-lts.Need-array-write-v (
-  byte-reads.Asked,
-  byte-reads.Learnt,
-  check-entry-below t,
-  check-entry.Post,
-) (check-rows-at t) check-rows.Post
+check-rows-array-write-v : (t : ℕ) → check-rows-lts.Need-array-write-v (check-rows-claims t) (check-rows-at t) check-rows.Post
 check-rows-array-write-v t c = search needs
 
-check-rows-add-check-entry : (t : ℕ) → check-rows-lts.Need-add-check-entry (
-  byte-reads.Asked,
-  byte-reads.Learnt,
-  check-entry-below t,
-  check-entry.Post,
-) (check-rows-at t) check-rows.Post
+check-rows-add-check-entry : (t : ℕ) → check-rows-lts.Need-add-check-entry (check-rows-claims t) (check-rows-at t) check-rows.Post
 check-rows-add-check-entry t c = search needs
 
-check-rows-add-check-entry-2 : (t : ℕ) → check-rows-lts.Need-add-check-entry-2 (
-  byte-reads.Asked,
-  byte-reads.Learnt,
-  check-entry-below t,
-  check-entry.Post,
-) (check-rows-at t) check-rows.Post
+check-rows-add-check-entry-2 : (t : ℕ) → check-rows-lts.Need-add-check-entry-2 (check-rows-claims t) (check-rows-at t) check-rows.Post
 check-rows-add-check-entry-2 t c = search needs
 
-check-rows-check-entry-requires : (t : ℕ) → check-rows-lts.Need-check-entry-requires (
-  byte-reads.Asked,
-  byte-reads.Learnt,
-  check-entry-below t,
-  check-entry.Post,
-) (check-rows-at t) check-rows.Post
+check-rows-check-entry-requires : (t : ℕ) → check-rows-lts.Need-check-entry-requires (check-rows-claims t) (check-rows-at t) check-rows.Post
 check-rows-check-entry-requires t c κs =
     let p = c .before .before .before .before .before .before .before .before .before .before .before .before .pre in
     let n = c .before .before .before .before .byte .ensures .0 in
     (omega (arith, p .0), checkable-deeper (p .1 .0) (omega arith) (omega arith) (omega arith) (omega arith))
 
-check-rows-returns-6 : (t : ℕ) → check-rows-lts.Need-returns-6 (
-  byte-reads.Asked,
-  byte-reads.Learnt,
-  check-entry-below t,
-  check-entry.Post,
-) (check-rows-at t) check-rows.Post
+check-rows-returns-6 : (t : ℕ) → check-rows-lts.Need-returns-6 (check-rows-claims t) (check-rows-at t) check-rows.Post
 check-rows-returns-6 t c =
     let p = c .before .before .before .before .before .before .before .before .before .before .before .before .before .pre .1 in
     let n = c .before .before .before .before .before .byte .ensures .0 in

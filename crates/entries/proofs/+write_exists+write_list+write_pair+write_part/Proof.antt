@@ -77,138 +77,69 @@ abbrev write-part-below : ℕ → In 3 write-part-kinds.ps
 write-part-below t =
     and 3 write-part-kinds.ps (falls 3 write-part-kinds.ps _<_ μ-write-part t) write-part.Pre
 
-write-exists-row-kind-requires : (t : ℕ) → write-exists-lts.Need-row-kind-requires (
-  row-kind-reads.Asked,
-  row-kind-reads.Learnt,
-  put-plain-reads.Asked,
-  put-plain-reads.Learnt,
-  write-part-below t,
-  write-part.Post,
-  put16-reads.Asked,
-  put16-reads.Learnt,
-) (write-exists-at t) write-exists.Post
+abbrev write-exists-claims : ℕ → write-exists-lts.Claims
+write-exists-claims t = (row-kind-reads.Asked, row-kind-reads.Learnt, put-plain-reads.Asked, put-plain-reads.Learnt, write-part-below t, write-part.Post, put16-reads.Asked, put16-reads.Learnt)
+
+abbrev write-list-claims : ℕ → write-list-lts.Claims
+write-list-claims t = (row-kind-reads.Asked, row-kind-reads.Learnt, put-plain-reads.Asked, put-plain-reads.Learnt, pair-kind-reads.Asked, pair-kind-reads.Learnt, write-part-below t, write-part.Post, write-comparison-reads.Asked, write-comparison-reads.Learnt, put16-reads.Asked, put16-reads.Learnt)
+
+abbrev write-pair-claims : ℕ → write-pair-lts.Claims
+write-pair-claims t = (pair-kind-reads.Asked, pair-kind-reads.Learnt, put-plain-reads.Asked, put-plain-reads.Learnt, write-part-below t, write-part.Post, put16-reads.Asked, put16-reads.Learnt)
+
+abbrev write-part-claims : ℕ → write-part-lts.Claims
+write-part-claims t = (under-nots-reads.Asked, under-nots-reads.Learnt, write-part-below t, write-part.Post, write-comparison-reads.Asked, write-comparison-reads.Learnt, write-exists-below t, write-exists.Post, write-pair-below t, write-pair.Post, write-null-reads.Asked, write-null-reads.Learnt, write-list-below t, write-list.Post)
+
+write-exists-row-kind-requires : (t : ℕ) → write-exists-lts.Need-row-kind-requires (write-exists-claims t) (write-exists-at t) write-exists.Post
 write-exists-row-kind-requires t c κs = search needs
 
-write-exists-mul-table : (t : ℕ) → write-exists-lts.Need-mul-table (
-  row-kind-reads.Asked,
-  row-kind-reads.Learnt,
-  put-plain-reads.Asked,
-  put-plain-reads.Learnt,
-  write-part-below t,
-  write-part.Post,
-  put16-reads.Asked,
-  put16-reads.Learnt,
-) (write-exists-at t) write-exists.Post
+write-exists-mul-table : (t : ℕ) → write-exists-lts.Need-mul-table (write-exists-claims t) (write-exists-at t) write-exists.Post
 write-exists-mul-table t c =
     let o = c .before .before in
     let few = part-few (o .pre .1 .0) in
     let fewer = entry-few (o .pre .1 .0) in
     search needs
 
-write-exists-add-table : (t : ℕ) → write-exists-lts.Need-add-table (
-  row-kind-reads.Asked,
-  row-kind-reads.Learnt,
-  put-plain-reads.Asked,
-  put-plain-reads.Learnt,
-  write-part-below t,
-  write-part.Post,
-  put16-reads.Asked,
-  put16-reads.Learnt,
-) (write-exists-at t) write-exists.Post
+write-exists-add-table : (t : ℕ) → write-exists-lts.Need-add-table (write-exists-claims t) (write-exists-at t) write-exists.Post
 write-exists-add-table t c =
     let o = c .before .before in
     let few = part-few (o .pre .1 .0) in
     let fewer = entry-few (o .pre .1 .0) in
     search needs
 
-write-exists-mul-table-2 : (t : ℕ) → write-exists-lts.Need-mul-table-2 (
-  row-kind-reads.Asked,
-  row-kind-reads.Learnt,
-  put-plain-reads.Asked,
-  put-plain-reads.Learnt,
-  write-part-below t,
-  write-part.Post,
-  put16-reads.Asked,
-  put16-reads.Learnt,
-) (write-exists-at t) write-exists.Post
+write-exists-mul-table-2 : (t : ℕ) → write-exists-lts.Need-mul-table-2 (write-exists-claims t) (write-exists-at t) write-exists.Post
 write-exists-mul-table-2 t c =
     let o = c .before .before in
     let few = part-few (o .pre .1 .0) in
     let fewer = entry-few (o .pre .1 .0) in
     search needs
 
-write-exists-element-copy-out-table : (t : ℕ) → write-exists-lts.Need-element-copy-out-table (
-  row-kind-reads.Asked,
-  row-kind-reads.Learnt,
-  put-plain-reads.Asked,
-  put-plain-reads.Learnt,
-  write-part-below t,
-  write-part.Post,
-  put16-reads.Asked,
-  put16-reads.Learnt,
-) (write-exists-at t) write-exists.Post
+write-exists-element-copy-out-table : (t : ℕ) → write-exists-lts.Need-element-copy-out-table (write-exists-claims t) (write-exists-at t) write-exists.Post
 write-exists-element-copy-out-table t c =
     let o = c .before .before in
     let few = part-few (o .pre .1 .0) in
     let fewer = entry-few (o .pre .1 .0) in
     search needs
 
-write-exists-put-plain-requires : (t : ℕ) → write-exists-lts.Need-put-plain-requires (
-  row-kind-reads.Asked,
-  row-kind-reads.Learnt,
-  put-plain-reads.Asked,
-  put-plain-reads.Learnt,
-  write-part-below t,
-  write-part.Post,
-  put16-reads.Asked,
-  put16-reads.Learnt,
-) (write-exists-at t) write-exists.Post
+write-exists-put-plain-requires : (t : ℕ) → write-exists-lts.Need-put-plain-requires (write-exists-claims t) (write-exists-at t) write-exists.Post
 write-exists-put-plain-requires t c κs =
     let o = c .before .before .before .before .before in
     exists-plain-asked (o .pre .1 .0) (o .pre .1 .1) _ (c .before .before .before .row-kind .ensures)
 
-write-exists-add-write-part : (t : ℕ) → write-exists-lts.Need-add-write-part (
-  row-kind-reads.Asked,
-  row-kind-reads.Learnt,
-  put-plain-reads.Asked,
-  put-plain-reads.Learnt,
-  write-part-below t,
-  write-part.Post,
-  put16-reads.Asked,
-  put16-reads.Learnt,
-) (write-exists-at t) write-exists.Post
+write-exists-add-write-part : (t : ℕ) → write-exists-lts.Need-add-write-part (write-exists-claims t) (write-exists-at t) write-exists.Post
 write-exists-add-write-part t c =
     let o = c .before .before .before .before .before .before .before .before in
     let few = part-few (o .pre .1 .0) in
     let fewer = entry-few (o .pre .1 .0) in
     search needs
 
-write-exists-add-write-part-2 : (t : ℕ) → write-exists-lts.Need-add-write-part-2 (
-  row-kind-reads.Asked,
-  row-kind-reads.Learnt,
-  put-plain-reads.Asked,
-  put-plain-reads.Learnt,
-  write-part-below t,
-  write-part.Post,
-  put16-reads.Asked,
-  put16-reads.Learnt,
-) (write-exists-at t) write-exists.Post
+write-exists-add-write-part-2 : (t : ℕ) → write-exists-lts.Need-add-write-part-2 (write-exists-claims t) (write-exists-at t) write-exists.Post
 write-exists-add-write-part-2 t c =
     let o = c .before .before .before .before .before .before .before .before .before .before in
     let few = part-few (o .pre .1 .0) in
     let fewer = entry-few (o .pre .1 .0) in
     search needs
 
-write-exists-write-part-requires : (t : ℕ) → write-exists-lts.Need-write-part-requires (
-  row-kind-reads.Asked,
-  row-kind-reads.Learnt,
-  put-plain-reads.Asked,
-  put-plain-reads.Learnt,
-  write-part-below t,
-  write-part.Post,
-  put16-reads.Asked,
-  put16-reads.Learnt,
-) (write-exists-at t) write-exists.Post
+write-exists-write-part-requires : (t : ℕ) → write-exists-lts.Need-write-part-requires (write-exists-claims t) (write-exists-at t) write-exists.Post
 write-exists-write-part-requires t c κs =
     let o = c .before .before .before .before .before .before .before .before .before .before in
     let few = part-few (o .pre .1 .0) in
@@ -219,32 +150,14 @@ write-exists-write-part-requires t c κs =
           (c .before .before .before .before .put-plain .ensures),
     )
 
-write-exists-mul-put16 : (t : ℕ) → write-exists-lts.Need-mul-put16 (
-  row-kind-reads.Asked,
-  row-kind-reads.Learnt,
-  put-plain-reads.Asked,
-  put-plain-reads.Learnt,
-  write-part-below t,
-  write-part.Post,
-  put16-reads.Asked,
-  put16-reads.Learnt,
-) (write-exists-at t) write-exists.Post
+write-exists-mul-put16 : (t : ℕ) → write-exists-lts.Need-mul-put16 (write-exists-claims t) (write-exists-at t) write-exists.Post
 write-exists-mul-put16 t c =
     let o = c .before .before .before .before .before .before .before .before .before .before .before .before .before .before in
     let few = part-few (o .pre .1 .0) in
     let fewer = entry-few (o .pre .1 .0) in
     search needs
 
-write-exists-put16-requires : (t : ℕ) → write-exists-lts.Need-put16-requires (
-  row-kind-reads.Asked,
-  row-kind-reads.Learnt,
-  put-plain-reads.Asked,
-  put-plain-reads.Learnt,
-  write-part-below t,
-  write-part.Post,
-  put16-reads.Asked,
-  put16-reads.Learnt,
-) (write-exists-at t) write-exists.Post
+write-exists-put16-requires : (t : ℕ) → write-exists-lts.Need-put16-requires (write-exists-claims t) (write-exists-at t) write-exists.Post
 write-exists-put16-requires t c κs =
     let o = c .before .before .before .before .before .before .before .before .before .before .before .before .before .before in
     exists-end-asked (o .pre .1 .0) (o .pre .1 .1) _
@@ -252,28 +165,10 @@ write-exists-put16-requires t c κs =
     (c .before .before .before .before .before .before .before .before .put-plain .ensures)
     (c .before .before .before .write-part .ensures)
 
-write-exists-same-length : (t : ℕ) → write-exists-lts.Need-same-length (
-  row-kind-reads.Asked,
-  row-kind-reads.Learnt,
-  put-plain-reads.Asked,
-  put-plain-reads.Learnt,
-  write-part-below t,
-  write-part.Post,
-  put16-reads.Asked,
-  put16-reads.Learnt,
-) (write-exists-at t) write-exists.Post
+write-exists-same-length : (t : ℕ) → write-exists-lts.Need-same-length (write-exists-claims t) (write-exists-at t) write-exists.Post
 write-exists-same-length t c = search needs
 
-write-exists-returns : (t : ℕ) → write-exists-lts.Need-returns (
-  row-kind-reads.Asked,
-  row-kind-reads.Learnt,
-  put-plain-reads.Asked,
-  put-plain-reads.Learnt,
-  write-part-below t,
-  write-part.Post,
-  put16-reads.Asked,
-  put16-reads.Learnt,
-) (write-exists-at t) write-exists.Post
+write-exists-returns : (t : ℕ) → write-exists-lts.Need-returns (write-exists-claims t) (write-exists-at t) write-exists.Post
 write-exists-returns t c =
     let o = c .before .before .before .before .before .before .before .before .before .before .before .before .before .before .before .before .before in
     λ h. exists-wrote h (o .pre .1 .1) _
@@ -282,290 +177,95 @@ write-exists-returns t c =
     (c .before .before .before .before .before .before .write-part .ensures)
     (c .before .before .put16 .ensures)
 
-write-list-mul-every : (t : ℕ) → write-list-lts.Need-mul-every (
-  row-kind-reads.Asked,
-  row-kind-reads.Learnt,
-  put-plain-reads.Asked,
-  put-plain-reads.Learnt,
-  pair-kind-reads.Asked,
-  pair-kind-reads.Learnt,
-  write-part-below t,
-  write-part.Post,
-  write-comparison-reads.Asked,
-  write-comparison-reads.Learnt,
-  put16-reads.Asked,
-  put16-reads.Learnt,
-) (write-list-at t) write-list.Post
+write-list-mul-every : (t : ℕ) → write-list-lts.Need-mul-every (write-list-claims t) (write-list-at t) write-list.Post
 write-list-mul-every t c =
     let o = c .before in
     let few = part-few (o .pre .1 .0) in
     let fewer = entry-few (o .pre .1 .0) in
     search needs
 
-write-list-mul-every-2 : (t : ℕ) → write-list-lts.Need-mul-every-2 (
-  row-kind-reads.Asked,
-  row-kind-reads.Learnt,
-  put-plain-reads.Asked,
-  put-plain-reads.Learnt,
-  pair-kind-reads.Asked,
-  pair-kind-reads.Learnt,
-  write-part-below t,
-  write-part.Post,
-  write-comparison-reads.Asked,
-  write-comparison-reads.Learnt,
-  put16-reads.Asked,
-  put16-reads.Learnt,
-) (write-list-at t) write-list.Post
+write-list-mul-every-2 : (t : ℕ) → write-list-lts.Need-mul-every-2 (write-list-claims t) (write-list-at t) write-list.Post
 write-list-mul-every-2 t c =
     let o = c .before in
     let few = part-few (o .pre .1 .0) in
     let fewer = entry-few (o .pre .1 .0) in
     search needs
 
-write-list-element-copy-out-every : (t : ℕ) → write-list-lts.Need-element-copy-out-every (
-  row-kind-reads.Asked,
-  row-kind-reads.Learnt,
-  put-plain-reads.Asked,
-  put-plain-reads.Learnt,
-  pair-kind-reads.Asked,
-  pair-kind-reads.Learnt,
-  write-part-below t,
-  write-part.Post,
-  write-comparison-reads.Asked,
-  write-comparison-reads.Learnt,
-  put16-reads.Asked,
-  put16-reads.Learnt,
-) (write-list-at t) write-list.Post
+write-list-element-copy-out-every : (t : ℕ) → write-list-lts.Need-element-copy-out-every (write-list-claims t) (write-list-at t) write-list.Post
 write-list-element-copy-out-every t c =
     let o = c .before in
     let few = part-few (o .pre .1 .0) in
     let fewer = entry-few (o .pre .1 .0) in
     search needs
 
-write-list-mul-table : (t : ℕ) → write-list-lts.Need-mul-table (
-  row-kind-reads.Asked,
-  row-kind-reads.Learnt,
-  put-plain-reads.Asked,
-  put-plain-reads.Learnt,
-  pair-kind-reads.Asked,
-  pair-kind-reads.Learnt,
-  write-part-below t,
-  write-part.Post,
-  write-comparison-reads.Asked,
-  write-comparison-reads.Learnt,
-  put16-reads.Asked,
-  put16-reads.Learnt,
-) (write-list-at t) write-list.Post
+write-list-mul-table : (t : ℕ) → write-list-lts.Need-mul-table (write-list-claims t) (write-list-at t) write-list.Post
 write-list-mul-table t c =
     let o = c .before .before in
     let few = part-few (o .pre .1 .0) in
     let fewer = entry-few (o .pre .1 .0) in
     search needs
 
-write-list-add-table : (t : ℕ) → write-list-lts.Need-add-table (
-  row-kind-reads.Asked,
-  row-kind-reads.Learnt,
-  put-plain-reads.Asked,
-  put-plain-reads.Learnt,
-  pair-kind-reads.Asked,
-  pair-kind-reads.Learnt,
-  write-part-below t,
-  write-part.Post,
-  write-comparison-reads.Asked,
-  write-comparison-reads.Learnt,
-  put16-reads.Asked,
-  put16-reads.Learnt,
-) (write-list-at t) write-list.Post
+write-list-add-table : (t : ℕ) → write-list-lts.Need-add-table (write-list-claims t) (write-list-at t) write-list.Post
 write-list-add-table t c =
     let o = c .before .before in
     let few = part-few (o .pre .1 .0) in
     let fewer = entry-few (o .pre .1 .0) in
     search needs
 
-write-list-mul-table-2 : (t : ℕ) → write-list-lts.Need-mul-table-2 (
-  row-kind-reads.Asked,
-  row-kind-reads.Learnt,
-  put-plain-reads.Asked,
-  put-plain-reads.Learnt,
-  pair-kind-reads.Asked,
-  pair-kind-reads.Learnt,
-  write-part-below t,
-  write-part.Post,
-  write-comparison-reads.Asked,
-  write-comparison-reads.Learnt,
-  put16-reads.Asked,
-  put16-reads.Learnt,
-) (write-list-at t) write-list.Post
+write-list-mul-table-2 : (t : ℕ) → write-list-lts.Need-mul-table-2 (write-list-claims t) (write-list-at t) write-list.Post
 write-list-mul-table-2 t c =
     let o = c .before .before in
     let few = part-few (o .pre .1 .0) in
     let fewer = entry-few (o .pre .1 .0) in
     search needs
 
-write-list-element-copy-out-table : (t : ℕ) → write-list-lts.Need-element-copy-out-table (
-  row-kind-reads.Asked,
-  row-kind-reads.Learnt,
-  put-plain-reads.Asked,
-  put-plain-reads.Learnt,
-  pair-kind-reads.Asked,
-  pair-kind-reads.Learnt,
-  write-part-below t,
-  write-part.Post,
-  write-comparison-reads.Asked,
-  write-comparison-reads.Learnt,
-  put16-reads.Asked,
-  put16-reads.Learnt,
-) (write-list-at t) write-list.Post
+write-list-element-copy-out-table : (t : ℕ) → write-list-lts.Need-element-copy-out-table (write-list-claims t) (write-list-at t) write-list.Post
 write-list-element-copy-out-table t c =
     let o = c .before .before in
     let few = part-few (o .pre .1 .0) in
     let fewer = entry-few (o .pre .1 .0) in
     search needs
 
-write-list-row-kind-requires : (t : ℕ) → write-list-lts.Need-row-kind-requires (
-  row-kind-reads.Asked,
-  row-kind-reads.Learnt,
-  put-plain-reads.Asked,
-  put-plain-reads.Learnt,
-  pair-kind-reads.Asked,
-  pair-kind-reads.Learnt,
-  write-part-below t,
-  write-part.Post,
-  write-comparison-reads.Asked,
-  write-comparison-reads.Learnt,
-  put16-reads.Asked,
-  put16-reads.Learnt,
-) (write-list-at t) write-list.Post
+write-list-row-kind-requires : (t : ℕ) → write-list-lts.Need-row-kind-requires (write-list-claims t) (write-list-at t) write-list.Post
 write-list-row-kind-requires t c κs = search needs
 
-write-list-put-plain-requires : (t : ℕ) → write-list-lts.Need-put-plain-requires (
-  row-kind-reads.Asked,
-  row-kind-reads.Learnt,
-  put-plain-reads.Asked,
-  put-plain-reads.Learnt,
-  pair-kind-reads.Asked,
-  pair-kind-reads.Learnt,
-  write-part-below t,
-  write-part.Post,
-  write-comparison-reads.Asked,
-  write-comparison-reads.Learnt,
-  put16-reads.Asked,
-  put16-reads.Learnt,
-) (write-list-at t) write-list.Post
+write-list-put-plain-requires : (t : ℕ) → write-list-lts.Need-put-plain-requires (write-list-claims t) (write-list-at t) write-list.Post
 write-list-put-plain-requires t c κs =
     let o = c .before .before .before .before .before .before in
     list-plain-asked (o .pre .1 .0) (o .pre .1 .1) _ (c .row-kind .ensures)
 
-write-list-add-put-plain : (t : ℕ) → write-list-lts.Need-add-put-plain (
-  row-kind-reads.Asked,
-  row-kind-reads.Learnt,
-  put-plain-reads.Asked,
-  put-plain-reads.Learnt,
-  pair-kind-reads.Asked,
-  pair-kind-reads.Learnt,
-  write-part-below t,
-  write-part.Post,
-  write-comparison-reads.Asked,
-  write-comparison-reads.Learnt,
-  put16-reads.Asked,
-  put16-reads.Learnt,
-) (write-list-at t) write-list.Post
+write-list-add-put-plain : (t : ℕ) → write-list-lts.Need-add-put-plain (write-list-claims t) (write-list-at t) write-list.Post
 write-list-add-put-plain t c =
     let o = c .before .before .before .before .before .before .before .before .before .before .before in
     let few = part-few (o .pre .1 .0) in
     let fewer = entry-few (o .pre .1 .0) in
     search needs
 
-write-list-pair-kind-requires : (t : ℕ) → write-list-lts.Need-pair-kind-requires (
-  row-kind-reads.Asked,
-  row-kind-reads.Learnt,
-  put-plain-reads.Asked,
-  put-plain-reads.Learnt,
-  pair-kind-reads.Asked,
-  pair-kind-reads.Learnt,
-  write-part-below t,
-  write-part.Post,
-  write-comparison-reads.Asked,
-  write-comparison-reads.Learnt,
-  put16-reads.Asked,
-  put16-reads.Learnt,
-) (write-list-at t) write-list.Post
+write-list-pair-kind-requires : (t : ℕ) → write-list-lts.Need-pair-kind-requires (write-list-claims t) (write-list-at t) write-list.Post
 write-list-pair-kind-requires t c κs = search needs
 
-write-list-put-plain-requires-2 : (t : ℕ) → write-list-lts.Need-put-plain-requires-2 (
-  row-kind-reads.Asked,
-  row-kind-reads.Learnt,
-  put-plain-reads.Asked,
-  put-plain-reads.Learnt,
-  pair-kind-reads.Asked,
-  pair-kind-reads.Learnt,
-  write-part-below t,
-  write-part.Post,
-  write-comparison-reads.Asked,
-  write-comparison-reads.Learnt,
-  put16-reads.Asked,
-  put16-reads.Learnt,
-) (write-list-at t) write-list.Post
+write-list-put-plain-requires-2 : (t : ℕ) → write-list-lts.Need-put-plain-requires-2 (write-list-claims t) (write-list-at t) write-list.Post
 write-list-put-plain-requires-2 t c κs =
     let o = c .before .before .before .before .before .before .before .before .before .before .before .before in
     list-plain-asked-2 (o .pre .1 .0) (o .pre .1 .1) _
     (c .before .before .before .before .before .before .row-kind .ensures)
     (c .before .before .before .before .before .put-plain .ensures) _ (c .pair-kind .ensures)
 
-write-list-add-write-part : (t : ℕ) → write-list-lts.Need-add-write-part (
-  row-kind-reads.Asked,
-  row-kind-reads.Learnt,
-  put-plain-reads.Asked,
-  put-plain-reads.Learnt,
-  pair-kind-reads.Asked,
-  pair-kind-reads.Learnt,
-  write-part-below t,
-  write-part.Post,
-  write-comparison-reads.Asked,
-  write-comparison-reads.Learnt,
-  put16-reads.Asked,
-  put16-reads.Learnt,
-) (write-list-at t) write-list.Post
+write-list-add-write-part : (t : ℕ) → write-list-lts.Need-add-write-part (write-list-claims t) (write-list-at t) write-list.Post
 write-list-add-write-part t c =
     let o = c .before .before .before .before .before .before .before .before .before .before .before .before .before .before .before in
     let few = part-few (o .pre .1 .0) in
     let fewer = entry-few (o .pre .1 .0) in
     search needs
 
-write-list-add-write-part-2 : (t : ℕ) → write-list-lts.Need-add-write-part-2 (
-  row-kind-reads.Asked,
-  row-kind-reads.Learnt,
-  put-plain-reads.Asked,
-  put-plain-reads.Learnt,
-  pair-kind-reads.Asked,
-  pair-kind-reads.Learnt,
-  write-part-below t,
-  write-part.Post,
-  write-comparison-reads.Asked,
-  write-comparison-reads.Learnt,
-  put16-reads.Asked,
-  put16-reads.Learnt,
-) (write-list-at t) write-list.Post
+write-list-add-write-part-2 : (t : ℕ) → write-list-lts.Need-add-write-part-2 (write-list-claims t) (write-list-at t) write-list.Post
 write-list-add-write-part-2 t c =
     let o = c .before .before .before .before .before .before .before .before .before .before .before .before .before .before .before .before .before in
     let few = part-few (o .pre .1 .0) in
     let fewer = entry-few (o .pre .1 .0) in
     search needs
 
-write-list-write-part-requires : (t : ℕ) → write-list-lts.Need-write-part-requires (
-  row-kind-reads.Asked,
-  row-kind-reads.Learnt,
-  put-plain-reads.Asked,
-  put-plain-reads.Learnt,
-  pair-kind-reads.Asked,
-  pair-kind-reads.Learnt,
-  write-part-below t,
-  write-part.Post,
-  write-comparison-reads.Asked,
-  write-comparison-reads.Learnt,
-  put16-reads.Asked,
-  put16-reads.Learnt,
-) (write-list-at t) write-list.Post
+write-list-write-part-requires : (t : ℕ) → write-list-lts.Need-write-part-requires (write-list-claims t) (write-list-at t) write-list.Post
 write-list-write-part-requires t c κs =
     let o = c .before .before .before .before .before .before .before .before .before .before .before .before .before .before .before .before .before in
     let few = part-few (o .pre .1 .0) in
@@ -578,20 +278,7 @@ write-list-write-part-requires t c κs =
           (c .before .before .before .before .put-plain2 .ensures),
     )
 
-write-list-write-comparison-requires : (t : ℕ) → write-list-lts.Need-write-comparison-requires (
-  row-kind-reads.Asked,
-  row-kind-reads.Learnt,
-  put-plain-reads.Asked,
-  put-plain-reads.Learnt,
-  pair-kind-reads.Asked,
-  pair-kind-reads.Learnt,
-  write-part-below t,
-  write-part.Post,
-  write-comparison-reads.Asked,
-  write-comparison-reads.Learnt,
-  put16-reads.Asked,
-  put16-reads.Learnt,
-) (write-list-at t) write-list.Post
+write-list-write-comparison-requires : (t : ℕ) → write-list-lts.Need-write-comparison-requires (write-list-claims t) (write-list-at t) write-list.Post
 write-list-write-comparison-requires t c κs =
     let o = c .before .before .before .before .before .before .before .before .before .before .before .before .before .before .before .before .before .before .before .before .before .before in
     list-compare-ready (o .pre .1 .0) (o .pre .1 .1) _
@@ -601,60 +288,21 @@ write-list-write-comparison-requires t c κs =
     (c .before .before .before .before .before .before .before .before .before .put-plain2 .ensures)
     (c .before .before .before .before .write-part .ensures)
 
-write-list-add-put16 : (t : ℕ) → write-list-lts.Need-add-put16 (
-  row-kind-reads.Asked,
-  row-kind-reads.Learnt,
-  put-plain-reads.Asked,
-  put-plain-reads.Learnt,
-  pair-kind-reads.Asked,
-  pair-kind-reads.Learnt,
-  write-part-below t,
-  write-part.Post,
-  write-comparison-reads.Asked,
-  write-comparison-reads.Learnt,
-  put16-reads.Asked,
-  put16-reads.Learnt,
-) (write-list-at t) write-list.Post
+write-list-add-put16 : (t : ℕ) → write-list-lts.Need-add-put16 (write-list-claims t) (write-list-at t) write-list.Post
 write-list-add-put16 t c =
     let o = c .before .before .before .before .before .before .before .before .before .before .before .before .before .before .before .before .before .before .before .before .before .before .before .before .before .before in
     let few = part-few (o .pre .1 .0) in
     let fewer = entry-few (o .pre .1 .0) in
     search needs
 
-write-list-mul-put16 : (t : ℕ) → write-list-lts.Need-mul-put16 (
-  row-kind-reads.Asked,
-  row-kind-reads.Learnt,
-  put-plain-reads.Asked,
-  put-plain-reads.Learnt,
-  pair-kind-reads.Asked,
-  pair-kind-reads.Learnt,
-  write-part-below t,
-  write-part.Post,
-  write-comparison-reads.Asked,
-  write-comparison-reads.Learnt,
-  put16-reads.Asked,
-  put16-reads.Learnt,
-) (write-list-at t) write-list.Post
+write-list-mul-put16 : (t : ℕ) → write-list-lts.Need-mul-put16 (write-list-claims t) (write-list-at t) write-list.Post
 write-list-mul-put16 t c =
     let o = c .before .before .before .before .before .before .before .before .before .before .before .before .before .before .before .before .before .before .before .before .before .before .before .before .before .before in
     let few = part-few (o .pre .1 .0) in
     let fewer = entry-few (o .pre .1 .0) in
     search needs
 
-write-list-put16-requires : (t : ℕ) → write-list-lts.Need-put16-requires (
-  row-kind-reads.Asked,
-  row-kind-reads.Learnt,
-  put-plain-reads.Asked,
-  put-plain-reads.Learnt,
-  pair-kind-reads.Asked,
-  pair-kind-reads.Learnt,
-  write-part-below t,
-  write-part.Post,
-  write-comparison-reads.Asked,
-  write-comparison-reads.Learnt,
-  put16-reads.Asked,
-  put16-reads.Learnt,
-) (write-list-at t) write-list.Post
+write-list-put16-requires : (t : ℕ) → write-list-lts.Need-put16-requires (write-list-claims t) (write-list-at t) write-list.Post
 write-list-put16-requires t c κs =
     let o = c .before .before .before .before .before .before .before .before .before .before .before .before .before .before .before .before .before .before .before .before .before .before .before .before .before .before in
     list-end-asked (o .pre .1 .0) (o .pre .1 .1) _
@@ -665,40 +313,14 @@ write-list-put16-requires t c κs =
     (c .before .before .before .before .before .before .before .before .write-part .ensures)
     (c .before .before .before .write-comparison .ensures)
 
-write-list-mul-put16-2 : (t : ℕ) → write-list-lts.Need-mul-put16-2 (
-  row-kind-reads.Asked,
-  row-kind-reads.Learnt,
-  put-plain-reads.Asked,
-  put-plain-reads.Learnt,
-  pair-kind-reads.Asked,
-  pair-kind-reads.Learnt,
-  write-part-below t,
-  write-part.Post,
-  write-comparison-reads.Asked,
-  write-comparison-reads.Learnt,
-  put16-reads.Asked,
-  put16-reads.Learnt,
-) (write-list-at t) write-list.Post
+write-list-mul-put16-2 : (t : ℕ) → write-list-lts.Need-mul-put16-2 (write-list-claims t) (write-list-at t) write-list.Post
 write-list-mul-put16-2 t c =
     let o = c .before .before .before .before .before .before .before .before .before .before .before .before .before .before .before .before .before .before .before .before .before .before .before .before .before .before .before .before .before .before in
     let few = part-few (o .pre .1 .0) in
     let fewer = entry-few (o .pre .1 .0) in
     search needs
 
-write-list-put16-requires-2 : (t : ℕ) → write-list-lts.Need-put16-requires-2 (
-  row-kind-reads.Asked,
-  row-kind-reads.Learnt,
-  put-plain-reads.Asked,
-  put-plain-reads.Learnt,
-  pair-kind-reads.Asked,
-  pair-kind-reads.Learnt,
-  write-part-below t,
-  write-part.Post,
-  write-comparison-reads.Asked,
-  write-comparison-reads.Learnt,
-  put16-reads.Asked,
-  put16-reads.Learnt,
-) (write-list-at t) write-list.Post
+write-list-put16-requires-2 : (t : ℕ) → write-list-lts.Need-put16-requires-2 (write-list-claims t) (write-list-at t) write-list.Post
 write-list-put16-requires-2 t c κs =
     let o = c .before .before .before .before .before .before .before .before .before .before .before .before .before .before .before .before .before .before .before .before .before .before .before .before .before .before .before .before .before .before in
     list-end-asked-2 (o .pre .1 .0) (o .pre .1 .1) _
@@ -710,36 +332,10 @@ write-list-put16-requires-2 t c κs =
     (c .before .before .before .before .before .before .before .write-comparison .ensures)
     (c .before .before .before .put16 .ensures)
 
-write-list-same-length : (t : ℕ) → write-list-lts.Need-same-length (
-  row-kind-reads.Asked,
-  row-kind-reads.Learnt,
-  put-plain-reads.Asked,
-  put-plain-reads.Learnt,
-  pair-kind-reads.Asked,
-  pair-kind-reads.Learnt,
-  write-part-below t,
-  write-part.Post,
-  write-comparison-reads.Asked,
-  write-comparison-reads.Learnt,
-  put16-reads.Asked,
-  put16-reads.Learnt,
-) (write-list-at t) write-list.Post
+write-list-same-length : (t : ℕ) → write-list-lts.Need-same-length (write-list-claims t) (write-list-at t) write-list.Post
 write-list-same-length t c = search needs
 
-write-list-returns : (t : ℕ) → write-list-lts.Need-returns (
-  row-kind-reads.Asked,
-  row-kind-reads.Learnt,
-  put-plain-reads.Asked,
-  put-plain-reads.Learnt,
-  pair-kind-reads.Asked,
-  pair-kind-reads.Learnt,
-  write-part-below t,
-  write-part.Post,
-  write-comparison-reads.Asked,
-  write-comparison-reads.Learnt,
-  put16-reads.Asked,
-  put16-reads.Learnt,
-) (write-list-at t) write-list.Post
+write-list-returns : (t : ℕ) → write-list-lts.Need-returns (write-list-claims t) (write-list-at t) write-list.Post
 write-list-returns t c =
     let o = c .before .before .before .before .before .before .before .before .before .before .before .before .before .before .before .before .before .before .before .before .before .before .before .before .before .before .before .before .before .before .before .before .before in
     λ h. list-wrote h (o .pre .1 .1) _
@@ -752,197 +348,80 @@ write-list-returns t c =
     (c .before .before .before .before .before .before .put16 .ensures)
     (c .before .before .put162 .ensures)
 
-write-pair-mul-pair-kind : (t : ℕ) → write-pair-lts.Need-mul-pair-kind (
-  pair-kind-reads.Asked,
-  pair-kind-reads.Learnt,
-  put-plain-reads.Asked,
-  put-plain-reads.Learnt,
-  write-part-below t,
-  write-part.Post,
-  put16-reads.Asked,
-  put16-reads.Learnt,
-) (write-pair-at t) write-pair.Post
+write-pair-mul-pair-kind : (t : ℕ) → write-pair-lts.Need-mul-pair-kind (write-pair-claims t) (write-pair-at t) write-pair.Post
 write-pair-mul-pair-kind t c =
     let o = c .before in
     let few = part-few (o .pre .1 .0) in
     let fewer = entry-few (o .pre .1 .0) in
     search needs
 
-write-pair-mul-pair-kind-2 : (t : ℕ) → write-pair-lts.Need-mul-pair-kind-2 (
-  pair-kind-reads.Asked,
-  pair-kind-reads.Learnt,
-  put-plain-reads.Asked,
-  put-plain-reads.Learnt,
-  write-part-below t,
-  write-part.Post,
-  put16-reads.Asked,
-  put16-reads.Learnt,
-) (write-pair-at t) write-pair.Post
+write-pair-mul-pair-kind-2 : (t : ℕ) → write-pair-lts.Need-mul-pair-kind-2 (write-pair-claims t) (write-pair-at t) write-pair.Post
 write-pair-mul-pair-kind-2 t c =
     let o = c .before in
     let few = part-few (o .pre .1 .0) in
     let fewer = entry-few (o .pre .1 .0) in
     search needs
 
-write-pair-element-copy-out-pair-kind : (t : ℕ) → write-pair-lts.Need-element-copy-out-pair-kind (
-  pair-kind-reads.Asked,
-  pair-kind-reads.Learnt,
-  put-plain-reads.Asked,
-  put-plain-reads.Learnt,
-  write-part-below t,
-  write-part.Post,
-  put16-reads.Asked,
-  put16-reads.Learnt,
-) (write-pair-at t) write-pair.Post
+write-pair-element-copy-out-pair-kind : (t : ℕ) → write-pair-lts.Need-element-copy-out-pair-kind (write-pair-claims t) (write-pair-at t) write-pair.Post
 write-pair-element-copy-out-pair-kind t c =
     let o = c .before in
     let few = part-few (o .pre .1 .0) in
     let fewer = entry-few (o .pre .1 .0) in
     search needs
 
-write-pair-pair-kind-requires : (t : ℕ) → write-pair-lts.Need-pair-kind-requires (
-  pair-kind-reads.Asked,
-  pair-kind-reads.Learnt,
-  put-plain-reads.Asked,
-  put-plain-reads.Learnt,
-  write-part-below t,
-  write-part.Post,
-  put16-reads.Asked,
-  put16-reads.Learnt,
-) (write-pair-at t) write-pair.Post
+write-pair-pair-kind-requires : (t : ℕ) → write-pair-lts.Need-pair-kind-requires (write-pair-claims t) (write-pair-at t) write-pair.Post
 write-pair-pair-kind-requires t c κs = search needs
 
-write-pair-add-next : (t : ℕ) → write-pair-lts.Need-add-next (
-  pair-kind-reads.Asked,
-  pair-kind-reads.Learnt,
-  put-plain-reads.Asked,
-  put-plain-reads.Learnt,
-  write-part-below t,
-  write-part.Post,
-  put16-reads.Asked,
-  put16-reads.Learnt,
-) (write-pair-at t) write-pair.Post
+write-pair-add-next : (t : ℕ) → write-pair-lts.Need-add-next (write-pair-claims t) (write-pair-at t) write-pair.Post
 write-pair-add-next t c =
     let o = c .before .before .before in
     let few = join-few (o .pre .1 .0) (o .pre .1 .1) _ (c .pair-kind .ensures) in
     search needs
 
-write-pair-mul-next : (t : ℕ) → write-pair-lts.Need-mul-next (
-  pair-kind-reads.Asked,
-  pair-kind-reads.Learnt,
-  put-plain-reads.Asked,
-  put-plain-reads.Learnt,
-  write-part-below t,
-  write-part.Post,
-  put16-reads.Asked,
-  put16-reads.Learnt,
-) (write-pair-at t) write-pair.Post
+write-pair-mul-next : (t : ℕ) → write-pair-lts.Need-mul-next (write-pair-claims t) (write-pair-at t) write-pair.Post
 write-pair-mul-next t c =
     let o = c .before .before .before in
     let few = join-few (o .pre .1 .0) (o .pre .1 .1) _ (c .pair-kind .ensures) in
     search needs
 
-write-pair-add-next-2 : (t : ℕ) → write-pair-lts.Need-add-next-2 (
-  pair-kind-reads.Asked,
-  pair-kind-reads.Learnt,
-  put-plain-reads.Asked,
-  put-plain-reads.Learnt,
-  write-part-below t,
-  write-part.Post,
-  put16-reads.Asked,
-  put16-reads.Learnt,
-) (write-pair-at t) write-pair.Post
+write-pair-add-next-2 : (t : ℕ) → write-pair-lts.Need-add-next-2 (write-pair-claims t) (write-pair-at t) write-pair.Post
 write-pair-add-next-2 t c =
     let o = c .before .before .before in
     let few = join-few (o .pre .1 .0) (o .pre .1 .1) _ (c .pair-kind .ensures) in
     search needs
 
-write-pair-mul-next-2 : (t : ℕ) → write-pair-lts.Need-mul-next-2 (
-  pair-kind-reads.Asked,
-  pair-kind-reads.Learnt,
-  put-plain-reads.Asked,
-  put-plain-reads.Learnt,
-  write-part-below t,
-  write-part.Post,
-  put16-reads.Asked,
-  put16-reads.Learnt,
-) (write-pair-at t) write-pair.Post
+write-pair-mul-next-2 : (t : ℕ) → write-pair-lts.Need-mul-next-2 (write-pair-claims t) (write-pair-at t) write-pair.Post
 write-pair-mul-next-2 t c =
     let o = c .before .before .before in
     let few = join-few (o .pre .1 .0) (o .pre .1 .1) _ (c .pair-kind .ensures) in
     search needs
 
-write-pair-element-copy-out-next : (t : ℕ) → write-pair-lts.Need-element-copy-out-next (
-  pair-kind-reads.Asked,
-  pair-kind-reads.Learnt,
-  put-plain-reads.Asked,
-  put-plain-reads.Learnt,
-  write-part-below t,
-  write-part.Post,
-  put16-reads.Asked,
-  put16-reads.Learnt,
-) (write-pair-at t) write-pair.Post
+write-pair-element-copy-out-next : (t : ℕ) → write-pair-lts.Need-element-copy-out-next (write-pair-claims t) (write-pair-at t) write-pair.Post
 write-pair-element-copy-out-next t c =
     let o = c .before .before .before in
     let few = join-few (o .pre .1 .0) (o .pre .1 .1) _ (c .pair-kind .ensures) in
     search needs
 
-write-pair-put-plain-requires : (t : ℕ) → write-pair-lts.Need-put-plain-requires (
-  pair-kind-reads.Asked,
-  pair-kind-reads.Learnt,
-  put-plain-reads.Asked,
-  put-plain-reads.Learnt,
-  write-part-below t,
-  write-part.Post,
-  put16-reads.Asked,
-  put16-reads.Learnt,
-) (write-pair-at t) write-pair.Post
+write-pair-put-plain-requires : (t : ℕ) → write-pair-lts.Need-put-plain-requires (write-pair-claims t) (write-pair-at t) write-pair.Post
 write-pair-put-plain-requires t c κs =
     let o = c .before .before .before .before .before .before in
     pair-plain-asked (o .pre .1 .0) (o .pre .1 .1) _ (c .before .before .before .pair-kind .ensures)
 
-write-pair-add-write-part : (t : ℕ) → write-pair-lts.Need-add-write-part (
-  pair-kind-reads.Asked,
-  pair-kind-reads.Learnt,
-  put-plain-reads.Asked,
-  put-plain-reads.Learnt,
-  write-part-below t,
-  write-part.Post,
-  put16-reads.Asked,
-  put16-reads.Learnt,
-) (write-pair-at t) write-pair.Post
+write-pair-add-write-part : (t : ℕ) → write-pair-lts.Need-add-write-part (write-pair-claims t) (write-pair-at t) write-pair.Post
 write-pair-add-write-part t c =
     let o = c .before .before .before .before .before .before .before .before .before in
     let few = part-few (o .pre .1 .0) in
     let fewer = entry-few (o .pre .1 .0) in
     search needs
 
-write-pair-add-write-part-2 : (t : ℕ) → write-pair-lts.Need-add-write-part-2 (
-  pair-kind-reads.Asked,
-  pair-kind-reads.Learnt,
-  put-plain-reads.Asked,
-  put-plain-reads.Learnt,
-  write-part-below t,
-  write-part.Post,
-  put16-reads.Asked,
-  put16-reads.Learnt,
-) (write-pair-at t) write-pair.Post
+write-pair-add-write-part-2 : (t : ℕ) → write-pair-lts.Need-add-write-part-2 (write-pair-claims t) (write-pair-at t) write-pair.Post
 write-pair-add-write-part-2 t c =
     let o = c .before .before .before .before .before .before .before .before .before .before .before in
     let few = part-few (o .pre .1 .0) in
     let fewer = entry-few (o .pre .1 .0) in
     search needs
 
-write-pair-write-part-requires : (t : ℕ) → write-pair-lts.Need-write-part-requires (
-  pair-kind-reads.Asked,
-  pair-kind-reads.Learnt,
-  put-plain-reads.Asked,
-  put-plain-reads.Learnt,
-  write-part-below t,
-  write-part.Post,
-  put16-reads.Asked,
-  put16-reads.Learnt,
-) (write-pair-at t) write-pair.Post
+write-pair-write-part-requires : (t : ℕ) → write-pair-lts.Need-write-part-requires (write-pair-claims t) (write-pair-at t) write-pair.Post
 write-pair-write-part-requires t c κs =
     let o = c .before .before .before .before .before .before .before .before .before .before .before in
     let few = part-few (o .pre .1 .0) in
@@ -953,16 +432,7 @@ write-pair-write-part-requires t c κs =
           (c .before .before .before .before .put-plain .ensures),
     )
 
-write-pair-write-part-requires-2 : (t : ℕ) → write-pair-lts.Need-write-part-requires-2 (
-  pair-kind-reads.Asked,
-  pair-kind-reads.Learnt,
-  put-plain-reads.Asked,
-  put-plain-reads.Learnt,
-  write-part-below t,
-  write-part.Post,
-  put16-reads.Asked,
-  put16-reads.Learnt,
-) (write-pair-at t) write-pair.Post
+write-pair-write-part-requires-2 : (t : ℕ) → write-pair-lts.Need-write-part-requires-2 (write-pair-claims t) (write-pair-at t) write-pair.Post
 write-pair-write-part-requires-2 t c κs =
     let o = c .before .before .before .before .before .before .before .before .before .before .before .before .before .before .before .before in
     let few = part-few (o .pre .1 .0) in
@@ -976,32 +446,14 @@ write-pair-write-part-requires-2 t c κs =
           (c .before .before .before .before .write-part .ensures),
     )
 
-write-pair-mul-put16 : (t : ℕ) → write-pair-lts.Need-mul-put16 (
-  pair-kind-reads.Asked,
-  pair-kind-reads.Learnt,
-  put-plain-reads.Asked,
-  put-plain-reads.Learnt,
-  write-part-below t,
-  write-part.Post,
-  put16-reads.Asked,
-  put16-reads.Learnt,
-) (write-pair-at t) write-pair.Post
+write-pair-mul-put16 : (t : ℕ) → write-pair-lts.Need-mul-put16 (write-pair-claims t) (write-pair-at t) write-pair.Post
 write-pair-mul-put16 t c =
     let o = c .before .before .before .before .before .before .before .before .before .before .before .before .before .before .before .before .before .before .before .before in
     let few = part-few (o .pre .1 .0) in
     let fewer = entry-few (o .pre .1 .0) in
     search needs
 
-write-pair-put16-requires : (t : ℕ) → write-pair-lts.Need-put16-requires (
-  pair-kind-reads.Asked,
-  pair-kind-reads.Learnt,
-  put-plain-reads.Asked,
-  put-plain-reads.Learnt,
-  write-part-below t,
-  write-part.Post,
-  put16-reads.Asked,
-  put16-reads.Learnt,
-) (write-pair-at t) write-pair.Post
+write-pair-put16-requires : (t : ℕ) → write-pair-lts.Need-put16-requires (write-pair-claims t) (write-pair-at t) write-pair.Post
 write-pair-put16-requires t c κs =
     let o = c .before .before .before .before .before .before .before .before .before .before .before .before .before .before .before .before .before .before .before .before in
     pair-end-asked (o .pre .1 .0) (o .pre .1 .1) _
@@ -1010,28 +462,10 @@ write-pair-put16-requires t c κs =
     (c .before .before .before .before .before .before .before .before .write-part .ensures)
     (c .before .before .before .write-part2 .ensures)
 
-write-pair-same-length : (t : ℕ) → write-pair-lts.Need-same-length (
-  pair-kind-reads.Asked,
-  pair-kind-reads.Learnt,
-  put-plain-reads.Asked,
-  put-plain-reads.Learnt,
-  write-part-below t,
-  write-part.Post,
-  put16-reads.Asked,
-  put16-reads.Learnt,
-) (write-pair-at t) write-pair.Post
+write-pair-same-length : (t : ℕ) → write-pair-lts.Need-same-length (write-pair-claims t) (write-pair-at t) write-pair.Post
 write-pair-same-length t c = search needs
 
-write-pair-returns : (t : ℕ) → write-pair-lts.Need-returns (
-  pair-kind-reads.Asked,
-  pair-kind-reads.Learnt,
-  put-plain-reads.Asked,
-  put-plain-reads.Learnt,
-  write-part-below t,
-  write-part.Post,
-  put16-reads.Asked,
-  put16-reads.Learnt,
-) (write-pair-at t) write-pair.Post
+write-pair-returns : (t : ℕ) → write-pair-lts.Need-returns (write-pair-claims t) (write-pair-at t) write-pair.Post
 write-pair-returns t c =
     let o = c .before .before .before .before .before .before .before .before .before .before .before .before .before .before .before .before .before .before .before .before .before .before .before in
     λ h. pair-wrote h (o .pre .1 .1) _
@@ -1041,119 +475,29 @@ write-pair-returns t c =
     (c .before .before .before .before .before .before .write-part2 .ensures)
     (c .before .before .put16 .ensures)
 
-write-part-mul-kind : (t : ℕ) → write-part-lts.Need-mul-kind (
-  under-nots-reads.Asked,
-  under-nots-reads.Learnt,
-  write-part-below t,
-  write-part.Post,
-  write-comparison-reads.Asked,
-  write-comparison-reads.Learnt,
-  write-exists-below t,
-  write-exists.Post,
-  write-pair-below t,
-  write-pair.Post,
-  write-null-reads.Asked,
-  write-null-reads.Learnt,
-  write-list-below t,
-  write-list.Post,
-) (write-part-at t) write-part.Post
+write-part-mul-kind : (t : ℕ) → write-part-lts.Need-mul-kind (write-part-claims t) (write-part-at t) write-part.Post
 write-part-mul-kind t c =
     let o = c .before in let few = part-few (o .pre .1) in let fewer = entry-few (o .pre .1) in search needs
 
-write-part-mul-kind-2 : (t : ℕ) → write-part-lts.Need-mul-kind-2 (
-  under-nots-reads.Asked,
-  under-nots-reads.Learnt,
-  write-part-below t,
-  write-part.Post,
-  write-comparison-reads.Asked,
-  write-comparison-reads.Learnt,
-  write-exists-below t,
-  write-exists.Post,
-  write-pair-below t,
-  write-pair.Post,
-  write-null-reads.Asked,
-  write-null-reads.Learnt,
-  write-list-below t,
-  write-list.Post,
-) (write-part-at t) write-part.Post
+write-part-mul-kind-2 : (t : ℕ) → write-part-lts.Need-mul-kind-2 (write-part-claims t) (write-part-at t) write-part.Post
 write-part-mul-kind-2 t c =
     let o = c .before in let few = part-few (o .pre .1) in let fewer = entry-few (o .pre .1) in search needs
 
-write-part-element-copy-out-kind : (t : ℕ) → write-part-lts.Need-element-copy-out-kind (
-  under-nots-reads.Asked,
-  under-nots-reads.Learnt,
-  write-part-below t,
-  write-part.Post,
-  write-comparison-reads.Asked,
-  write-comparison-reads.Learnt,
-  write-exists-below t,
-  write-exists.Post,
-  write-pair-below t,
-  write-pair.Post,
-  write-null-reads.Asked,
-  write-null-reads.Learnt,
-  write-list-below t,
-  write-list.Post,
-) (write-part-at t) write-part.Post
+write-part-element-copy-out-kind : (t : ℕ) → write-part-lts.Need-element-copy-out-kind (write-part-claims t) (write-part-at t) write-part.Post
 write-part-element-copy-out-kind t c =
     let o = c .before in let few = part-few (o .pre .1) in let fewer = entry-few (o .pre .1) in search needs
 
-write-part-add-under-nots : (t : ℕ) → write-part-lts.Need-add-under-nots (
-  under-nots-reads.Asked,
-  under-nots-reads.Learnt,
-  write-part-below t,
-  write-part.Post,
-  write-comparison-reads.Asked,
-  write-comparison-reads.Learnt,
-  write-exists-below t,
-  write-exists.Post,
-  write-pair-below t,
-  write-pair.Post,
-  write-null-reads.Asked,
-  write-null-reads.Learnt,
-  write-list-below t,
-  write-list.Post,
-) (write-part-at t) write-part.Post
+write-part-add-under-nots : (t : ℕ) → write-part-lts.Need-add-under-nots (write-part-claims t) (write-part-at t) write-part.Post
 write-part-add-under-nots t c =
     let o = c .before .before .before in
     let few = part-few (o .pre .1) in
     let fewer = entry-few (o .pre .1) in
     search needs
 
-write-part-under-nots-requires : (t : ℕ) → write-part-lts.Need-under-nots-requires (
-  under-nots-reads.Asked,
-  under-nots-reads.Learnt,
-  write-part-below t,
-  write-part.Post,
-  write-comparison-reads.Asked,
-  write-comparison-reads.Learnt,
-  write-exists-below t,
-  write-exists.Post,
-  write-pair-below t,
-  write-pair.Post,
-  write-null-reads.Asked,
-  write-null-reads.Learnt,
-  write-list-below t,
-  write-list.Post,
-) (write-part-at t) write-part.Post
+write-part-under-nots-requires : (t : ℕ) → write-part-lts.Need-under-nots-requires (write-part-claims t) (write-part-at t) write-part.Post
 write-part-under-nots-requires t c κs = c .before .before .before .pre .1 .size
 
-write-part-write-part-requires : (t : ℕ) → write-part-lts.Need-write-part-requires (
-  under-nots-reads.Asked,
-  under-nots-reads.Learnt,
-  write-part-below t,
-  write-part.Post,
-  write-comparison-reads.Asked,
-  write-comparison-reads.Learnt,
-  write-exists-below t,
-  write-exists.Post,
-  write-pair-below t,
-  write-pair.Post,
-  write-null-reads.Asked,
-  write-null-reads.Learnt,
-  write-list-below t,
-  write-list.Post,
-) (write-part-at t) write-part.Post
+write-part-write-part-requires : (t : ℕ) → write-part-lts.Need-write-part-requires (write-part-claims t) (write-part-at t) write-part.Post
 write-part-write-part-requires t c κs =
     let o = c .before .before .before .before .before .before in
     let few = part-few (o .pre .1) in
@@ -1161,84 +505,24 @@ write-part-write-part-requires t c κs =
     let u = c .before .before .under-nots .ensures in
     (omega (arith, u .behind), u .ready (not-ready (o .pre .1) (c .before .before .before .match .keys1)))
 
-write-part-write-comparison-requires : (t : ℕ) → write-part-lts.Need-write-comparison-requires (
-  under-nots-reads.Asked,
-  under-nots-reads.Learnt,
-  write-part-below t,
-  write-part.Post,
-  write-comparison-reads.Asked,
-  write-comparison-reads.Learnt,
-  write-exists-below t,
-  write-exists.Post,
-  write-pair-below t,
-  write-pair.Post,
-  write-null-reads.Asked,
-  write-null-reads.Learnt,
-  write-list-below t,
-  write-list.Post,
-) (write-part-at t) write-part.Post
+write-part-write-comparison-requires : (t : ℕ) → write-part-lts.Need-write-comparison-requires (write-part-claims t) (write-part-at t) write-part.Post
 write-part-write-comparison-requires t c κs =
     let o = c .before .before .before .before .before in
     compare-ready (o .pre .1) (c .before .before .match .keys2)
 
-write-part-write-exists-requires : (t : ℕ) → write-part-lts.Need-write-exists-requires (
-  under-nots-reads.Asked,
-  under-nots-reads.Learnt,
-  write-part-below t,
-  write-part.Post,
-  write-comparison-reads.Asked,
-  write-comparison-reads.Learnt,
-  write-exists-below t,
-  write-exists.Post,
-  write-pair-below t,
-  write-pair.Post,
-  write-null-reads.Asked,
-  write-null-reads.Learnt,
-  write-list-below t,
-  write-list.Post,
-) (write-part-at t) write-part.Post
+write-part-write-exists-requires : (t : ℕ) → write-part-lts.Need-write-exists-requires (write-part-claims t) (write-part-at t) write-part.Post
 write-part-write-exists-requires t c κs =
     let o = c .before .before .before .before .before in
     let m = o .pre .0 in
     (omega arith, (o .pre .1, c .before .before .match .keys3))
 
-write-part-write-pair-requires : (t : ℕ) → write-part-lts.Need-write-pair-requires (
-  under-nots-reads.Asked,
-  under-nots-reads.Learnt,
-  write-part-below t,
-  write-part.Post,
-  write-comparison-reads.Asked,
-  write-comparison-reads.Learnt,
-  write-exists-below t,
-  write-exists.Post,
-  write-pair-below t,
-  write-pair.Post,
-  write-null-reads.Asked,
-  write-null-reads.Learnt,
-  write-list-below t,
-  write-list.Post,
-) (write-part-at t) write-part.Post
+write-part-write-pair-requires : (t : ℕ) → write-part-lts.Need-write-pair-requires (write-part-claims t) (write-part-at t) write-part.Post
 write-part-write-pair-requires t c κs =
     let o = c .before .before .before .before .before .before .before in
     let m = o .pre .0 in
     (omega arith, (o .pre .1, (c .before .before .before .if1 .left, omega (arith, c .before .before .if2 .taken))))
 
-write-part-write-null-requires : (t : ℕ) → write-part-lts.Need-write-null-requires (
-  under-nots-reads.Asked,
-  under-nots-reads.Learnt,
-  write-part-below t,
-  write-part.Post,
-  write-comparison-reads.Asked,
-  write-comparison-reads.Learnt,
-  write-exists-below t,
-  write-exists.Post,
-  write-pair-below t,
-  write-pair.Post,
-  write-null-reads.Asked,
-  write-null-reads.Learnt,
-  write-list-below t,
-  write-list.Post,
-) (write-part-at t) write-part.Post
+write-part-write-null-requires : (t : ℕ) → write-part-lts.Need-write-null-requires (write-part-claims t) (write-part-at t) write-part.Post
 write-part-write-null-requires t c κs =
     let o = c .before .before .before .before .before .before .before .before in
     let a = c .before .before .before .if2 .left in
@@ -1248,22 +532,7 @@ write-part-write-null-requires t c κs =
     let n4 = r .0 .1 in
     null-ready (o .pre .1) (omega arith) (omega arith)
 
-write-part-write-list-requires : (t : ℕ) → write-part-lts.Need-write-list-requires (
-  under-nots-reads.Asked,
-  under-nots-reads.Learnt,
-  write-part-below t,
-  write-part.Post,
-  write-comparison-reads.Asked,
-  write-comparison-reads.Learnt,
-  write-exists-below t,
-  write-exists.Post,
-  write-pair-below t,
-  write-pair.Post,
-  write-null-reads.Asked,
-  write-null-reads.Learnt,
-  write-list-below t,
-  write-list.Post,
-) (write-part-at t) write-part.Post
+write-part-write-list-requires : (t : ℕ) → write-part-lts.Need-write-list-requires (write-part-claims t) (write-part-at t) write-part.Post
 write-part-write-list-requires t c κs =
     let o = c .before .before .before .before .before .before in
     let m = o .pre .0 in (
@@ -1271,189 +540,39 @@ write-part-write-list-requires t c κs =
       (o .pre .1, ⊎-elim (λ w. absurd (omega (arith, w .taken, kind-low _ _ (o .pre .1 .rule) (o .pre .1 .stands)))) (λ w. let n7 = c .before .before .before .match .rest .1 in let l = w .2 .left in omega arith) (c .before .before .if1 .came)),
     )
 
-write-part-same-length : (t : ℕ) → write-part-lts.Need-same-length (
-  under-nots-reads.Asked,
-  under-nots-reads.Learnt,
-  write-part-below t,
-  write-part.Post,
-  write-comparison-reads.Asked,
-  write-comparison-reads.Learnt,
-  write-exists-below t,
-  write-exists.Post,
-  write-pair-below t,
-  write-pair.Post,
-  write-null-reads.Asked,
-  write-null-reads.Learnt,
-  write-list-below t,
-  write-list.Post,
-) (write-part-at t) write-part.Post
+write-part-same-length : (t : ℕ) → write-part-lts.Need-same-length (write-part-claims t) (write-part-at t) write-part.Post
 write-part-same-length t c = search needs
 
-write-part-returns : (t : ℕ) → write-part-lts.Need-returns (
-  under-nots-reads.Asked,
-  under-nots-reads.Learnt,
-  write-part-below t,
-  write-part.Post,
-  write-comparison-reads.Asked,
-  write-comparison-reads.Learnt,
-  write-exists-below t,
-  write-exists.Post,
-  write-pair-below t,
-  write-pair.Post,
-  write-null-reads.Asked,
-  write-null-reads.Learnt,
-  write-list-below t,
-  write-list.Post,
-) (write-part-at t) write-part.Post
+write-part-returns : (t : ℕ) → write-part-lts.Need-returns (write-part-claims t) (write-part-at t) write-part.Post
 write-part-returns t c =
     let u = c .before .before .before .before .before .under-nots .ensures in
     λ h. not-wrote h (c .before .before .before .before .before .before .match .keys1) (u .wrote (c .before .before .write-part .ensures))
 
-write-part-same-length-2 : (t : ℕ) → write-part-lts.Need-same-length-2 (
-  under-nots-reads.Asked,
-  under-nots-reads.Learnt,
-  write-part-below t,
-  write-part.Post,
-  write-comparison-reads.Asked,
-  write-comparison-reads.Learnt,
-  write-exists-below t,
-  write-exists.Post,
-  write-pair-below t,
-  write-pair.Post,
-  write-null-reads.Asked,
-  write-null-reads.Learnt,
-  write-list-below t,
-  write-list.Post,
-) (write-part-at t) write-part.Post
+write-part-same-length-2 : (t : ℕ) → write-part-lts.Need-same-length-2 (write-part-claims t) (write-part-at t) write-part.Post
 write-part-same-length-2 t c = search needs
 
-write-part-returns-2 : (t : ℕ) → write-part-lts.Need-returns-2 (
-  under-nots-reads.Asked,
-  under-nots-reads.Learnt,
-  write-part-below t,
-  write-part.Post,
-  write-comparison-reads.Asked,
-  write-comparison-reads.Learnt,
-  write-exists-below t,
-  write-exists.Post,
-  write-pair-below t,
-  write-pair.Post,
-  write-null-reads.Asked,
-  write-null-reads.Learnt,
-  write-list-below t,
-  write-list.Post,
-) (write-part-at t) write-part.Post
+write-part-returns-2 : (t : ℕ) → write-part-lts.Need-returns-2 (write-part-claims t) (write-part-at t) write-part.Post
 write-part-returns-2 t c =
     λ h. compare-wrote h (c .before .before .before .before .before .match .keys2) (c .before .before .write-comparison .ensures)
 
-write-part-same-length-3 : (t : ℕ) → write-part-lts.Need-same-length-3 (
-  under-nots-reads.Asked,
-  under-nots-reads.Learnt,
-  write-part-below t,
-  write-part.Post,
-  write-comparison-reads.Asked,
-  write-comparison-reads.Learnt,
-  write-exists-below t,
-  write-exists.Post,
-  write-pair-below t,
-  write-pair.Post,
-  write-null-reads.Asked,
-  write-null-reads.Learnt,
-  write-list-below t,
-  write-list.Post,
-) (write-part-at t) write-part.Post
+write-part-same-length-3 : (t : ℕ) → write-part-lts.Need-same-length-3 (write-part-claims t) (write-part-at t) write-part.Post
 write-part-same-length-3 t c = search needs
 
-write-part-returns-3 : (t : ℕ) → write-part-lts.Need-returns-3 (
-  under-nots-reads.Asked,
-  under-nots-reads.Learnt,
-  write-part-below t,
-  write-part.Post,
-  write-comparison-reads.Asked,
-  write-comparison-reads.Learnt,
-  write-exists-below t,
-  write-exists.Post,
-  write-pair-below t,
-  write-pair.Post,
-  write-null-reads.Asked,
-  write-null-reads.Learnt,
-  write-list-below t,
-  write-list.Post,
-) (write-part-at t) write-part.Post
+write-part-returns-3 : (t : ℕ) → write-part-lts.Need-returns-3 (write-part-claims t) (write-part-at t) write-part.Post
 write-part-returns-3 t c =
     c .before .before .write-exists .ensures
 
-write-part-same-length-4 : (t : ℕ) → write-part-lts.Need-same-length-4 (
-  under-nots-reads.Asked,
-  under-nots-reads.Learnt,
-  write-part-below t,
-  write-part.Post,
-  write-comparison-reads.Asked,
-  write-comparison-reads.Learnt,
-  write-exists-below t,
-  write-exists.Post,
-  write-pair-below t,
-  write-pair.Post,
-  write-null-reads.Asked,
-  write-null-reads.Learnt,
-  write-list-below t,
-  write-list.Post,
-) (write-part-at t) write-part.Post
+write-part-same-length-4 : (t : ℕ) → write-part-lts.Need-same-length-4 (write-part-claims t) (write-part-at t) write-part.Post
 write-part-same-length-4 t c = search needs
 
-write-part-returns-4 : (t : ℕ) → write-part-lts.Need-returns-4 (
-  under-nots-reads.Asked,
-  under-nots-reads.Learnt,
-  write-part-below t,
-  write-part.Post,
-  write-comparison-reads.Asked,
-  write-comparison-reads.Learnt,
-  write-exists-below t,
-  write-exists.Post,
-  write-pair-below t,
-  write-pair.Post,
-  write-null-reads.Asked,
-  write-null-reads.Learnt,
-  write-list-below t,
-  write-list.Post,
-) (write-part-at t) write-part.Post
+write-part-returns-4 : (t : ℕ) → write-part-lts.Need-returns-4 (write-part-claims t) (write-part-at t) write-part.Post
 write-part-returns-4 t c =
     c .before .before .write-pair .ensures
 
-write-part-same-length-5 : (t : ℕ) → write-part-lts.Need-same-length-5 (
-  under-nots-reads.Asked,
-  under-nots-reads.Learnt,
-  write-part-below t,
-  write-part.Post,
-  write-comparison-reads.Asked,
-  write-comparison-reads.Learnt,
-  write-exists-below t,
-  write-exists.Post,
-  write-pair-below t,
-  write-pair.Post,
-  write-null-reads.Asked,
-  write-null-reads.Learnt,
-  write-list-below t,
-  write-list.Post,
-) (write-part-at t) write-part.Post
+write-part-same-length-5 : (t : ℕ) → write-part-lts.Need-same-length-5 (write-part-claims t) (write-part-at t) write-part.Post
 write-part-same-length-5 t c = search needs
 
-write-part-returns-5 : (t : ℕ) → write-part-lts.Need-returns-5 (
-  under-nots-reads.Asked,
-  under-nots-reads.Learnt,
-  write-part-below t,
-  write-part.Post,
-  write-comparison-reads.Asked,
-  write-comparison-reads.Learnt,
-  write-exists-below t,
-  write-exists.Post,
-  write-pair-below t,
-  write-pair.Post,
-  write-null-reads.Asked,
-  write-null-reads.Learnt,
-  write-list-below t,
-  write-list.Post,
-) (write-part-at t) write-part.Post
+write-part-returns-5 : (t : ℕ) → write-part-lts.Need-returns-5 (write-part-claims t) (write-part-at t) write-part.Post
 write-part-returns-5 t c =
     let a = c .before .before .before .before .before .before .if2 .left in
     let b = c .before .before .before .before .before .if3 .taken in
@@ -1462,40 +581,10 @@ write-part-returns-5 t c =
     let n4 = r .0 .1 in
     λ h. null-wrote h (omega arith) (omega arith) (c .before .before .write-null .ensures)
 
-write-part-same-length-6 : (t : ℕ) → write-part-lts.Need-same-length-6 (
-  under-nots-reads.Asked,
-  under-nots-reads.Learnt,
-  write-part-below t,
-  write-part.Post,
-  write-comparison-reads.Asked,
-  write-comparison-reads.Learnt,
-  write-exists-below t,
-  write-exists.Post,
-  write-pair-below t,
-  write-pair.Post,
-  write-null-reads.Asked,
-  write-null-reads.Learnt,
-  write-list-below t,
-  write-list.Post,
-) (write-part-at t) write-part.Post
+write-part-same-length-6 : (t : ℕ) → write-part-lts.Need-same-length-6 (write-part-claims t) (write-part-at t) write-part.Post
 write-part-same-length-6 t c = search needs
 
-write-part-returns-6 : (t : ℕ) → write-part-lts.Need-returns-6 (
-  under-nots-reads.Asked,
-  under-nots-reads.Learnt,
-  write-part-below t,
-  write-part.Post,
-  write-comparison-reads.Asked,
-  write-comparison-reads.Learnt,
-  write-exists-below t,
-  write-exists.Post,
-  write-pair-below t,
-  write-pair.Post,
-  write-null-reads.Asked,
-  write-null-reads.Learnt,
-  write-list-below t,
-  write-list.Post,
-) (write-part-at t) write-part.Post
+write-part-returns-6 : (t : ℕ) → write-part-lts.Need-returns-6 (write-part-claims t) (write-part-at t) write-part.Post
 write-part-returns-6 t c =
     c .before .before .write-list .ensures
 

@@ -152,98 +152,64 @@ evaluate-where-below t =
     (falls 4 evaluate-where-kinds.ps _<_ μ-evaluate-where t)
     evaluate-where.Pre
 
-evaluate-and-add-evaluate-part : (t : ℕ) → evaluate-and-lts.Need-add-evaluate-part (
-  evaluate-part-below t,
-  evaluate-part.Post,
-  lesser-reads.Asked,
-  lesser-reads.Learnt,
-) (evaluate-and-at t) evaluate-and.Post
+abbrev evaluate-and-claims : ℕ → evaluate-and-lts.Claims
+evaluate-and-claims t = (evaluate-part-below t, evaluate-part.Post, lesser-reads.Asked, lesser-reads.Learnt)
+
+abbrev evaluate-exists-claims : ℕ → evaluate-exists-lts.Claims
+evaluate-exists-claims t = (table-place-reads.Asked, table-place-reads.Learnt, evaluate-where-below t, evaluate-where.Post)
+
+abbrev evaluate-list-claims : ℕ → evaluate-list-lts.Claims
+evaluate-list-claims t = (table-place-reads.Asked, table-place-reads.Learnt, look-reads.Asked, look-reads.Learnt, evaluate-row-below t, evaluate-row.Post, after-reads.Asked, after-reads.Learnt)
+
+abbrev evaluate-or-claims : ℕ → evaluate-or-lts.Claims
+evaluate-or-claims t = (evaluate-part-below t, evaluate-part.Post, greater-reads.Asked, greater-reads.Learnt)
+
+abbrev evaluate-part-claims : ℕ → evaluate-part-lts.Claims
+evaluate-part-claims t = (evaluate-and-below t, evaluate-and.Post, evaluate-or-below t, evaluate-or.Post, evaluate-part-below t, evaluate-part.Post, evaluate-exists-below t, evaluate-exists.Post, evaluate-list-below t, evaluate-list.Post, evaluate-test-reads.Asked, evaluate-test-reads.Learnt)
+
+abbrev evaluate-row-claims : ℕ → evaluate-row-lts.Claims
+evaluate-row-claims t = (evaluate-where-below t, evaluate-where.Post, look-reads.Asked, look-reads.Learnt, compare-reads.Asked, compare-reads.Learnt)
+
+abbrev evaluate-where-claims : ℕ → evaluate-where-lts.Claims
+evaluate-where-claims t = (evaluate-test-reads.Asked, evaluate-test-reads.Learnt, evaluate-part-below t, evaluate-part.Post)
+
+evaluate-and-add-evaluate-part : (t : ℕ) → evaluate-and-lts.Need-add-evaluate-part (evaluate-and-claims t) (evaluate-and-at t) evaluate-and.Post
 evaluate-and-add-evaluate-part t c = let z = start (c .before .pre .1 .0) in omega arith
 
-evaluate-and-evaluate-part-requires : (t : ℕ) → evaluate-and-lts.Need-evaluate-part-requires (
-  evaluate-part-below t,
-  evaluate-part.Post,
-  lesser-reads.Asked,
-  lesser-reads.Learnt,
-) (evaluate-and-at t) evaluate-and.Post
+evaluate-and-evaluate-part-requires : (t : ℕ) → evaluate-and-lts.Need-evaluate-part-requires (evaluate-and-claims t) (evaluate-and-at t) evaluate-and.Post
 evaluate-and-evaluate-part-requires t c κs =
     let m = c .before .pre .0 in
     let z = start (c .before .pre .1 .0) in
     (omega arith, left-inner (c .before .pre .1 .0) And (c .before .pre .1 .1))
 
-evaluate-and-returns : (t : ℕ) → evaluate-and-lts.Need-returns (
-  evaluate-part-below t,
-  evaluate-part.Post,
-  lesser-reads.Asked,
-  lesser-reads.Learnt,
-) (evaluate-and-at t) evaluate-and.Post
+evaluate-and-returns : (t : ℕ) → evaluate-and-lts.Need-returns (evaluate-and-claims t) (evaluate-and-at t) evaluate-and.Post
 evaluate-and-returns t c = λ h. join-stops h And (c .before .before .before .pre .1 .1) (c .before .evaluate-part .result) (c .before .evaluate-part .ensures) (c .if1 .taken)
 
-evaluate-and-add-next : (t : ℕ) → evaluate-and-lts.Need-add-next (
-  evaluate-part-below t,
-  evaluate-part.Post,
-  lesser-reads.Asked,
-  lesser-reads.Learnt,
-) (evaluate-and-at t) evaluate-and.Post
+evaluate-and-add-next : (t : ℕ) → evaluate-and-lts.Need-add-next (evaluate-and-claims t) (evaluate-and-at t) evaluate-and.Post
 evaluate-and-add-next t c = let z = next-bounds (c .before .before .before .pre .1 .0) And (c .before .before .before .pre .1 .1) in omega arith
 
-evaluate-and-mul-next : (t : ℕ) → evaluate-and-lts.Need-mul-next (
-  evaluate-part-below t,
-  evaluate-part.Post,
-  lesser-reads.Asked,
-  lesser-reads.Learnt,
-) (evaluate-and-at t) evaluate-and.Post
+evaluate-and-mul-next : (t : ℕ) → evaluate-and-lts.Need-mul-next (evaluate-and-claims t) (evaluate-and-at t) evaluate-and.Post
 evaluate-and-mul-next t c = let z = next-bounds (c .before .before .before .pre .1 .0) And (c .before .before .before .pre .1 .1) in omega arith
 
-evaluate-and-add-next-2 : (t : ℕ) → evaluate-and-lts.Need-add-next-2 (
-  evaluate-part-below t,
-  evaluate-part.Post,
-  lesser-reads.Asked,
-  lesser-reads.Learnt,
-) (evaluate-and-at t) evaluate-and.Post
+evaluate-and-add-next-2 : (t : ℕ) → evaluate-and-lts.Need-add-next-2 (evaluate-and-claims t) (evaluate-and-at t) evaluate-and.Post
 evaluate-and-add-next-2 t c = let z = next-bounds (c .before .before .before .pre .1 .0) And (c .before .before .before .pre .1 .1) in omega arith
 
-evaluate-and-mul-next-2 : (t : ℕ) → evaluate-and-lts.Need-mul-next-2 (
-  evaluate-part-below t,
-  evaluate-part.Post,
-  lesser-reads.Asked,
-  lesser-reads.Learnt,
-) (evaluate-and-at t) evaluate-and.Post
+evaluate-and-mul-next-2 : (t : ℕ) → evaluate-and-lts.Need-mul-next-2 (evaluate-and-claims t) (evaluate-and-at t) evaluate-and.Post
 evaluate-and-mul-next-2 t c = let z = next-bounds (c .before .before .before .pre .1 .0) And (c .before .before .before .pre .1 .1) in omega arith
 
-evaluate-and-element-copy-out-next : (t : ℕ) → evaluate-and-lts.Need-element-copy-out-next (
-  evaluate-part-below t,
-  evaluate-part.Post,
-  lesser-reads.Asked,
-  lesser-reads.Learnt,
-) (evaluate-and-at t) evaluate-and.Post
+evaluate-and-element-copy-out-next : (t : ℕ) → evaluate-and-lts.Need-element-copy-out-next (evaluate-and-claims t) (evaluate-and-at t) evaluate-and.Post
 evaluate-and-element-copy-out-next t c = let z = next-bounds (c .before .before .before .pre .1 .0) And (c .before .before .before .pre .1 .1) in omega arith
 
-evaluate-and-evaluate-part-requires-2 : (t : ℕ) → evaluate-and-lts.Need-evaluate-part-requires-2 (
-  evaluate-part-below t,
-  evaluate-part.Post,
-  lesser-reads.Asked,
-  lesser-reads.Learnt,
-) (evaluate-and-at t) evaluate-and.Post
+evaluate-and-evaluate-part-requires-2 : (t : ℕ) → evaluate-and-lts.Need-evaluate-part-requires-2 (evaluate-and-claims t) (evaluate-and-at t) evaluate-and.Post
 evaluate-and-evaluate-part-requires-2 t c κs =
     let m = c .before .before .before .before .pre .0 in
     let z = next-bounds (c .before .before .before .before .pre .1 .0) And (c .before .before .before .before .pre .1 .1) in
     (omega arith, right-inner (c .before .before .before .before .pre .1 .0) And (c .before .before .before .before .pre .1 .1))
 
-evaluate-and-lesser-requires : (t : ℕ) → evaluate-and-lts.Need-lesser-requires (
-  evaluate-part-below t,
-  evaluate-part.Post,
-  lesser-reads.Asked,
-  lesser-reads.Learnt,
-) (evaluate-and-at t) evaluate-and.Post
+evaluate-and-lesser-requires : (t : ℕ) → evaluate-and-lts.Need-lesser-requires (evaluate-and-claims t) (evaluate-and-at t) evaluate-and.Post
 evaluate-and-lesser-requires t c κs = search needs
 
-evaluate-and-returns-2 : (t : ℕ) → evaluate-and-lts.Need-returns-2 (
-  evaluate-part-below t,
-  evaluate-part.Post,
-  lesser-reads.Asked,
-  lesser-reads.Learnt,
-) (evaluate-and-at t) evaluate-and.Post
+evaluate-and-returns-2 : (t : ℕ) → evaluate-and-lts.Need-returns-2 (evaluate-and-claims t) (evaluate-and-at t) evaluate-and.Post
 evaluate-and-returns-2 t c = λ h.
     join-evaluated h And (c .before .before .before .before .before .before .pre .1 .1) (c .before .before .before .before .evaluate-part .result) (c .before .before .before .before .evaluate-part .ensures) (c .before .evaluate-part2 .result) (c .before .evaluate-part2 .ensures) _ (c .lesser .ensures)
 
@@ -253,151 +219,66 @@ evaluate-exists-Inv-loop p g file s w depth table first₀ v₀ r₀ first v r =
 abbrev evaluate-exists-μ-loop : evaluate-exists-lts.MeasureT-loop
 evaluate-exists-μ-loop p g file s w depth table first₀ v₀ r₀ first v r = table .rows - r
 
-evaluate-exists-mul-table-place : (t : ℕ) → evaluate-exists-lts.Need-mul-table-place (
-  table-place-reads.Asked,
-  table-place-reads.Learnt,
-  evaluate-where-below t,
-  evaluate-where.Post,
-) (evaluate-exists-at t) evaluate-exists.Post evaluate-exists-Inv-loop evaluate-exists-μ-loop
+evaluate-exists-mul-table-place : (t : ℕ) → evaluate-exists-lts.Need-mul-table-place (evaluate-exists-claims t) (evaluate-exists-at t) evaluate-exists.Post evaluate-exists-Inv-loop evaluate-exists-μ-loop
 evaluate-exists-mul-table-place t c = let z = start (c .before .pre .1 .0) in omega arith
 
-evaluate-exists-add-table-place : (t : ℕ) → evaluate-exists-lts.Need-add-table-place (
-  table-place-reads.Asked,
-  table-place-reads.Learnt,
-  evaluate-where-below t,
-  evaluate-where.Post,
-) (evaluate-exists-at t) evaluate-exists.Post evaluate-exists-Inv-loop evaluate-exists-μ-loop
+evaluate-exists-add-table-place : (t : ℕ) → evaluate-exists-lts.Need-add-table-place (evaluate-exists-claims t) (evaluate-exists-at t) evaluate-exists.Post evaluate-exists-Inv-loop evaluate-exists-μ-loop
 evaluate-exists-add-table-place t c = let z = start (c .before .pre .1 .0) in omega arith
 
-evaluate-exists-mul-table-place-2 : (t : ℕ) → evaluate-exists-lts.Need-mul-table-place-2 (
-  table-place-reads.Asked,
-  table-place-reads.Learnt,
-  evaluate-where-below t,
-  evaluate-where.Post,
-) (evaluate-exists-at t) evaluate-exists.Post evaluate-exists-Inv-loop evaluate-exists-μ-loop
+evaluate-exists-mul-table-place-2 : (t : ℕ) → evaluate-exists-lts.Need-mul-table-place-2 (evaluate-exists-claims t) (evaluate-exists-at t) evaluate-exists.Post evaluate-exists-Inv-loop evaluate-exists-μ-loop
 evaluate-exists-mul-table-place-2 t c = let z = start (c .before .pre .1 .0) in omega arith
 
 evaluate-exists-element-copy-out-table-place :
-    (t : ℕ) → evaluate-exists-lts.Need-element-copy-out-table-place (
-      table-place-reads.Asked,
-      table-place-reads.Learnt,
-      evaluate-where-below t,
-      evaluate-where.Post,
-    ) (evaluate-exists-at t) evaluate-exists.Post evaluate-exists-Inv-loop evaluate-exists-μ-loop
+    (t : ℕ) → evaluate-exists-lts.Need-element-copy-out-table-place (evaluate-exists-claims t) (evaluate-exists-at t) evaluate-exists.Post evaluate-exists-Inv-loop evaluate-exists-μ-loop
 evaluate-exists-element-copy-out-table-place t c = let z = start (c .before .pre .1 .0) in omega arith
 
-evaluate-exists-table-place-requires : (t : ℕ) → evaluate-exists-lts.Need-table-place-requires (
-  table-place-reads.Asked,
-  table-place-reads.Learnt,
-  evaluate-where-below t,
-  evaluate-where.Post,
-) (evaluate-exists-at t) evaluate-exists.Post evaluate-exists-Inv-loop evaluate-exists-μ-loop
+evaluate-exists-table-place-requires : (t : ℕ) → evaluate-exists-lts.Need-table-place-requires (evaluate-exists-claims t) (evaluate-exists-at t) evaluate-exists.Post evaluate-exists-Inv-loop evaluate-exists-μ-loop
 evaluate-exists-table-place-requires t c κs = let k = c .before .before .pre .1 in range-bounds (k .0) (exists-ranging (k .0) (k .1)) .high
 
-evaluate-exists-loop-holds : (t : ℕ) → evaluate-exists-lts.Need-loop-holds (
-  table-place-reads.Asked,
-  table-place-reads.Learnt,
-  evaluate-where-below t,
-  evaluate-where.Post,
-) (evaluate-exists-at t) evaluate-exists.Post evaluate-exists-Inv-loop evaluate-exists-μ-loop
+evaluate-exists-loop-holds : (t : ℕ) → evaluate-exists-lts.Need-loop-holds (evaluate-exists-claims t) (evaluate-exists-at t) evaluate-exists.Post evaluate-exists-Inv-loop evaluate-exists-μ-loop
 evaluate-exists-loop-holds t c = passed-none _ _ _ _ _ _ 0 _ refl (c .before .before .before .before .pre .1 .0 .readable .standing .size)
 
-evaluate-exists-mul-v : (t : ℕ) → evaluate-exists-lts.Need-mul-v (
-  table-place-reads.Asked,
-  table-place-reads.Learnt,
-  evaluate-where-below t,
-  evaluate-where.Post,
-) (evaluate-exists-at t) evaluate-exists.Post evaluate-exists-Inv-loop evaluate-exists-μ-loop
+evaluate-exists-mul-v : (t : ℕ) → evaluate-exists-lts.Need-mul-v (evaluate-exists-claims t) (evaluate-exists-at t) evaluate-exists.Post evaluate-exists-Inv-loop evaluate-exists-μ-loop
 evaluate-exists-mul-v t c = let k = c .before .before .before .before .before .before .before .pre .1 in let z = range-bounds (k .0) (exists-ranging (k .0) (k .1)) in omega arith
 
-evaluate-exists-array-write-v : (t : ℕ) → evaluate-exists-lts.Need-array-write-v (
-  table-place-reads.Asked,
-  table-place-reads.Learnt,
-  evaluate-where-below t,
-  evaluate-where.Post,
-) (evaluate-exists-at t) evaluate-exists.Post evaluate-exists-Inv-loop evaluate-exists-μ-loop
+evaluate-exists-array-write-v : (t : ℕ) → evaluate-exists-lts.Need-array-write-v (evaluate-exists-claims t) (evaluate-exists-at t) evaluate-exists.Post evaluate-exists-Inv-loop evaluate-exists-μ-loop
 evaluate-exists-array-write-v t c = let k = c .before .before .before .before .before .before .before .pre .1 in let z = range-bounds (k .0) (exists-ranging (k .0) (k .1)) in omega arith
 
-evaluate-exists-add-evaluate-where : (t : ℕ) → evaluate-exists-lts.Need-add-evaluate-where (
-  table-place-reads.Asked,
-  table-place-reads.Learnt,
-  evaluate-where-below t,
-  evaluate-where.Post,
-) (evaluate-exists-at t) evaluate-exists.Post evaluate-exists-Inv-loop evaluate-exists-μ-loop
+evaluate-exists-add-evaluate-where : (t : ℕ) → evaluate-exists-lts.Need-add-evaluate-where (evaluate-exists-claims t) (evaluate-exists-at t) evaluate-exists.Post evaluate-exists-Inv-loop evaluate-exists-μ-loop
 evaluate-exists-add-evaluate-where t c = let k = c .before .before .before .before .before .before .before .pre .1 in let z = range-bounds (k .0) (exists-ranging (k .0) (k .1)) in omega arith
 
-evaluate-exists-add-evaluate-where-2 : (t : ℕ) → evaluate-exists-lts.Need-add-evaluate-where-2 (
-  table-place-reads.Asked,
-  table-place-reads.Learnt,
-  evaluate-where-below t,
-  evaluate-where.Post,
-) (evaluate-exists-at t) evaluate-exists.Post evaluate-exists-Inv-loop evaluate-exists-μ-loop
+evaluate-exists-add-evaluate-where-2 : (t : ℕ) → evaluate-exists-lts.Need-add-evaluate-where-2 (evaluate-exists-claims t) (evaluate-exists-at t) evaluate-exists.Post evaluate-exists-Inv-loop evaluate-exists-μ-loop
 evaluate-exists-add-evaluate-where-2 t c = let k = c .before .before .before .before .before .before .before .before .pre .1 in let z = range-bounds (k .0) (exists-ranging (k .0) (k .1)) in omega arith
 
-evaluate-exists-evaluate-where-requires : (t : ℕ) → evaluate-exists-lts.Need-evaluate-where-requires (
-  table-place-reads.Asked,
-  table-place-reads.Learnt,
-  evaluate-where-below t,
-  evaluate-where.Post,
-) (evaluate-exists-at t) evaluate-exists.Post evaluate-exists-Inv-loop evaluate-exists-μ-loop
+evaluate-exists-evaluate-where-requires : (t : ℕ) → evaluate-exists-lts.Need-evaluate-where-requires (evaluate-exists-claims t) (evaluate-exists-at t) evaluate-exists.Post evaluate-exists-Inv-loop evaluate-exists-μ-loop
 evaluate-exists-evaluate-where-requires t c κs =
     let k = c .before .before .before .before .before .before .before .before .pre in
     let m = k .0 in
     let z = start (k .1 .0) in
     (omega arith, exists-inner (k .1 .0) (k .1 .1) (c .before .before .before .before .before .table-place .ensures) (c .before .if1 .taken) (c .before .before .before .loop .inv))
 
-evaluate-exists-returns : (t : ℕ) → evaluate-exists-lts.Need-returns (
-  table-place-reads.Asked,
-  table-place-reads.Learnt,
-  evaluate-where-below t,
-  evaluate-where.Post,
-) (evaluate-exists-at t) evaluate-exists.Post evaluate-exists-Inv-loop evaluate-exists-μ-loop
+evaluate-exists-returns : (t : ℕ) → evaluate-exists-lts.Need-returns (evaluate-exists-claims t) (evaluate-exists-at t) evaluate-exists.Post evaluate-exists-Inv-loop evaluate-exists-μ-loop
 evaluate-exists-returns t c = λ h.
     exists-true h (c .before .before .before .before .before .before .before .before .before .before .pre .1 .1) (c .before .before .before .before .before .before .before .table-place .ensures) (c .before .before .before .if1 .taken) (c .before .before .before .before .before .loop .inv) (c .before .evaluate-where .result) (c .before .evaluate-where .ensures) (c .if2 .taken)
 
-evaluate-exists-add-first : (t : ℕ) → evaluate-exists-lts.Need-add-first (
-  table-place-reads.Asked,
-  table-place-reads.Learnt,
-  evaluate-where-below t,
-  evaluate-where.Post,
-) (evaluate-exists-at t) evaluate-exists.Post evaluate-exists-Inv-loop evaluate-exists-μ-loop
+evaluate-exists-add-first : (t : ℕ) → evaluate-exists-lts.Need-add-first (evaluate-exists-claims t) (evaluate-exists-at t) evaluate-exists.Post evaluate-exists-Inv-loop evaluate-exists-μ-loop
 evaluate-exists-add-first t c =
     let k = c .before .before .before .before .before .before .before .before .before .before .before .pre .1 in
     let z = row-room (k .0) (exists-ranging (k .0) (k .1)) (c .before .before .before .before .before .before .before .before .table-place .ensures) (c .before .before .before .before .if1 .taken) (c .before .before .before .before .before .before .loop .inv) in
     omega arith
 
-evaluate-exists-add-r : (t : ℕ) → evaluate-exists-lts.Need-add-r (
-  table-place-reads.Asked,
-  table-place-reads.Learnt,
-  evaluate-where-below t,
-  evaluate-where.Post,
-) (evaluate-exists-at t) evaluate-exists.Post evaluate-exists-Inv-loop evaluate-exists-μ-loop
+evaluate-exists-add-r : (t : ℕ) → evaluate-exists-lts.Need-add-r (evaluate-exists-claims t) (evaluate-exists-at t) evaluate-exists.Post evaluate-exists-Inv-loop evaluate-exists-μ-loop
 evaluate-exists-add-r t c = omega arith
 
-evaluate-exists-loop-less : (t : ℕ) → evaluate-exists-lts.Need-loop-less (
-  table-place-reads.Asked,
-  table-place-reads.Learnt,
-  evaluate-where-below t,
-  evaluate-where.Post,
-) (evaluate-exists-at t) evaluate-exists.Post evaluate-exists-Inv-loop evaluate-exists-μ-loop
+evaluate-exists-loop-less : (t : ℕ) → evaluate-exists-lts.Need-loop-less (evaluate-exists-claims t) (evaluate-exists-at t) evaluate-exists.Post evaluate-exists-Inv-loop evaluate-exists-μ-loop
 evaluate-exists-loop-less t c = omega arith
 
-evaluate-exists-loop-again : (t : ℕ) → evaluate-exists-lts.Need-loop-again (
-  table-place-reads.Asked,
-  table-place-reads.Learnt,
-  evaluate-where-below t,
-  evaluate-where.Post,
-) (evaluate-exists-at t) evaluate-exists.Post evaluate-exists-Inv-loop evaluate-exists-μ-loop
+evaluate-exists-loop-again : (t : ℕ) → evaluate-exists-lts.Need-loop-again (evaluate-exists-claims t) (evaluate-exists-at t) evaluate-exists.Post evaluate-exists-Inv-loop evaluate-exists-μ-loop
 evaluate-exists-loop-again t c =
     passed-more _ _ _ _ _ _ 0 _ refl (c .before .before .before .before .before .before .loop .inv) (c .before .before .before .before .if1 .taken) 0 (λ e. omega arith) (λ h.
     exists-lost h (c .before .before .before .before .before .before .before .before .before .before .before .pre .1 .1) (c .before .before .before .before .before .before .before .before .table-place .ensures) (c .before .before .before .before .if1 .taken) (c .before .before .before .before .before .before .loop .inv) (c .before .before .evaluate-where .result) (c .before .before .evaluate-where .ensures) (c .before .if2 .left)) 0 refl
 
-evaluate-exists-returns-2 : (t : ℕ) → evaluate-exists-lts.Need-returns-2 (
-  table-place-reads.Asked,
-  table-place-reads.Learnt,
-  evaluate-where-below t,
-  evaluate-where.Post,
-) (evaluate-exists-at t) evaluate-exists.Post evaluate-exists-Inv-loop evaluate-exists-μ-loop
+evaluate-exists-returns-2 : (t : ℕ) → evaluate-exists-lts.Need-returns-2 (evaluate-exists-claims t) (evaluate-exists-at t) evaluate-exists.Post evaluate-exists-Inv-loop evaluate-exists-μ-loop
 evaluate-exists-returns-2 t c = λ h. exists-false h (c .before .before .before .before .before .before .before .pre .1 .1) (c .before .before .before .before .table-place .ensures) (c .before .before .loop .inv) (c .if1 .left)
 
 abbrev evaluate-list-Inv-loop : evaluate-list-lts.InvT-loop
@@ -406,978 +287,272 @@ evaluate-list-Inv-loop p g file s w depth empty table first₀ x v₀ value₀ r
 abbrev evaluate-list-μ-loop : evaluate-list-lts.MeasureT-loop
 evaluate-list-μ-loop p g file s w depth empty table first₀ x v₀ value₀ r₀ first v value r = table .rows - r
 
-evaluate-list-mul-table-place : (t : ℕ) → evaluate-list-lts.Need-mul-table-place (
-  table-place-reads.Asked,
-  table-place-reads.Learnt,
-  look-reads.Asked,
-  look-reads.Learnt,
-  evaluate-row-below t,
-  evaluate-row.Post,
-  after-reads.Asked,
-  after-reads.Learnt,
-) (evaluate-list-at t) evaluate-list.Post evaluate-list-Inv-loop evaluate-list-μ-loop
+evaluate-list-mul-table-place : (t : ℕ) → evaluate-list-lts.Need-mul-table-place (evaluate-list-claims t) (evaluate-list-at t) evaluate-list.Post evaluate-list-Inv-loop evaluate-list-μ-loop
 evaluate-list-mul-table-place t c = let z = start (c .before .pre .1 .0) in omega arith
 
-evaluate-list-add-table-place : (t : ℕ) → evaluate-list-lts.Need-add-table-place (
-  table-place-reads.Asked,
-  table-place-reads.Learnt,
-  look-reads.Asked,
-  look-reads.Learnt,
-  evaluate-row-below t,
-  evaluate-row.Post,
-  after-reads.Asked,
-  after-reads.Learnt,
-) (evaluate-list-at t) evaluate-list.Post evaluate-list-Inv-loop evaluate-list-μ-loop
+evaluate-list-add-table-place : (t : ℕ) → evaluate-list-lts.Need-add-table-place (evaluate-list-claims t) (evaluate-list-at t) evaluate-list.Post evaluate-list-Inv-loop evaluate-list-μ-loop
 evaluate-list-add-table-place t c = let z = start (c .before .pre .1 .0) in omega arith
 
-evaluate-list-mul-table-place-2 : (t : ℕ) → evaluate-list-lts.Need-mul-table-place-2 (
-  table-place-reads.Asked,
-  table-place-reads.Learnt,
-  look-reads.Asked,
-  look-reads.Learnt,
-  evaluate-row-below t,
-  evaluate-row.Post,
-  after-reads.Asked,
-  after-reads.Learnt,
-) (evaluate-list-at t) evaluate-list.Post evaluate-list-Inv-loop evaluate-list-μ-loop
+evaluate-list-mul-table-place-2 : (t : ℕ) → evaluate-list-lts.Need-mul-table-place-2 (evaluate-list-claims t) (evaluate-list-at t) evaluate-list.Post evaluate-list-Inv-loop evaluate-list-μ-loop
 evaluate-list-mul-table-place-2 t c = let z = start (c .before .pre .1 .0) in omega arith
 
 evaluate-list-element-copy-out-table-place :
-    (t : ℕ) → evaluate-list-lts.Need-element-copy-out-table-place (
-      table-place-reads.Asked,
-      table-place-reads.Learnt,
-      look-reads.Asked,
-      look-reads.Learnt,
-      evaluate-row-below t,
-      evaluate-row.Post,
-      after-reads.Asked,
-      after-reads.Learnt,
-    ) (evaluate-list-at t) evaluate-list.Post evaluate-list-Inv-loop evaluate-list-μ-loop
+    (t : ℕ) → evaluate-list-lts.Need-element-copy-out-table-place (evaluate-list-claims t) (evaluate-list-at t) evaluate-list.Post evaluate-list-Inv-loop evaluate-list-μ-loop
 evaluate-list-element-copy-out-table-place t c = let z = start (c .before .pre .1 .0) in omega arith
 
-evaluate-list-table-place-requires : (t : ℕ) → evaluate-list-lts.Need-table-place-requires (
-  table-place-reads.Asked,
-  table-place-reads.Learnt,
-  look-reads.Asked,
-  look-reads.Learnt,
-  evaluate-row-below t,
-  evaluate-row.Post,
-  after-reads.Asked,
-  after-reads.Learnt,
-) (evaluate-list-at t) evaluate-list.Post evaluate-list-Inv-loop evaluate-list-μ-loop
+evaluate-list-table-place-requires : (t : ℕ) → evaluate-list-lts.Need-table-place-requires (evaluate-list-claims t) (evaluate-list-at t) evaluate-list.Post evaluate-list-Inv-loop evaluate-list-μ-loop
 evaluate-list-table-place-requires t c κs = let k = c .before .before .pre .1 in range-bounds (k .0) (listed-ranging (k .0) (k .1)) .high
 
-evaluate-list-mul-look : (t : ℕ) → evaluate-list-lts.Need-mul-look (
-  table-place-reads.Asked,
-  table-place-reads.Learnt,
-  look-reads.Asked,
-  look-reads.Learnt,
-  evaluate-row-below t,
-  evaluate-row.Post,
-  after-reads.Asked,
-  after-reads.Learnt,
-) (evaluate-list-at t) evaluate-list.Post evaluate-list-Inv-loop evaluate-list-μ-loop
+evaluate-list-mul-look : (t : ℕ) → evaluate-list-lts.Need-mul-look (evaluate-list-claims t) (evaluate-list-at t) evaluate-list.Post evaluate-list-Inv-loop evaluate-list-μ-loop
 evaluate-list-mul-look t c = let z = start (c .before .before .before .pre .1 .0) in omega arith
 
-evaluate-list-add-look : (t : ℕ) → evaluate-list-lts.Need-add-look (
-  table-place-reads.Asked,
-  table-place-reads.Learnt,
-  look-reads.Asked,
-  look-reads.Learnt,
-  evaluate-row-below t,
-  evaluate-row.Post,
-  after-reads.Asked,
-  after-reads.Learnt,
-) (evaluate-list-at t) evaluate-list.Post evaluate-list-Inv-loop evaluate-list-μ-loop
+evaluate-list-add-look : (t : ℕ) → evaluate-list-lts.Need-add-look (evaluate-list-claims t) (evaluate-list-at t) evaluate-list.Post evaluate-list-Inv-loop evaluate-list-μ-loop
 evaluate-list-add-look t c = let z = start (c .before .before .before .pre .1 .0) in omega arith
 
-evaluate-list-mul-look-2 : (t : ℕ) → evaluate-list-lts.Need-mul-look-2 (
-  table-place-reads.Asked,
-  table-place-reads.Learnt,
-  look-reads.Asked,
-  look-reads.Learnt,
-  evaluate-row-below t,
-  evaluate-row.Post,
-  after-reads.Asked,
-  after-reads.Learnt,
-) (evaluate-list-at t) evaluate-list.Post evaluate-list-Inv-loop evaluate-list-μ-loop
+evaluate-list-mul-look-2 : (t : ℕ) → evaluate-list-lts.Need-mul-look-2 (evaluate-list-claims t) (evaluate-list-at t) evaluate-list.Post evaluate-list-Inv-loop evaluate-list-μ-loop
 evaluate-list-mul-look-2 t c = let z = start (c .before .before .before .pre .1 .0) in omega arith
 
-evaluate-list-element-copy-out-look : (t : ℕ) → evaluate-list-lts.Need-element-copy-out-look (
-  table-place-reads.Asked,
-  table-place-reads.Learnt,
-  look-reads.Asked,
-  look-reads.Learnt,
-  evaluate-row-below t,
-  evaluate-row.Post,
-  after-reads.Asked,
-  after-reads.Learnt,
-) (evaluate-list-at t) evaluate-list.Post evaluate-list-Inv-loop evaluate-list-μ-loop
+evaluate-list-element-copy-out-look : (t : ℕ) → evaluate-list-lts.Need-element-copy-out-look (evaluate-list-claims t) (evaluate-list-at t) evaluate-list.Post evaluate-list-Inv-loop evaluate-list-μ-loop
 evaluate-list-element-copy-out-look t c = let z = start (c .before .before .before .pre .1 .0) in omega arith
 
-evaluate-list-mul-look-3 : (t : ℕ) → evaluate-list-lts.Need-mul-look-3 (
-  table-place-reads.Asked,
-  table-place-reads.Learnt,
-  look-reads.Asked,
-  look-reads.Learnt,
-  evaluate-row-below t,
-  evaluate-row.Post,
-  after-reads.Asked,
-  after-reads.Learnt,
-) (evaluate-list-at t) evaluate-list.Post evaluate-list-Inv-loop evaluate-list-μ-loop
+evaluate-list-mul-look-3 : (t : ℕ) → evaluate-list-lts.Need-mul-look-3 (evaluate-list-claims t) (evaluate-list-at t) evaluate-list.Post evaluate-list-Inv-loop evaluate-list-μ-loop
 evaluate-list-mul-look-3 t c = let z = start (c .before .before .before .before .pre .1 .0) in omega arith
 
-evaluate-list-add-look-2 : (t : ℕ) → evaluate-list-lts.Need-add-look-2 (
-  table-place-reads.Asked,
-  table-place-reads.Learnt,
-  look-reads.Asked,
-  look-reads.Learnt,
-  evaluate-row-below t,
-  evaluate-row.Post,
-  after-reads.Asked,
-  after-reads.Learnt,
-) (evaluate-list-at t) evaluate-list.Post evaluate-list-Inv-loop evaluate-list-μ-loop
+evaluate-list-add-look-2 : (t : ℕ) → evaluate-list-lts.Need-add-look-2 (evaluate-list-claims t) (evaluate-list-at t) evaluate-list.Post evaluate-list-Inv-loop evaluate-list-μ-loop
 evaluate-list-add-look-2 t c = let z = start (c .before .before .before .before .pre .1 .0) in omega arith
 
-evaluate-list-mul-look-4 : (t : ℕ) → evaluate-list-lts.Need-mul-look-4 (
-  table-place-reads.Asked,
-  table-place-reads.Learnt,
-  look-reads.Asked,
-  look-reads.Learnt,
-  evaluate-row-below t,
-  evaluate-row.Post,
-  after-reads.Asked,
-  after-reads.Learnt,
-) (evaluate-list-at t) evaluate-list.Post evaluate-list-Inv-loop evaluate-list-μ-loop
+evaluate-list-mul-look-4 : (t : ℕ) → evaluate-list-lts.Need-mul-look-4 (evaluate-list-claims t) (evaluate-list-at t) evaluate-list.Post evaluate-list-Inv-loop evaluate-list-μ-loop
 evaluate-list-mul-look-4 t c = let z = start (c .before .before .before .before .pre .1 .0) in omega arith
 
-evaluate-list-element-copy-out-look-2 : (t : ℕ) → evaluate-list-lts.Need-element-copy-out-look-2 (
-  table-place-reads.Asked,
-  table-place-reads.Learnt,
-  look-reads.Asked,
-  look-reads.Learnt,
-  evaluate-row-below t,
-  evaluate-row.Post,
-  after-reads.Asked,
-  after-reads.Learnt,
-) (evaluate-list-at t) evaluate-list.Post evaluate-list-Inv-loop evaluate-list-μ-loop
+evaluate-list-element-copy-out-look-2 : (t : ℕ) → evaluate-list-lts.Need-element-copy-out-look-2 (evaluate-list-claims t) (evaluate-list-at t) evaluate-list.Post evaluate-list-Inv-loop evaluate-list-μ-loop
 evaluate-list-element-copy-out-look-2 t c = let z = start (c .before .before .before .before .pre .1 .0) in omega arith
 
-evaluate-list-look-requires : (t : ℕ) → evaluate-list-lts.Need-look-requires (
-  table-place-reads.Asked,
-  table-place-reads.Learnt,
-  look-reads.Asked,
-  look-reads.Learnt,
-  evaluate-row-below t,
-  evaluate-row.Post,
-  after-reads.Asked,
-  after-reads.Learnt,
-) (evaluate-list-at t) evaluate-list.Post evaluate-list-Inv-loop evaluate-list-μ-loop
+evaluate-list-look-requires : (t : ℕ) → evaluate-list-lts.Need-look-requires (evaluate-list-claims t) (evaluate-list-at t) evaluate-list.Post evaluate-list-Inv-loop evaluate-list-μ-loop
 evaluate-list-look-requires t c κs = outer-ready (c .before .before .before .before .before .pre .1 .0) (c .before .before .before .before .before .pre .1 .1)
 
-evaluate-list-loop-holds : (t : ℕ) → evaluate-list-lts.Need-loop-holds (
-  table-place-reads.Asked,
-  table-place-reads.Learnt,
-  look-reads.Asked,
-  look-reads.Learnt,
-  evaluate-row-below t,
-  evaluate-row.Post,
-  after-reads.Asked,
-  after-reads.Learnt,
-) (evaluate-list-at t) evaluate-list.Post evaluate-list-Inv-loop evaluate-list-μ-loop
+evaluate-list-loop-holds : (t : ℕ) → evaluate-list-lts.Need-loop-holds (evaluate-list-claims t) (evaluate-list-at t) evaluate-list.Post evaluate-list-Inv-loop evaluate-list-μ-loop
 evaluate-list-loop-holds t c = passed-none _ _ _ _ _ _ _ _ (none-is (c .before .before .before .before .before .before .before .pre .1 .1)) (c .before .before .before .before .before .before .before .pre .1 .0 .readable .standing .size)
 
-evaluate-list-mul-v : (t : ℕ) → evaluate-list-lts.Need-mul-v (
-  table-place-reads.Asked,
-  table-place-reads.Learnt,
-  look-reads.Asked,
-  look-reads.Learnt,
-  evaluate-row-below t,
-  evaluate-row.Post,
-  after-reads.Asked,
-  after-reads.Learnt,
-) (evaluate-list-at t) evaluate-list.Post evaluate-list-Inv-loop evaluate-list-μ-loop
+evaluate-list-mul-v : (t : ℕ) → evaluate-list-lts.Need-mul-v (evaluate-list-claims t) (evaluate-list-at t) evaluate-list.Post evaluate-list-Inv-loop evaluate-list-μ-loop
 evaluate-list-mul-v t c = let k = c .before .before .before .before .before .before .before .before .before .before .pre .1 in let z = range-bounds (k .0) (listed-ranging (k .0) (k .1)) in omega arith
 
-evaluate-list-array-write-v : (t : ℕ) → evaluate-list-lts.Need-array-write-v (
-  table-place-reads.Asked,
-  table-place-reads.Learnt,
-  look-reads.Asked,
-  look-reads.Learnt,
-  evaluate-row-below t,
-  evaluate-row.Post,
-  after-reads.Asked,
-  after-reads.Learnt,
-) (evaluate-list-at t) evaluate-list.Post evaluate-list-Inv-loop evaluate-list-μ-loop
+evaluate-list-array-write-v : (t : ℕ) → evaluate-list-lts.Need-array-write-v (evaluate-list-claims t) (evaluate-list-at t) evaluate-list.Post evaluate-list-Inv-loop evaluate-list-μ-loop
 evaluate-list-array-write-v t c = let k = c .before .before .before .before .before .before .before .before .before .before .pre .1 in let z = range-bounds (k .0) (listed-ranging (k .0) (k .1)) in omega arith
 
-evaluate-list-add-evaluate-row : (t : ℕ) → evaluate-list-lts.Need-add-evaluate-row (
-  table-place-reads.Asked,
-  table-place-reads.Learnt,
-  look-reads.Asked,
-  look-reads.Learnt,
-  evaluate-row-below t,
-  evaluate-row.Post,
-  after-reads.Asked,
-  after-reads.Learnt,
-) (evaluate-list-at t) evaluate-list.Post evaluate-list-Inv-loop evaluate-list-μ-loop
+evaluate-list-add-evaluate-row : (t : ℕ) → evaluate-list-lts.Need-add-evaluate-row (evaluate-list-claims t) (evaluate-list-at t) evaluate-list.Post evaluate-list-Inv-loop evaluate-list-μ-loop
 evaluate-list-add-evaluate-row t c = let k = c .before .before .before .before .before .before .before .before .before .before .before .pre .1 in let z = range-bounds (k .0) (listed-ranging (k .0) (k .1)) in omega arith
 
-evaluate-list-evaluate-row-requires : (t : ℕ) → evaluate-list-lts.Need-evaluate-row-requires (
-  table-place-reads.Asked,
-  table-place-reads.Learnt,
-  look-reads.Asked,
-  look-reads.Learnt,
-  evaluate-row-below t,
-  evaluate-row.Post,
-  after-reads.Asked,
-  after-reads.Learnt,
-) (evaluate-list-at t) evaluate-list.Post evaluate-list-Inv-loop evaluate-list-μ-loop
+evaluate-list-evaluate-row-requires : (t : ℕ) → evaluate-list-lts.Need-evaluate-row-requires (evaluate-list-claims t) (evaluate-list-at t) evaluate-list.Post evaluate-list-Inv-loop evaluate-list-μ-loop
 evaluate-list-evaluate-row-requires t c κs =
     let k = c .before .before .before .before .before .before .before .before .before .before .before .pre in
     let m = k .0 in
     let z = start (k .1 .0) in
     (omega arith, row-ready (k .1 .0) (k .1 .1) (c .before .before .before .before .before .before .before .before .table-place .ensures) (c .before .if1 .taken) (c .before .before .before .loop .inv) (c .before .before .before .before .before .look .result))
 
-evaluate-list-sub-if2 : (t : ℕ) → evaluate-list-lts.Need-sub-if2 (
-  table-place-reads.Asked,
-  table-place-reads.Learnt,
-  look-reads.Asked,
-  look-reads.Learnt,
-  evaluate-row-below t,
-  evaluate-row.Post,
-  after-reads.Asked,
-  after-reads.Learnt,
-) (evaluate-list-at t) evaluate-list.Post evaluate-list-Inv-loop evaluate-list-μ-loop
+evaluate-list-sub-if2 : (t : ℕ) → evaluate-list-lts.Need-sub-if2 (evaluate-list-claims t) (evaluate-list-at t) evaluate-list.Post evaluate-list-Inv-loop evaluate-list-μ-loop
 evaluate-list-sub-if2 t c = let z = none-high (c .before .before .before .before .before .before .before .before .before .before .before .before .pre .1 .1) in omega arith
 
-evaluate-list-returns : (t : ℕ) → evaluate-list-lts.Need-returns (
-  table-place-reads.Asked,
-  table-place-reads.Learnt,
-  look-reads.Asked,
-  look-reads.Learnt,
-  evaluate-row-below t,
-  evaluate-row.Post,
-  after-reads.Asked,
-  after-reads.Learnt,
-) (evaluate-list-at t) evaluate-list.Post evaluate-list-Inv-loop evaluate-list-μ-loop
+evaluate-list-returns : (t : ℕ) → evaluate-list-lts.Need-returns (evaluate-list-claims t) (evaluate-list-at t) evaluate-list.Post evaluate-list-Inv-loop evaluate-list-μ-loop
 evaluate-list-returns t c = λ h.
     listed-decides h (c .before .before .before .before .before .before .before .before .before .before .before .before .before .pre .1 .1) (c .before .before .before .before .before .before .before .before .before .before .table-place .ensures) (c .before .before .before .if1 .taken) (c .before .before .before .before .before .loop .inv) (c .before .before .before .before .before .before .before .look .result) (c .before .before .before .before .before .before .before .look .ensures) (c .before .evaluate-row .result) (c .before .evaluate-row .ensures)
     (c .if2 .taken)
 
-evaluate-list-after-requires : (t : ℕ) → evaluate-list-lts.Need-after-requires (
-  table-place-reads.Asked,
-  table-place-reads.Learnt,
-  look-reads.Asked,
-  look-reads.Learnt,
-  evaluate-row-below t,
-  evaluate-row.Post,
-  after-reads.Asked,
-  after-reads.Learnt,
-) (evaluate-list-at t) evaluate-list.Post evaluate-list-Inv-loop evaluate-list-μ-loop
+evaluate-list-after-requires : (t : ℕ) → evaluate-list-lts.Need-after-requires (evaluate-list-claims t) (evaluate-list-at t) evaluate-list.Post evaluate-list-Inv-loop evaluate-list-μ-loop
 evaluate-list-after-requires t c κs = search needs
 
-evaluate-list-add-first : (t : ℕ) → evaluate-list-lts.Need-add-first (
-  table-place-reads.Asked,
-  table-place-reads.Learnt,
-  look-reads.Asked,
-  look-reads.Learnt,
-  evaluate-row-below t,
-  evaluate-row.Post,
-  after-reads.Asked,
-  after-reads.Learnt,
-) (evaluate-list-at t) evaluate-list.Post evaluate-list-Inv-loop evaluate-list-μ-loop
+evaluate-list-add-first : (t : ℕ) → evaluate-list-lts.Need-add-first (evaluate-list-claims t) (evaluate-list-at t) evaluate-list.Post evaluate-list-Inv-loop evaluate-list-μ-loop
 evaluate-list-add-first t c =
     let k = c .before .before .before .before .before .before .before .before .before .before .before .before .before .before .before .pre .1 in
     let z = row-room (k .0) (listed-ranging (k .0) (k .1)) (c .before .before .before .before .before .before .before .before .before .before .before .before .table-place .ensures) (c .before .before .before .before .before .if1 .taken) (c .before .before .before .before .before .before .before .loop .inv) in
     omega arith
 
-evaluate-list-add-r : (t : ℕ) → evaluate-list-lts.Need-add-r (
-  table-place-reads.Asked,
-  table-place-reads.Learnt,
-  look-reads.Asked,
-  look-reads.Learnt,
-  evaluate-row-below t,
-  evaluate-row.Post,
-  after-reads.Asked,
-  after-reads.Learnt,
-) (evaluate-list-at t) evaluate-list.Post evaluate-list-Inv-loop evaluate-list-μ-loop
+evaluate-list-add-r : (t : ℕ) → evaluate-list-lts.Need-add-r (evaluate-list-claims t) (evaluate-list-at t) evaluate-list.Post evaluate-list-Inv-loop evaluate-list-μ-loop
 evaluate-list-add-r t c = omega arith
 
-evaluate-list-loop-less : (t : ℕ) → evaluate-list-lts.Need-loop-less (
-  table-place-reads.Asked,
-  table-place-reads.Learnt,
-  look-reads.Asked,
-  look-reads.Learnt,
-  evaluate-row-below t,
-  evaluate-row.Post,
-  after-reads.Asked,
-  after-reads.Learnt,
-) (evaluate-list-at t) evaluate-list.Post evaluate-list-Inv-loop evaluate-list-μ-loop
+evaluate-list-loop-less : (t : ℕ) → evaluate-list-lts.Need-loop-less (evaluate-list-claims t) (evaluate-list-at t) evaluate-list.Post evaluate-list-Inv-loop evaluate-list-μ-loop
 evaluate-list-loop-less t c = omega arith
 
-evaluate-list-loop-again : (t : ℕ) → evaluate-list-lts.Need-loop-again (
-  table-place-reads.Asked,
-  table-place-reads.Learnt,
-  look-reads.Asked,
-  look-reads.Learnt,
-  evaluate-row-below t,
-  evaluate-row.Post,
-  after-reads.Asked,
-  after-reads.Learnt,
-) (evaluate-list-at t) evaluate-list.Post evaluate-list-Inv-loop evaluate-list-μ-loop
+evaluate-list-loop-again : (t : ℕ) → evaluate-list-lts.Need-loop-again (evaluate-list-claims t) (evaluate-list-at t) evaluate-list.Post evaluate-list-Inv-loop evaluate-list-μ-loop
 evaluate-list-loop-again t c =
     passed-more _ _ _ _ _ _ _ _ (none-is (c .before .before .before .before .before .before .before .before .before .before .before .before .before .before .before .pre .1 .1)) (c .before .before .before .before .before .before .before .loop .inv) (c .before .before .before .before .before .if1 .taken) (c .before .before .before .evaluate-row .result) (c .before .before .if2 .left) (λ h.
     row-valued h (c .before .before .before .before .before .before .before .before .before .before .before .before .before .before .before .pre .1 .1) (c .before .before .before .before .before .before .before .before .before .before .before .before .table-place .ensures) (c .before .before .before .before .before .if1 .taken) (c .before .before .before .before .before .before .before .loop .inv) (c .before .before .before .before .before .before .before .before .before .look .result) (c .before .before .before .before .before .before .before .before .before .look .ensures) (c .before .before .before .evaluate-row .result) (c .before .before .before .evaluate-row .ensures))
     _ (c .before .after .ensures)
 
-evaluate-list-returns-2 : (t : ℕ) → evaluate-list-lts.Need-returns-2 (
-  table-place-reads.Asked,
-  table-place-reads.Learnt,
-  look-reads.Asked,
-  look-reads.Learnt,
-  evaluate-row-below t,
-  evaluate-row.Post,
-  after-reads.Asked,
-  after-reads.Learnt,
-) (evaluate-list-at t) evaluate-list.Post evaluate-list-Inv-loop evaluate-list-μ-loop
+evaluate-list-returns-2 : (t : ℕ) → evaluate-list-lts.Need-returns-2 (evaluate-list-claims t) (evaluate-list-at t) evaluate-list.Post evaluate-list-Inv-loop evaluate-list-μ-loop
 evaluate-list-returns-2 t c = λ h. listed-ends h (c .before .before .before .before .before .before .before .before .before .before .pre .1 .1) (c .before .before .before .before .before .before .before .table-place .ensures) (c .before .before .loop .inv) (c .if1 .left)
 
-evaluate-or-add-evaluate-part : (t : ℕ) → evaluate-or-lts.Need-add-evaluate-part (
-  evaluate-part-below t,
-  evaluate-part.Post,
-  greater-reads.Asked,
-  greater-reads.Learnt,
-) (evaluate-or-at t) evaluate-or.Post
+evaluate-or-add-evaluate-part : (t : ℕ) → evaluate-or-lts.Need-add-evaluate-part (evaluate-or-claims t) (evaluate-or-at t) evaluate-or.Post
 evaluate-or-add-evaluate-part t c = let z = start (c .before .pre .1 .0) in omega arith
 
-evaluate-or-evaluate-part-requires : (t : ℕ) → evaluate-or-lts.Need-evaluate-part-requires (
-  evaluate-part-below t,
-  evaluate-part.Post,
-  greater-reads.Asked,
-  greater-reads.Learnt,
-) (evaluate-or-at t) evaluate-or.Post
+evaluate-or-evaluate-part-requires : (t : ℕ) → evaluate-or-lts.Need-evaluate-part-requires (evaluate-or-claims t) (evaluate-or-at t) evaluate-or.Post
 evaluate-or-evaluate-part-requires t c κs =
     let m = c .before .pre .0 in
     let z = start (c .before .pre .1 .0) in
     (omega arith, left-inner (c .before .pre .1 .0) Or (c .before .pre .1 .1))
 
-evaluate-or-returns : (t : ℕ) → evaluate-or-lts.Need-returns (
-  evaluate-part-below t,
-  evaluate-part.Post,
-  greater-reads.Asked,
-  greater-reads.Learnt,
-) (evaluate-or-at t) evaluate-or.Post
+evaluate-or-returns : (t : ℕ) → evaluate-or-lts.Need-returns (evaluate-or-claims t) (evaluate-or-at t) evaluate-or.Post
 evaluate-or-returns t c = λ h. join-stops h Or (c .before .before .before .pre .1 .1) (c .before .evaluate-part .result) (c .before .evaluate-part .ensures) (c .if1 .taken)
 
-evaluate-or-add-next : (t : ℕ) → evaluate-or-lts.Need-add-next (
-  evaluate-part-below t,
-  evaluate-part.Post,
-  greater-reads.Asked,
-  greater-reads.Learnt,
-) (evaluate-or-at t) evaluate-or.Post
+evaluate-or-add-next : (t : ℕ) → evaluate-or-lts.Need-add-next (evaluate-or-claims t) (evaluate-or-at t) evaluate-or.Post
 evaluate-or-add-next t c = let z = next-bounds (c .before .before .before .pre .1 .0) Or (c .before .before .before .pre .1 .1) in omega arith
 
-evaluate-or-mul-next : (t : ℕ) → evaluate-or-lts.Need-mul-next (
-  evaluate-part-below t,
-  evaluate-part.Post,
-  greater-reads.Asked,
-  greater-reads.Learnt,
-) (evaluate-or-at t) evaluate-or.Post
+evaluate-or-mul-next : (t : ℕ) → evaluate-or-lts.Need-mul-next (evaluate-or-claims t) (evaluate-or-at t) evaluate-or.Post
 evaluate-or-mul-next t c = let z = next-bounds (c .before .before .before .pre .1 .0) Or (c .before .before .before .pre .1 .1) in omega arith
 
-evaluate-or-add-next-2 : (t : ℕ) → evaluate-or-lts.Need-add-next-2 (
-  evaluate-part-below t,
-  evaluate-part.Post,
-  greater-reads.Asked,
-  greater-reads.Learnt,
-) (evaluate-or-at t) evaluate-or.Post
+evaluate-or-add-next-2 : (t : ℕ) → evaluate-or-lts.Need-add-next-2 (evaluate-or-claims t) (evaluate-or-at t) evaluate-or.Post
 evaluate-or-add-next-2 t c = let z = next-bounds (c .before .before .before .pre .1 .0) Or (c .before .before .before .pre .1 .1) in omega arith
 
-evaluate-or-mul-next-2 : (t : ℕ) → evaluate-or-lts.Need-mul-next-2 (
-  evaluate-part-below t,
-  evaluate-part.Post,
-  greater-reads.Asked,
-  greater-reads.Learnt,
-) (evaluate-or-at t) evaluate-or.Post
+evaluate-or-mul-next-2 : (t : ℕ) → evaluate-or-lts.Need-mul-next-2 (evaluate-or-claims t) (evaluate-or-at t) evaluate-or.Post
 evaluate-or-mul-next-2 t c = let z = next-bounds (c .before .before .before .pre .1 .0) Or (c .before .before .before .pre .1 .1) in omega arith
 
-evaluate-or-element-copy-out-next : (t : ℕ) → evaluate-or-lts.Need-element-copy-out-next (
-  evaluate-part-below t,
-  evaluate-part.Post,
-  greater-reads.Asked,
-  greater-reads.Learnt,
-) (evaluate-or-at t) evaluate-or.Post
+evaluate-or-element-copy-out-next : (t : ℕ) → evaluate-or-lts.Need-element-copy-out-next (evaluate-or-claims t) (evaluate-or-at t) evaluate-or.Post
 evaluate-or-element-copy-out-next t c = let z = next-bounds (c .before .before .before .pre .1 .0) Or (c .before .before .before .pre .1 .1) in omega arith
 
-evaluate-or-evaluate-part-requires-2 : (t : ℕ) → evaluate-or-lts.Need-evaluate-part-requires-2 (
-  evaluate-part-below t,
-  evaluate-part.Post,
-  greater-reads.Asked,
-  greater-reads.Learnt,
-) (evaluate-or-at t) evaluate-or.Post
+evaluate-or-evaluate-part-requires-2 : (t : ℕ) → evaluate-or-lts.Need-evaluate-part-requires-2 (evaluate-or-claims t) (evaluate-or-at t) evaluate-or.Post
 evaluate-or-evaluate-part-requires-2 t c κs =
     let m = c .before .before .before .before .pre .0 in
     let z = next-bounds (c .before .before .before .before .pre .1 .0) Or (c .before .before .before .before .pre .1 .1) in
     (omega arith, right-inner (c .before .before .before .before .pre .1 .0) Or (c .before .before .before .before .pre .1 .1))
 
-evaluate-or-greater-requires : (t : ℕ) → evaluate-or-lts.Need-greater-requires (
-  evaluate-part-below t,
-  evaluate-part.Post,
-  greater-reads.Asked,
-  greater-reads.Learnt,
-) (evaluate-or-at t) evaluate-or.Post
+evaluate-or-greater-requires : (t : ℕ) → evaluate-or-lts.Need-greater-requires (evaluate-or-claims t) (evaluate-or-at t) evaluate-or.Post
 evaluate-or-greater-requires t c κs = search needs
 
-evaluate-or-returns-2 : (t : ℕ) → evaluate-or-lts.Need-returns-2 (
-  evaluate-part-below t,
-  evaluate-part.Post,
-  greater-reads.Asked,
-  greater-reads.Learnt,
-) (evaluate-or-at t) evaluate-or.Post
+evaluate-or-returns-2 : (t : ℕ) → evaluate-or-lts.Need-returns-2 (evaluate-or-claims t) (evaluate-or-at t) evaluate-or.Post
 evaluate-or-returns-2 t c = λ h.
     join-evaluated h Or (c .before .before .before .before .before .before .pre .1 .1) (c .before .before .before .before .evaluate-part .result) (c .before .before .before .before .evaluate-part .ensures) (c .before .evaluate-part2 .result) (c .before .evaluate-part2 .ensures) _ (c .greater .ensures)
 
-evaluate-part-mul-kind : (t : ℕ) → evaluate-part-lts.Need-mul-kind (
-  evaluate-and-below t,
-  evaluate-and.Post,
-  evaluate-or-below t,
-  evaluate-or.Post,
-  evaluate-part-below t,
-  evaluate-part.Post,
-  evaluate-exists-below t,
-  evaluate-exists.Post,
-  evaluate-list-below t,
-  evaluate-list.Post,
-  evaluate-test-reads.Asked,
-  evaluate-test-reads.Learnt,
-) (evaluate-part-at t) evaluate-part.Post
+evaluate-part-mul-kind : (t : ℕ) → evaluate-part-lts.Need-mul-kind (evaluate-part-claims t) (evaluate-part-at t) evaluate-part.Post
 evaluate-part-mul-kind t c = let z = start (c .before .pre .1) in omega arith
 
-evaluate-part-mul-kind-2 : (t : ℕ) → evaluate-part-lts.Need-mul-kind-2 (
-  evaluate-and-below t,
-  evaluate-and.Post,
-  evaluate-or-below t,
-  evaluate-or.Post,
-  evaluate-part-below t,
-  evaluate-part.Post,
-  evaluate-exists-below t,
-  evaluate-exists.Post,
-  evaluate-list-below t,
-  evaluate-list.Post,
-  evaluate-test-reads.Asked,
-  evaluate-test-reads.Learnt,
-) (evaluate-part-at t) evaluate-part.Post
+evaluate-part-mul-kind-2 : (t : ℕ) → evaluate-part-lts.Need-mul-kind-2 (evaluate-part-claims t) (evaluate-part-at t) evaluate-part.Post
 evaluate-part-mul-kind-2 t c = let z = start (c .before .pre .1) in omega arith
 
-evaluate-part-element-copy-out-kind : (t : ℕ) → evaluate-part-lts.Need-element-copy-out-kind (
-  evaluate-and-below t,
-  evaluate-and.Post,
-  evaluate-or-below t,
-  evaluate-or.Post,
-  evaluate-part-below t,
-  evaluate-part.Post,
-  evaluate-exists-below t,
-  evaluate-exists.Post,
-  evaluate-list-below t,
-  evaluate-list.Post,
-  evaluate-test-reads.Asked,
-  evaluate-test-reads.Learnt,
-) (evaluate-part-at t) evaluate-part.Post
+evaluate-part-element-copy-out-kind : (t : ℕ) → evaluate-part-lts.Need-element-copy-out-kind (evaluate-part-claims t) (evaluate-part-at t) evaluate-part.Post
 evaluate-part-element-copy-out-kind t c = let z = start (c .before .pre .1) in omega arith
 
-evaluate-part-evaluate-and-requires : (t : ℕ) → evaluate-part-lts.Need-evaluate-and-requires (
-  evaluate-and-below t,
-  evaluate-and.Post,
-  evaluate-or-below t,
-  evaluate-or.Post,
-  evaluate-part-below t,
-  evaluate-part.Post,
-  evaluate-exists-below t,
-  evaluate-exists.Post,
-  evaluate-list-below t,
-  evaluate-list.Post,
-  evaluate-test-reads.Asked,
-  evaluate-test-reads.Learnt,
-) (evaluate-part-at t) evaluate-part.Post
+evaluate-part-evaluate-and-requires : (t : ℕ) → evaluate-part-lts.Need-evaluate-and-requires (evaluate-part-claims t) (evaluate-part-at t) evaluate-part.Post
 evaluate-part-evaluate-and-requires t c κs = let m = c .before .before .before .pre .0 in (omega arith, (c .before .before .before .pre .1, c .match .keys1))
 
-evaluate-part-evaluate-or-requires : (t : ℕ) → evaluate-part-lts.Need-evaluate-or-requires (
-  evaluate-and-below t,
-  evaluate-and.Post,
-  evaluate-or-below t,
-  evaluate-or.Post,
-  evaluate-part-below t,
-  evaluate-part.Post,
-  evaluate-exists-below t,
-  evaluate-exists.Post,
-  evaluate-list-below t,
-  evaluate-list.Post,
-  evaluate-test-reads.Asked,
-  evaluate-test-reads.Learnt,
-) (evaluate-part-at t) evaluate-part.Post
+evaluate-part-evaluate-or-requires : (t : ℕ) → evaluate-part-lts.Need-evaluate-or-requires (evaluate-part-claims t) (evaluate-part-at t) evaluate-part.Post
 evaluate-part-evaluate-or-requires t c κs = let m = c .before .before .before .pre .0 in (omega arith, (c .before .before .before .pre .1, c .match .keys2))
 
-evaluate-part-add-evaluate-part : (t : ℕ) → evaluate-part-lts.Need-add-evaluate-part (
-  evaluate-and-below t,
-  evaluate-and.Post,
-  evaluate-or-below t,
-  evaluate-or.Post,
-  evaluate-part-below t,
-  evaluate-part.Post,
-  evaluate-exists-below t,
-  evaluate-exists.Post,
-  evaluate-list-below t,
-  evaluate-list.Post,
-  evaluate-test-reads.Asked,
-  evaluate-test-reads.Learnt,
-) (evaluate-part-at t) evaluate-part.Post
+evaluate-part-add-evaluate-part : (t : ℕ) → evaluate-part-lts.Need-add-evaluate-part (evaluate-part-claims t) (evaluate-part-at t) evaluate-part.Post
 evaluate-part-add-evaluate-part t c = let z = start (c .before .before .before .pre .1) in omega arith
 
-evaluate-part-evaluate-part-requires : (t : ℕ) → evaluate-part-lts.Need-evaluate-part-requires (
-  evaluate-and-below t,
-  evaluate-and.Post,
-  evaluate-or-below t,
-  evaluate-or.Post,
-  evaluate-part-below t,
-  evaluate-part.Post,
-  evaluate-exists-below t,
-  evaluate-exists.Post,
-  evaluate-list-below t,
-  evaluate-list.Post,
-  evaluate-test-reads.Asked,
-  evaluate-test-reads.Learnt,
-) (evaluate-part-at t) evaluate-part.Post
+evaluate-part-evaluate-part-requires : (t : ℕ) → evaluate-part-lts.Need-evaluate-part-requires (evaluate-part-claims t) (evaluate-part-at t) evaluate-part.Post
 evaluate-part-evaluate-part-requires t c κs = let m = c .before .before .before .pre .0 in let z = start (c .before .before .before .pre .1) in (omega arith, not-inner (c .before .before .before .pre .1) (c .match .keys3))
 
-evaluate-part-sub-result : (t : ℕ) → evaluate-part-lts.Need-sub-result (
-  evaluate-and-below t,
-  evaluate-and.Post,
-  evaluate-or-below t,
-  evaluate-or.Post,
-  evaluate-part-below t,
-  evaluate-part.Post,
-  evaluate-exists-below t,
-  evaluate-exists.Post,
-  evaluate-list-below t,
-  evaluate-list.Post,
-  evaluate-test-reads.Asked,
-  evaluate-test-reads.Learnt,
-) (evaluate-part-at t) evaluate-part.Post
+evaluate-part-sub-result : (t : ℕ) → evaluate-part-lts.Need-sub-result (evaluate-part-claims t) (evaluate-part-at t) evaluate-part.Post
 evaluate-part-sub-result t c = let z = not-room (c .before .before .before .before .pre .1) (c .before .match .keys3) (c .evaluate-part .result) (c .evaluate-part .ensures) in omega arith
 
-evaluate-part-evaluate-exists-requires : (t : ℕ) → evaluate-part-lts.Need-evaluate-exists-requires (
-  evaluate-and-below t,
-  evaluate-and.Post,
-  evaluate-or-below t,
-  evaluate-or.Post,
-  evaluate-part-below t,
-  evaluate-part.Post,
-  evaluate-exists-below t,
-  evaluate-exists.Post,
-  evaluate-list-below t,
-  evaluate-list.Post,
-  evaluate-test-reads.Asked,
-  evaluate-test-reads.Learnt,
-) (evaluate-part-at t) evaluate-part.Post
+evaluate-part-evaluate-exists-requires : (t : ℕ) → evaluate-part-lts.Need-evaluate-exists-requires (evaluate-part-claims t) (evaluate-part-at t) evaluate-part.Post
 evaluate-part-evaluate-exists-requires t c κs = let m = c .before .before .before .pre .0 in (omega arith, (c .before .before .before .pre .1, c .match .keys4))
 
-evaluate-part-evaluate-list-requires : (t : ℕ) → evaluate-part-lts.Need-evaluate-list-requires (
-  evaluate-and-below t,
-  evaluate-and.Post,
-  evaluate-or-below t,
-  evaluate-or.Post,
-  evaluate-part-below t,
-  evaluate-part.Post,
-  evaluate-exists-below t,
-  evaluate-exists.Post,
-  evaluate-list-below t,
-  evaluate-list.Post,
-  evaluate-test-reads.Asked,
-  evaluate-test-reads.Learnt,
-) (evaluate-part-at t) evaluate-part.Post
+evaluate-part-evaluate-list-requires : (t : ℕ) → evaluate-part-lts.Need-evaluate-list-requires (evaluate-part-claims t) (evaluate-part-at t) evaluate-part.Post
 evaluate-part-evaluate-list-requires t c κs = let m = c .before .before .before .pre .0 in (omega arith, (c .before .before .before .pre .1, record { quantifier = Some; kind-is = c .match .keys5; empty-is = refl }))
 
-evaluate-part-evaluate-list-requires-2 : (t : ℕ) → evaluate-part-lts.Need-evaluate-list-requires-2 (
-  evaluate-and-below t,
-  evaluate-and.Post,
-  evaluate-or-below t,
-  evaluate-or.Post,
-  evaluate-part-below t,
-  evaluate-part.Post,
-  evaluate-exists-below t,
-  evaluate-exists.Post,
-  evaluate-list-below t,
-  evaluate-list.Post,
-  evaluate-test-reads.Asked,
-  evaluate-test-reads.Learnt,
-) (evaluate-part-at t) evaluate-part.Post
+evaluate-part-evaluate-list-requires-2 : (t : ℕ) → evaluate-part-lts.Need-evaluate-list-requires-2 (evaluate-part-claims t) (evaluate-part-at t) evaluate-part.Post
 evaluate-part-evaluate-list-requires-2 t c κs = let m = c .before .before .before .pre .0 in (omega arith, (c .before .before .before .pre .1, record { quantifier = All; kind-is = c .match .keys6; empty-is = refl }))
 
-evaluate-part-evaluate-test-requires : (t : ℕ) → evaluate-part-lts.Need-evaluate-test-requires (
-  evaluate-and-below t,
-  evaluate-and.Post,
-  evaluate-or-below t,
-  evaluate-or.Post,
-  evaluate-part-below t,
-  evaluate-part.Post,
-  evaluate-exists-below t,
-  evaluate-exists.Post,
-  evaluate-list-below t,
-  evaluate-list.Post,
-  evaluate-test-reads.Asked,
-  evaluate-test-reads.Learnt,
-) (evaluate-part-at t) evaluate-part.Post
+evaluate-part-evaluate-test-requires : (t : ℕ) → evaluate-part-lts.Need-evaluate-test-requires (evaluate-part-claims t) (evaluate-part-at t) evaluate-part.Post
 evaluate-part-evaluate-test-requires t c κs =
     let (low, high) = test-kinds (c .before .before .before .pre .1) (c .match .rest) in
     test-ready (c .before .before .before .pre .1) low high
 
-evaluate-part-returns : (t : ℕ) → evaluate-part-lts.Need-returns (
-  evaluate-and-below t,
-  evaluate-and.Post,
-  evaluate-or-below t,
-  evaluate-or.Post,
-  evaluate-part-below t,
-  evaluate-part.Post,
-  evaluate-exists-below t,
-  evaluate-exists.Post,
-  evaluate-list-below t,
-  evaluate-list.Post,
-  evaluate-test-reads.Asked,
-  evaluate-test-reads.Learnt,
-) (evaluate-part-at t) evaluate-part.Post
+evaluate-part-returns : (t : ℕ) → evaluate-part-lts.Need-returns (evaluate-part-claims t) (evaluate-part-at t) evaluate-part.Post
 evaluate-part-returns t c = c .evaluate-and .ensures
 
-evaluate-part-returns-2 : (t : ℕ) → evaluate-part-lts.Need-returns-2 (
-  evaluate-and-below t,
-  evaluate-and.Post,
-  evaluate-or-below t,
-  evaluate-or.Post,
-  evaluate-part-below t,
-  evaluate-part.Post,
-  evaluate-exists-below t,
-  evaluate-exists.Post,
-  evaluate-list-below t,
-  evaluate-list.Post,
-  evaluate-test-reads.Asked,
-  evaluate-test-reads.Learnt,
-) (evaluate-part-at t) evaluate-part.Post
+evaluate-part-returns-2 : (t : ℕ) → evaluate-part-lts.Need-returns-2 (evaluate-part-claims t) (evaluate-part-at t) evaluate-part.Post
 evaluate-part-returns-2 t c = c .evaluate-or .ensures
 
-evaluate-part-returns-3 : (t : ℕ) → evaluate-part-lts.Need-returns-3 (
-  evaluate-and-below t,
-  evaluate-and.Post,
-  evaluate-or-below t,
-  evaluate-or.Post,
-  evaluate-part-below t,
-  evaluate-part.Post,
-  evaluate-exists-below t,
-  evaluate-exists.Post,
-  evaluate-list-below t,
-  evaluate-list.Post,
-  evaluate-test-reads.Asked,
-  evaluate-test-reads.Learnt,
-) (evaluate-part-at t) evaluate-part.Post
+evaluate-part-returns-3 : (t : ℕ) → evaluate-part-lts.Need-returns-3 (evaluate-part-claims t) (evaluate-part-at t) evaluate-part.Post
 evaluate-part-returns-3 t c = λ h. not-evaluated h (c .before .match .keys3) (c .evaluate-part .result) (c .evaluate-part .ensures)
 
-evaluate-part-returns-4 : (t : ℕ) → evaluate-part-lts.Need-returns-4 (
-  evaluate-and-below t,
-  evaluate-and.Post,
-  evaluate-or-below t,
-  evaluate-or.Post,
-  evaluate-part-below t,
-  evaluate-part.Post,
-  evaluate-exists-below t,
-  evaluate-exists.Post,
-  evaluate-list-below t,
-  evaluate-list.Post,
-  evaluate-test-reads.Asked,
-  evaluate-test-reads.Learnt,
-) (evaluate-part-at t) evaluate-part.Post
+evaluate-part-returns-4 : (t : ℕ) → evaluate-part-lts.Need-returns-4 (evaluate-part-claims t) (evaluate-part-at t) evaluate-part.Post
 evaluate-part-returns-4 t c = c .evaluate-exists .ensures
 
-evaluate-part-returns-5 : (t : ℕ) → evaluate-part-lts.Need-returns-5 (
-  evaluate-and-below t,
-  evaluate-and.Post,
-  evaluate-or-below t,
-  evaluate-or.Post,
-  evaluate-part-below t,
-  evaluate-part.Post,
-  evaluate-exists-below t,
-  evaluate-exists.Post,
-  evaluate-list-below t,
-  evaluate-list.Post,
-  evaluate-test-reads.Asked,
-  evaluate-test-reads.Learnt,
-) (evaluate-part-at t) evaluate-part.Post
+evaluate-part-returns-5 : (t : ℕ) → evaluate-part-lts.Need-returns-5 (evaluate-part-claims t) (evaluate-part-at t) evaluate-part.Post
 evaluate-part-returns-5 t c = c .evaluate-list .ensures
 
-evaluate-part-returns-6 : (t : ℕ) → evaluate-part-lts.Need-returns-6 (
-  evaluate-and-below t,
-  evaluate-and.Post,
-  evaluate-or-below t,
-  evaluate-or.Post,
-  evaluate-part-below t,
-  evaluate-part.Post,
-  evaluate-exists-below t,
-  evaluate-exists.Post,
-  evaluate-list-below t,
-  evaluate-list.Post,
-  evaluate-test-reads.Asked,
-  evaluate-test-reads.Learnt,
-) (evaluate-part-at t) evaluate-part.Post
+evaluate-part-returns-6 : (t : ℕ) → evaluate-part-lts.Need-returns-6 (evaluate-part-claims t) (evaluate-part-at t) evaluate-part.Post
 evaluate-part-returns-6 t c = c .evaluate-list2 .ensures
 
-evaluate-part-returns-7 : (t : ℕ) → evaluate-part-lts.Need-returns-7 (
-  evaluate-and-below t,
-  evaluate-and.Post,
-  evaluate-or-below t,
-  evaluate-or.Post,
-  evaluate-part-below t,
-  evaluate-part.Post,
-  evaluate-exists-below t,
-  evaluate-exists.Post,
-  evaluate-list-below t,
-  evaluate-list.Post,
-  evaluate-test-reads.Asked,
-  evaluate-test-reads.Learnt,
-) (evaluate-part-at t) evaluate-part.Post
+evaluate-part-returns-7 : (t : ℕ) → evaluate-part-lts.Need-returns-7 (evaluate-part-claims t) (evaluate-part-at t) evaluate-part.Post
 evaluate-part-returns-7 t c = λ h. let (low, high) = test-kinds h (c .before .match .rest) in test-evaluated h low high (c .evaluate-test .result) (c .evaluate-test .ensures)
 
-evaluate-row-add-evaluate-where : (t : ℕ) → evaluate-row-lts.Need-add-evaluate-where (
-  evaluate-where-below t,
-  evaluate-where.Post,
-  look-reads.Asked,
-  look-reads.Learnt,
-  compare-reads.Asked,
-  compare-reads.Learnt,
-) (evaluate-row-at t) evaluate-row.Post
+evaluate-row-add-evaluate-where : (t : ℕ) → evaluate-row-lts.Need-add-evaluate-where (evaluate-row-claims t) (evaluate-row-at t) evaluate-row.Post
 evaluate-row-add-evaluate-where t c = let z = row-start (c .before .pre .1) in omega arith
 
-evaluate-row-evaluate-where-requires : (t : ℕ) → evaluate-row-lts.Need-evaluate-where-requires (
-  evaluate-where-below t,
-  evaluate-where.Post,
-  look-reads.Asked,
-  look-reads.Learnt,
-  compare-reads.Asked,
-  compare-reads.Learnt,
-) (evaluate-row-at t) evaluate-row.Post
+evaluate-row-evaluate-where-requires : (t : ℕ) → evaluate-row-lts.Need-evaluate-where-requires (evaluate-row-claims t) (evaluate-row-at t) evaluate-row.Post
 evaluate-row-evaluate-where-requires t c κs = let m = c .before .pre .0 in let z = row-start (c .before .pre .1) in (omega arith, c .before .pre .1 .inner)
 
-evaluate-row-returns : (t : ℕ) → evaluate-row-lts.Need-returns (
-  evaluate-where-below t,
-  evaluate-where.Post,
-  look-reads.Asked,
-  look-reads.Learnt,
-  compare-reads.Asked,
-  compare-reads.Learnt,
-) (evaluate-row-at t) evaluate-row.Post
+evaluate-row-returns : (t : ℕ) → evaluate-row-lts.Need-returns (evaluate-row-claims t) (evaluate-row-at t) evaluate-row.Post
 evaluate-row-returns t c = λ h. row-lost h (c .before .evaluate-where .result) (c .before .evaluate-where .ensures) (λ e. omega (arith, e, c .if1 .taken))
 
-evaluate-row-mul-look : (t : ℕ) → evaluate-row-lts.Need-mul-look (
-  evaluate-where-below t,
-  evaluate-where.Post,
-  look-reads.Asked,
-  look-reads.Learnt,
-  compare-reads.Asked,
-  compare-reads.Learnt,
-) (evaluate-row-at t) evaluate-row.Post
+evaluate-row-mul-look : (t : ℕ) → evaluate-row-lts.Need-mul-look (evaluate-row-claims t) (evaluate-row-at t) evaluate-row.Post
 evaluate-row-mul-look t c = let z = row-start (c .before .before .before .pre .1) in omega arith
 
-evaluate-row-add-look : (t : ℕ) → evaluate-row-lts.Need-add-look (
-  evaluate-where-below t,
-  evaluate-where.Post,
-  look-reads.Asked,
-  look-reads.Learnt,
-  compare-reads.Asked,
-  compare-reads.Learnt,
-) (evaluate-row-at t) evaluate-row.Post
+evaluate-row-add-look : (t : ℕ) → evaluate-row-lts.Need-add-look (evaluate-row-claims t) (evaluate-row-at t) evaluate-row.Post
 evaluate-row-add-look t c = let z = row-start (c .before .before .before .pre .1) in omega arith
 
-evaluate-row-mul-look-2 : (t : ℕ) → evaluate-row-lts.Need-mul-look-2 (
-  evaluate-where-below t,
-  evaluate-where.Post,
-  look-reads.Asked,
-  look-reads.Learnt,
-  compare-reads.Asked,
-  compare-reads.Learnt,
-) (evaluate-row-at t) evaluate-row.Post
+evaluate-row-mul-look-2 : (t : ℕ) → evaluate-row-lts.Need-mul-look-2 (evaluate-row-claims t) (evaluate-row-at t) evaluate-row.Post
 evaluate-row-mul-look-2 t c = let z = row-start (c .before .before .before .pre .1) in omega arith
 
-evaluate-row-element-copy-out-look : (t : ℕ) → evaluate-row-lts.Need-element-copy-out-look (
-  evaluate-where-below t,
-  evaluate-where.Post,
-  look-reads.Asked,
-  look-reads.Learnt,
-  compare-reads.Asked,
-  compare-reads.Learnt,
-) (evaluate-row-at t) evaluate-row.Post
+evaluate-row-element-copy-out-look : (t : ℕ) → evaluate-row-lts.Need-element-copy-out-look (evaluate-row-claims t) (evaluate-row-at t) evaluate-row.Post
 evaluate-row-element-copy-out-look t c = let z = row-start (c .before .before .before .pre .1) in omega arith
 
-evaluate-row-mul-look-3 : (t : ℕ) → evaluate-row-lts.Need-mul-look-3 (
-  evaluate-where-below t,
-  evaluate-where.Post,
-  look-reads.Asked,
-  look-reads.Learnt,
-  compare-reads.Asked,
-  compare-reads.Learnt,
-) (evaluate-row-at t) evaluate-row.Post
+evaluate-row-mul-look-3 : (t : ℕ) → evaluate-row-lts.Need-mul-look-3 (evaluate-row-claims t) (evaluate-row-at t) evaluate-row.Post
 evaluate-row-mul-look-3 t c = let z = row-start (c .before .before .before .before .pre .1) in omega arith
 
-evaluate-row-add-look-2 : (t : ℕ) → evaluate-row-lts.Need-add-look-2 (
-  evaluate-where-below t,
-  evaluate-where.Post,
-  look-reads.Asked,
-  look-reads.Learnt,
-  compare-reads.Asked,
-  compare-reads.Learnt,
-) (evaluate-row-at t) evaluate-row.Post
+evaluate-row-add-look-2 : (t : ℕ) → evaluate-row-lts.Need-add-look-2 (evaluate-row-claims t) (evaluate-row-at t) evaluate-row.Post
 evaluate-row-add-look-2 t c = let z = row-start (c .before .before .before .before .pre .1) in omega arith
 
-evaluate-row-mul-look-4 : (t : ℕ) → evaluate-row-lts.Need-mul-look-4 (
-  evaluate-where-below t,
-  evaluate-where.Post,
-  look-reads.Asked,
-  look-reads.Learnt,
-  compare-reads.Asked,
-  compare-reads.Learnt,
-) (evaluate-row-at t) evaluate-row.Post
+evaluate-row-mul-look-4 : (t : ℕ) → evaluate-row-lts.Need-mul-look-4 (evaluate-row-claims t) (evaluate-row-at t) evaluate-row.Post
 evaluate-row-mul-look-4 t c = let z = row-start (c .before .before .before .before .pre .1) in omega arith
 
-evaluate-row-element-copy-out-look-2 : (t : ℕ) → evaluate-row-lts.Need-element-copy-out-look-2 (
-  evaluate-where-below t,
-  evaluate-where.Post,
-  look-reads.Asked,
-  look-reads.Learnt,
-  compare-reads.Asked,
-  compare-reads.Learnt,
-) (evaluate-row-at t) evaluate-row.Post
+evaluate-row-element-copy-out-look-2 : (t : ℕ) → evaluate-row-lts.Need-element-copy-out-look-2 (evaluate-row-claims t) (evaluate-row-at t) evaluate-row.Post
 evaluate-row-element-copy-out-look-2 t c = let z = row-start (c .before .before .before .before .pre .1) in omega arith
 
-evaluate-row-look-requires : (t : ℕ) → evaluate-row-lts.Need-look-requires (
-  evaluate-where-below t,
-  evaluate-where.Post,
-  look-reads.Asked,
-  look-reads.Learnt,
-  compare-reads.Asked,
-  compare-reads.Learnt,
-) (evaluate-row-at t) evaluate-row.Post
+evaluate-row-look-requires : (t : ℕ) → evaluate-row-lts.Need-look-requires (evaluate-row-claims t) (evaluate-row-at t) evaluate-row.Post
 evaluate-row-look-requires t c κs = selected-ready (c .before .before .before .before .before .pre .1)
 
-evaluate-row-mul-compare : (t : ℕ) → evaluate-row-lts.Need-mul-compare (
-  evaluate-where-below t,
-  evaluate-where.Post,
-  look-reads.Asked,
-  look-reads.Learnt,
-  compare-reads.Asked,
-  compare-reads.Learnt,
-) (evaluate-row-at t) evaluate-row.Post
+evaluate-row-mul-compare : (t : ℕ) → evaluate-row-lts.Need-mul-compare (evaluate-row-claims t) (evaluate-row-at t) evaluate-row.Post
 evaluate-row-mul-compare t c = let z = row-start (c .before .before .before .before .before .before .pre .1) in omega arith
 
-evaluate-row-add-compare : (t : ℕ) → evaluate-row-lts.Need-add-compare (
-  evaluate-where-below t,
-  evaluate-where.Post,
-  look-reads.Asked,
-  look-reads.Learnt,
-  compare-reads.Asked,
-  compare-reads.Learnt,
-) (evaluate-row-at t) evaluate-row.Post
+evaluate-row-add-compare : (t : ℕ) → evaluate-row-lts.Need-add-compare (evaluate-row-claims t) (evaluate-row-at t) evaluate-row.Post
 evaluate-row-add-compare t c = let z = row-start (c .before .before .before .before .before .before .pre .1) in omega arith
 
-evaluate-row-mul-compare-2 : (t : ℕ) → evaluate-row-lts.Need-mul-compare-2 (
-  evaluate-where-below t,
-  evaluate-where.Post,
-  look-reads.Asked,
-  look-reads.Learnt,
-  compare-reads.Asked,
-  compare-reads.Learnt,
-) (evaluate-row-at t) evaluate-row.Post
+evaluate-row-mul-compare-2 : (t : ℕ) → evaluate-row-lts.Need-mul-compare-2 (evaluate-row-claims t) (evaluate-row-at t) evaluate-row.Post
 evaluate-row-mul-compare-2 t c = let z = row-start (c .before .before .before .before .before .before .pre .1) in omega arith
 
-evaluate-row-element-copy-out-compare : (t : ℕ) → evaluate-row-lts.Need-element-copy-out-compare (
-  evaluate-where-below t,
-  evaluate-where.Post,
-  look-reads.Asked,
-  look-reads.Learnt,
-  compare-reads.Asked,
-  compare-reads.Learnt,
-) (evaluate-row-at t) evaluate-row.Post
+evaluate-row-element-copy-out-compare : (t : ℕ) → evaluate-row-lts.Need-element-copy-out-compare (evaluate-row-claims t) (evaluate-row-at t) evaluate-row.Post
 evaluate-row-element-copy-out-compare t c = let z = row-start (c .before .before .before .before .before .before .pre .1) in omega arith
 
-evaluate-row-compare-requires : (t : ℕ) → evaluate-row-lts.Need-compare-requires (
-  evaluate-where-below t,
-  evaluate-where.Post,
-  look-reads.Asked,
-  look-reads.Learnt,
-  compare-reads.Asked,
-  compare-reads.Learnt,
-) (evaluate-row-at t) evaluate-row.Post
+evaluate-row-compare-requires : (t : ℕ) → evaluate-row-lts.Need-compare-requires (evaluate-row-claims t) (evaluate-row-at t) evaluate-row.Post
 evaluate-row-compare-requires t c κs = search needs
 
-evaluate-row-returns-2 : (t : ℕ) → evaluate-row-lts.Need-returns-2 (
-  evaluate-where-below t,
-  evaluate-where.Post,
-  look-reads.Asked,
-  look-reads.Learnt,
-  compare-reads.Asked,
-  compare-reads.Learnt,
-) (evaluate-row-at t) evaluate-row.Post
+evaluate-row-returns-2 : (t : ℕ) → evaluate-row-lts.Need-returns-2 (evaluate-row-claims t) (evaluate-row-at t) evaluate-row.Post
 evaluate-row-returns-2 t c = λ h. row-compared h (c .before .before .before .before .before .before .evaluate-where .result) (c .before .before .before .before .before .before .evaluate-where .ensures) (c .before .before .before .before .before .if1 .left) (c .before .before .look .result) (c .before .before .look .ensures) _ (c .compare .ensures)
 
-evaluate-where-mul-kind : (t : ℕ) → evaluate-where-lts.Need-mul-kind (
-  evaluate-test-reads.Asked,
-  evaluate-test-reads.Learnt,
-  evaluate-part-below t,
-  evaluate-part.Post,
-) (evaluate-where-at t) evaluate-where.Post
+evaluate-where-mul-kind : (t : ℕ) → evaluate-where-lts.Need-mul-kind (evaluate-where-claims t) (evaluate-where-at t) evaluate-where.Post
 evaluate-where-mul-kind t c = let z = start (c .before .pre .1) in omega arith
 
-evaluate-where-mul-kind-2 : (t : ℕ) → evaluate-where-lts.Need-mul-kind-2 (
-  evaluate-test-reads.Asked,
-  evaluate-test-reads.Learnt,
-  evaluate-part-below t,
-  evaluate-part.Post,
-) (evaluate-where-at t) evaluate-where.Post
+evaluate-where-mul-kind-2 : (t : ℕ) → evaluate-where-lts.Need-mul-kind-2 (evaluate-where-claims t) (evaluate-where-at t) evaluate-where.Post
 evaluate-where-mul-kind-2 t c = let z = start (c .before .pre .1) in omega arith
 
-evaluate-where-element-copy-out-kind : (t : ℕ) → evaluate-where-lts.Need-element-copy-out-kind (
-  evaluate-test-reads.Asked,
-  evaluate-test-reads.Learnt,
-  evaluate-part-below t,
-  evaluate-part.Post,
-) (evaluate-where-at t) evaluate-where.Post
+evaluate-where-element-copy-out-kind : (t : ℕ) → evaluate-where-lts.Need-element-copy-out-kind (evaluate-where-claims t) (evaluate-where-at t) evaluate-where.Post
 evaluate-where-element-copy-out-kind t c = let z = start (c .before .pre .1) in omega arith
 
-evaluate-where-evaluate-test-requires : (t : ℕ) → evaluate-where-lts.Need-evaluate-test-requires (
-  evaluate-test-reads.Asked,
-  evaluate-test-reads.Learnt,
-  evaluate-part-below t,
-  evaluate-part.Post,
-) (evaluate-where-at t) evaluate-where.Post
+evaluate-where-evaluate-test-requires : (t : ℕ) → evaluate-where-lts.Need-evaluate-test-requires (evaluate-where-claims t) (evaluate-where-at t) evaluate-where.Post
 evaluate-where-evaluate-test-requires t c κs = test-ready (c .before .before .before .before .pre .1) (c .before .if1 .left) (omega (arith, c .if2 .taken))
 
-evaluate-where-evaluate-part-requires : (t : ℕ) → evaluate-where-lts.Need-evaluate-part-requires (
-  evaluate-test-reads.Asked,
-  evaluate-test-reads.Learnt,
-  evaluate-part-below t,
-  evaluate-part.Post,
-) (evaluate-where-at t) evaluate-where.Post
+evaluate-where-evaluate-part-requires : (t : ℕ) → evaluate-where-lts.Need-evaluate-part-requires (evaluate-where-claims t) (evaluate-where-at t) evaluate-where.Post
 evaluate-where-evaluate-part-requires t c κs = let m = c .before .before .before .pre .0 in let z = start (c .before .before .before .pre .1) in (omega arith, c .before .before .before .pre .1)
 
-evaluate-where-returns : (t : ℕ) → evaluate-where-lts.Need-returns (
-  evaluate-test-reads.Asked,
-  evaluate-test-reads.Learnt,
-  evaluate-part-below t,
-  evaluate-part.Post,
-) (evaluate-where-at t) evaluate-where.Post
+evaluate-where-returns : (t : ℕ) → evaluate-where-lts.Need-returns (evaluate-where-claims t) (evaluate-where-at t) evaluate-where.Post
 evaluate-where-returns t c = λ h. test-evaluated h (c .before .before .if1 .left) (omega (arith, c .before .if2 .taken)) (c .evaluate-test .result) (c .evaluate-test .ensures)
 
-evaluate-where-returns-2 : (t : ℕ) → evaluate-where-lts.Need-returns-2 (
-  evaluate-test-reads.Asked,
-  evaluate-test-reads.Learnt,
-  evaluate-part-below t,
-  evaluate-part.Post,
-) (evaluate-where-at t) evaluate-where.Post
+evaluate-where-returns-2 : (t : ℕ) → evaluate-where-lts.Need-returns-2 (evaluate-where-claims t) (evaluate-where-at t) evaluate-where.Post
 evaluate-where-returns-2 t c = c .evaluate-part .ensures
 
 pub +evaluate-and+evaluate-exists+evaluate-list+evaluate-or+evaluate-part+evaluate-row+evaluate-where-spec :

@@ -105,77 +105,52 @@ abbrev read-test-below : ℕ → In 2 read-test-kinds.ps
 read-test-below t =
     and 2 read-test-kinds.ps (falls 2 read-test-kinds.ps _<_ μ-read-test t) read-test.Pre
 
-read-closed-read-condition-requires : (t : ℕ) → read-closed-lts.Need-read-condition-requires (
-  read-condition-below t,
-  read-condition.Post,
-  token-reads.Asked,
-  token-reads.Learnt,
-) (read-closed-at t) read-closed.Post
+abbrev read-closed-claims : ℕ → read-closed-lts.Claims
+read-closed-claims t = (read-condition-below t, read-condition.Post, token-reads.Asked, token-reads.Learnt)
+
+abbrev read-condition-claims : ℕ → read-condition-lts.Claims
+read-condition-claims t = (read-conjunction-below t, read-conjunction.Post, token-reads.Asked, token-reads.Learnt, plain-note-reads.Asked, plain-note-reads.Learnt, note-part-reads.Asked, note-part-reads.Learnt, larger-reads.Asked, larger-reads.Learnt)
+
+abbrev read-conjunction-claims : ℕ → read-conjunction-lts.Claims
+read-conjunction-claims t = (read-factor-below t, read-factor.Post, token-reads.Asked, token-reads.Learnt, plain-note-reads.Asked, plain-note-reads.Learnt, note-part-reads.Asked, note-part-reads.Learnt, larger-reads.Asked, larger-reads.Learnt)
+
+abbrev read-factor-claims : ℕ → read-factor-lts.Claims
+read-factor-claims t = (after-nots-reads.Asked, after-nots-reads.Learnt, read-test-below t, read-test.Post, note-nots-reads.Asked, note-nots-reads.Learnt)
+
+abbrev read-test-claims : ℕ → read-test-lts.Claims
+read-test-claims t = (start-test-reads.Asked, start-test-reads.Learnt, note-part-reads.Asked, note-part-reads.Learnt, read-closed-below t, read-closed.Post)
+
+read-closed-read-condition-requires : (t : ℕ) → read-closed-lts.Need-read-condition-requires (read-closed-claims t) (read-closed-at t) read-closed.Post
 read-closed-read-condition-requires t c κs = search needs
 
-read-closed-enum-known-behind : (t : ℕ) → read-closed-lts.Need-enum-known-behind (
-  read-condition-below t,
-  read-condition.Post,
-  token-reads.Asked,
-  token-reads.Learnt,
-) (read-closed-at t) read-closed.Post
+read-closed-enum-known-behind : (t : ℕ) → read-closed-lts.Need-enum-known-behind (read-closed-claims t) (read-closed-at t) read-closed.Post
 read-closed-enum-known-behind t c = search needs
 
-read-closed-enum-told : (t : ℕ) → read-closed-lts.Need-enum-told (
-  read-condition-below t,
-  read-condition.Post,
-  token-reads.Asked,
-  token-reads.Learnt,
-) (read-closed-at t) read-closed.Post
+read-closed-enum-told : (t : ℕ) → read-closed-lts.Need-enum-told (read-closed-claims t) (read-closed-at t) read-closed.Post
 read-closed-enum-told t c = search needs
 
-read-closed-returns : (t : ℕ) → read-closed-lts.Need-returns (
-  read-condition-below t,
-  read-condition.Post,
-  token-reads.Asked,
-  token-reads.Learnt,
-) (read-closed-at t) read-closed.Post
+read-closed-returns : (t : ℕ) → read-closed-lts.Need-returns (read-closed-claims t) (read-closed-at t) read-closed.Post
 read-closed-returns t c =
     let b = c .before .before in
     let a = b .before .before .before .args in
     (unread-not (tokensFrom (a .s .now) (a .at)) (rw (c .enum-told .given .1) at (b .read-condition .ensures .0)), b .read-condition .ensures .1)
 
-read-closed-token-requires : (t : ℕ) → read-closed-lts.Need-token-requires (
-  read-condition-below t,
-  read-condition.Post,
-  token-reads.Asked,
-  token-reads.Learnt,
-) (read-closed-at t) read-closed.Post
+read-closed-token-requires : (t : ℕ) → read-closed-lts.Need-token-requires (read-closed-claims t) (read-closed-at t) read-closed.Post
 read-closed-token-requires t c κs = search needs
 
-read-closed-returns-2 : (t : ℕ) → read-closed-lts.Need-returns-2 (
-  read-condition-below t,
-  read-condition.Post,
-  token-reads.Asked,
-  token-reads.Learnt,
-) (read-closed-at t) read-closed.Post
+read-closed-returns-2 : (t : ℕ) → read-closed-lts.Need-returns-2 (read-closed-claims t) (read-closed-at t) read-closed.Post
 read-closed-returns-2 t c =
     let b = c .before .before .before .before .before in
     let r = rw (c .before .before .before .behind .given .1) at (b .read-condition .ensures .0) in
     (closed-not r (λ h. c .if1 .taken (c .before .token .ensures .0 ∙ h)), b .read-condition .ensures .1)
 
-read-closed-add-t10 : (t : ℕ) → read-closed-lts.Need-add-t10 (
-  read-condition-below t,
-  read-condition.Post,
-  token-reads.Asked,
-  token-reads.Learnt,
-) (read-closed-at t) read-closed.Post
+read-closed-add-t10 : (t : ℕ) → read-closed-lts.Need-add-t10 (read-closed-claims t) (read-closed-at t) read-closed.Post
 read-closed-add-t10 t c =
     let b = c .before .before .before .before .before in
     let r = rw (c .before .before .before .behind .given .1) at (b .read-condition .ensures .0) in
     omega (arith, r .moved .within, b .before .before .before .pre .1 .short)
 
-read-closed-returns-3 : (t : ℕ) → read-closed-lts.Need-returns-3 (
-  read-condition-below t,
-  read-condition.Post,
-  token-reads.Asked,
-  token-reads.Learnt,
-) (read-closed-at t) read-closed.Post
+read-closed-returns-3 : (t : ℕ) → read-closed-lts.Need-returns-3 (read-closed-claims t) (read-closed-at t) read-closed.Post
 read-closed-returns-3 t c =
     let b = c .before .before .before .before .before in
     let r = rw (c .before .before .before .behind .given .1) at (b .read-condition .ensures .0) in
@@ -188,108 +163,31 @@ abbrev read-condition-μ-loop : read-condition-lts.MeasureT-loop
 read-condition-μ-loop s at out₀ w first count deep next₀ n₀ d₀ out next n d = length s - next
 
 read-condition-read-conjunction-requires :
-    (t : ℕ) → read-condition-lts.Need-read-conjunction-requires (
-      read-conjunction-below t,
-      read-conjunction.Post,
-      token-reads.Asked,
-      token-reads.Learnt,
-      plain-note-reads.Asked,
-      plain-note-reads.Learnt,
-      note-part-reads.Asked,
-      note-part-reads.Learnt,
-      larger-reads.Asked,
-      larger-reads.Learnt,
-    ) (read-condition-at t) read-condition.Post read-condition-Inv-loop read-condition-μ-loop
+    (t : ℕ) → read-condition-lts.Need-read-conjunction-requires (read-condition-claims t) (read-condition-at t) read-condition.Post read-condition-Inv-loop read-condition-μ-loop
 read-condition-read-conjunction-requires t c κs = search needs
 
-read-condition-enum-known-first : (t : ℕ) → read-condition-lts.Need-enum-known-first (
-  read-conjunction-below t,
-  read-conjunction.Post,
-  token-reads.Asked,
-  token-reads.Learnt,
-  plain-note-reads.Asked,
-  plain-note-reads.Learnt,
-  note-part-reads.Asked,
-  note-part-reads.Learnt,
-  larger-reads.Asked,
-  larger-reads.Learnt,
-) (read-condition-at t) read-condition.Post read-condition-Inv-loop read-condition-μ-loop
+read-condition-enum-known-first : (t : ℕ) → read-condition-lts.Need-enum-known-first (read-condition-claims t) (read-condition-at t) read-condition.Post read-condition-Inv-loop read-condition-μ-loop
 read-condition-enum-known-first t c = search needs
 
-read-condition-enum-told : (t : ℕ) → read-condition-lts.Need-enum-told (
-  read-conjunction-below t,
-  read-conjunction.Post,
-  token-reads.Asked,
-  token-reads.Learnt,
-  plain-note-reads.Asked,
-  plain-note-reads.Learnt,
-  note-part-reads.Asked,
-  note-part-reads.Learnt,
-  larger-reads.Asked,
-  larger-reads.Learnt,
-) (read-condition-at t) read-condition.Post read-condition-Inv-loop read-condition-μ-loop
+read-condition-enum-told : (t : ℕ) → read-condition-lts.Need-enum-told (read-condition-claims t) (read-condition-at t) read-condition.Post read-condition-Inv-loop read-condition-μ-loop
 read-condition-enum-told t c = search needs
 
-read-condition-returns : (t : ℕ) → read-condition-lts.Need-returns (
-  read-conjunction-below t,
-  read-conjunction.Post,
-  token-reads.Asked,
-  token-reads.Learnt,
-  plain-note-reads.Asked,
-  plain-note-reads.Learnt,
-  note-part-reads.Asked,
-  note-part-reads.Learnt,
-  larger-reads.Asked,
-  larger-reads.Learnt,
-) (read-condition-at t) read-condition.Post read-condition-Inv-loop read-condition-μ-loop
+read-condition-returns : (t : ℕ) → read-condition-lts.Need-returns (read-condition-claims t) (read-condition-at t) read-condition.Post read-condition-Inv-loop read-condition-μ-loop
 read-condition-returns t c =
     let b = c .before .before in
     let a = b .before .before .before .args in
     (begins-not Or (a .s .now) (a .at) (rw (c .enum-told .given .1) at (b .read-conjunction .ensures .0)), b .read-conjunction .ensures .1)
 
-read-condition-loop-holds : (t : ℕ) → read-condition-lts.Need-loop-holds (
-  read-conjunction-below t,
-  read-conjunction.Post,
-  token-reads.Asked,
-  token-reads.Learnt,
-  plain-note-reads.Asked,
-  plain-note-reads.Learnt,
-  note-part-reads.Asked,
-  note-part-reads.Learnt,
-  larger-reads.Asked,
-  larger-reads.Learnt,
-) (read-condition-at t) read-condition.Post read-condition-Inv-loop read-condition-μ-loop
+read-condition-loop-holds : (t : ℕ) → read-condition-lts.Need-loop-holds (read-condition-claims t) (read-condition-at t) read-condition.Post read-condition-Inv-loop read-condition-μ-loop
 read-condition-loop-holds t c =
     let b = c .before .before .before in
     let a = b .before .before .before .args in
     record { since = λ old r. begins Or (a .s .now) (a .at) r (b .read-conjunction .ensures .1) }
 
-read-condition-token-requires : (t : ℕ) → read-condition-lts.Need-token-requires (
-  read-conjunction-below t,
-  read-conjunction.Post,
-  token-reads.Asked,
-  token-reads.Learnt,
-  plain-note-reads.Asked,
-  plain-note-reads.Learnt,
-  note-part-reads.Asked,
-  note-part-reads.Learnt,
-  larger-reads.Asked,
-  larger-reads.Learnt,
-) (read-condition-at t) read-condition.Post read-condition-Inv-loop read-condition-μ-loop
+read-condition-token-requires : (t : ℕ) → read-condition-lts.Need-token-requires (read-condition-claims t) (read-condition-at t) read-condition.Post read-condition-Inv-loop read-condition-μ-loop
 read-condition-token-requires t c κs = search needs
 
-read-condition-add-read-conjunction : (t : ℕ) → read-condition-lts.Need-add-read-conjunction (
-  read-conjunction-below t,
-  read-conjunction.Post,
-  token-reads.Asked,
-  token-reads.Learnt,
-  plain-note-reads.Asked,
-  plain-note-reads.Learnt,
-  note-part-reads.Asked,
-  note-part-reads.Learnt,
-  larger-reads.Asked,
-  larger-reads.Learnt,
-) (read-condition-at t) read-condition.Post read-condition-Inv-loop read-condition-μ-loop
+read-condition-add-read-conjunction : (t : ℕ) → read-condition-lts.Need-add-read-conjunction (read-condition-claims t) (read-condition-at t) read-condition.Post read-condition-Inv-loop read-condition-μ-loop
 read-condition-add-read-conjunction t c =
     let l = c .before .before in
     let b = l .before .before .before .before in
@@ -298,18 +196,7 @@ read-condition-add-read-conjunction t c =
     omega (arith, f .moved .within, b .before .before .before .pre .1 .short)
 
 read-condition-read-conjunction-requires-2 :
-    (t : ℕ) → read-condition-lts.Need-read-conjunction-requires-2 (
-      read-conjunction-below t,
-      read-conjunction.Post,
-      token-reads.Asked,
-      token-reads.Learnt,
-      plain-note-reads.Asked,
-      plain-note-reads.Learnt,
-      note-part-reads.Asked,
-      note-part-reads.Learnt,
-      larger-reads.Asked,
-      larger-reads.Learnt,
-    ) (read-condition-at t) read-condition.Post read-condition-Inv-loop read-condition-μ-loop
+    (t : ℕ) → read-condition-lts.Need-read-conjunction-requires-2 (read-condition-claims t) (read-condition-at t) read-condition.Post read-condition-Inv-loop read-condition-μ-loop
 read-condition-read-conjunction-requires-2 t c κs =
     let l = c .before .before .before in
     let b = l .before .before .before .before in
@@ -318,46 +205,13 @@ read-condition-read-conjunction-requires-2 t c κs =
     let pre = b .before .before .before .pre in
     (omega (arith, pre .0, f .moved .later), ready Or (a .s .now) (a .at) f (sym (c .before .before .token .ensures .0) ∙ c .before .if1 .taken) (pre .1))
 
-read-condition-enum-known-behind : (t : ℕ) → read-condition-lts.Need-enum-known-behind (
-  read-conjunction-below t,
-  read-conjunction.Post,
-  token-reads.Asked,
-  token-reads.Learnt,
-  plain-note-reads.Asked,
-  plain-note-reads.Learnt,
-  note-part-reads.Asked,
-  note-part-reads.Learnt,
-  larger-reads.Asked,
-  larger-reads.Learnt,
-) (read-condition-at t) read-condition.Post read-condition-Inv-loop read-condition-μ-loop
+read-condition-enum-known-behind : (t : ℕ) → read-condition-lts.Need-enum-known-behind (read-condition-claims t) (read-condition-at t) read-condition.Post read-condition-Inv-loop read-condition-μ-loop
 read-condition-enum-known-behind t c = search needs
 
-read-condition-enum-told-2 : (t : ℕ) → read-condition-lts.Need-enum-told-2 (
-  read-conjunction-below t,
-  read-conjunction.Post,
-  token-reads.Asked,
-  token-reads.Learnt,
-  plain-note-reads.Asked,
-  plain-note-reads.Learnt,
-  note-part-reads.Asked,
-  note-part-reads.Learnt,
-  larger-reads.Asked,
-  larger-reads.Learnt,
-) (read-condition-at t) read-condition.Post read-condition-Inv-loop read-condition-μ-loop
+read-condition-enum-told-2 : (t : ℕ) → read-condition-lts.Need-enum-told-2 (read-condition-claims t) (read-condition-at t) read-condition.Post read-condition-Inv-loop read-condition-μ-loop
 read-condition-enum-told-2 t c = search needs
 
-read-condition-returns-2 : (t : ℕ) → read-condition-lts.Need-returns-2 (
-  read-conjunction-below t,
-  read-conjunction.Post,
-  token-reads.Asked,
-  token-reads.Learnt,
-  plain-note-reads.Asked,
-  plain-note-reads.Learnt,
-  note-part-reads.Asked,
-  note-part-reads.Learnt,
-  larger-reads.Asked,
-  larger-reads.Learnt,
-) (read-condition-at t) read-condition.Post read-condition-Inv-loop read-condition-μ-loop
+read-condition-returns-2 : (t : ℕ) → read-condition-lts.Need-returns-2 (read-condition-claims t) (read-condition-at t) read-condition.Post read-condition-Inv-loop read-condition-μ-loop
 read-condition-returns-2 t c =
     let l = c .before .before .before .before .before .before in
     let b = l .before .before .before .before in
@@ -366,46 +220,13 @@ read-condition-returns-2 t c =
     let r = c .before .before in
     (turns-not Or (a .s .now) (a .at) f (sym (r .before .before .before .token .ensures .0) ∙ r .before .before .if1 .taken) (rw (c .enum-told2 .given .1) at (r .read-conjunction2 .ensures .0)), r .read-conjunction2 .ensures .1)
 
-read-condition-plain-note-requires : (t : ℕ) → read-condition-lts.Need-plain-note-requires (
-  read-conjunction-below t,
-  read-conjunction.Post,
-  token-reads.Asked,
-  token-reads.Learnt,
-  plain-note-reads.Asked,
-  plain-note-reads.Learnt,
-  note-part-reads.Asked,
-  note-part-reads.Learnt,
-  larger-reads.Asked,
-  larger-reads.Learnt,
-) (read-condition-at t) read-condition.Post read-condition-Inv-loop read-condition-μ-loop
+read-condition-plain-note-requires : (t : ℕ) → read-condition-lts.Need-plain-note-requires (read-condition-claims t) (read-condition-at t) read-condition.Post read-condition-Inv-loop read-condition-μ-loop
 read-condition-plain-note-requires t c κs = search needs
 
-read-condition-note-part-requires : (t : ℕ) → read-condition-lts.Need-note-part-requires (
-  read-conjunction-below t,
-  read-conjunction.Post,
-  token-reads.Asked,
-  token-reads.Learnt,
-  plain-note-reads.Asked,
-  plain-note-reads.Learnt,
-  note-part-reads.Asked,
-  note-part-reads.Learnt,
-  larger-reads.Asked,
-  larger-reads.Learnt,
-) (read-condition-at t) read-condition.Post read-condition-Inv-loop read-condition-μ-loop
+read-condition-note-part-requires : (t : ℕ) → read-condition-lts.Need-note-part-requires (read-condition-claims t) (read-condition-at t) read-condition.Post read-condition-Inv-loop read-condition-μ-loop
 read-condition-note-part-requires t c κs = c .before .before .before .before .before .read-conjunction2 .ensures .1
 
-read-condition-add-n : (t : ℕ) → read-condition-lts.Need-add-n (
-  read-conjunction-below t,
-  read-conjunction.Post,
-  token-reads.Asked,
-  token-reads.Learnt,
-  plain-note-reads.Asked,
-  plain-note-reads.Learnt,
-  note-part-reads.Asked,
-  note-part-reads.Learnt,
-  larger-reads.Asked,
-  larger-reads.Learnt,
-) (read-condition-at t) read-condition.Post read-condition-Inv-loop read-condition-μ-loop
+read-condition-add-n : (t : ℕ) → read-condition-lts.Need-add-n (read-condition-claims t) (read-condition-at t) read-condition.Post read-condition-Inv-loop read-condition-μ-loop
 read-condition-add-n t c =
     let r = c .before .before .before .before .before .before in
     let l = r .before .before .before .before in
@@ -416,49 +237,16 @@ read-condition-add-n t c =
     let pre = b .before .before .before .pre .1 in
     omega (arith, q .used, q .moved .within, f .used, pre .few, pre .short)
 
-read-condition-larger-requires : (t : ℕ) → read-condition-lts.Need-larger-requires (
-  read-conjunction-below t,
-  read-conjunction.Post,
-  token-reads.Asked,
-  token-reads.Learnt,
-  plain-note-reads.Asked,
-  plain-note-reads.Learnt,
-  note-part-reads.Asked,
-  note-part-reads.Learnt,
-  larger-reads.Asked,
-  larger-reads.Learnt,
-) (read-condition-at t) read-condition.Post read-condition-Inv-loop read-condition-μ-loop
+read-condition-larger-requires : (t : ℕ) → read-condition-lts.Need-larger-requires (read-condition-claims t) (read-condition-at t) read-condition.Post read-condition-Inv-loop read-condition-μ-loop
 read-condition-larger-requires t c κs = search needs
 
-read-condition-loop-less : (t : ℕ) → read-condition-lts.Need-loop-less (
-  read-conjunction-below t,
-  read-conjunction.Post,
-  token-reads.Asked,
-  token-reads.Learnt,
-  plain-note-reads.Asked,
-  plain-note-reads.Learnt,
-  note-part-reads.Asked,
-  note-part-reads.Learnt,
-  larger-reads.Asked,
-  larger-reads.Learnt,
-) (read-condition-at t) read-condition.Post read-condition-Inv-loop read-condition-μ-loop
+read-condition-loop-less : (t : ℕ) → read-condition-lts.Need-loop-less (read-condition-claims t) (read-condition-at t) read-condition.Post read-condition-Inv-loop read-condition-μ-loop
 read-condition-loop-less t c =
     let r = c .before .before .before .before .before .before .before in
     let q = rw (c .before .before .before .before .before .behind .given .1) at (r .read-conjunction2 .ensures .0) in
     omega (arith, q .moved .later, q .moved .within)
 
-read-condition-loop-again : (t : ℕ) → read-condition-lts.Need-loop-again (
-  read-conjunction-below t,
-  read-conjunction.Post,
-  token-reads.Asked,
-  token-reads.Learnt,
-  plain-note-reads.Asked,
-  plain-note-reads.Learnt,
-  note-part-reads.Asked,
-  note-part-reads.Learnt,
-  larger-reads.Asked,
-  larger-reads.Learnt,
-) (read-condition-at t) read-condition.Post read-condition-Inv-loop read-condition-μ-loop
+read-condition-loop-again : (t : ℕ) → read-condition-lts.Need-loop-again (read-condition-claims t) (read-condition-at t) read-condition.Post read-condition-Inv-loop read-condition-μ-loop
 read-condition-loop-again t c =
     let r = c .before .before .before .before .before .before .before in
     let l = r .before .before .before .before in
@@ -469,18 +257,7 @@ read-condition-loop-again t c =
       since = λ old x. turns Or (a .s .now) (a .at) (l .loop .inv .since old x) (sym (r .before .before .before .token .ensures .0) ∙ r .before .before .if1 .taken) q (p .result) (p .ensures) (c .before .note-part .ensures .0) (c .before .note-part .ensures .1) (c .larger .ensures);
     }
 
-read-condition-returns-3 : (t : ℕ) → read-condition-lts.Need-returns-3 (
-  read-conjunction-below t,
-  read-conjunction.Post,
-  token-reads.Asked,
-  token-reads.Learnt,
-  plain-note-reads.Asked,
-  plain-note-reads.Learnt,
-  note-part-reads.Asked,
-  note-part-reads.Learnt,
-  larger-reads.Asked,
-  larger-reads.Learnt,
-) (read-condition-at t) read-condition.Post read-condition-Inv-loop read-condition-μ-loop
+read-condition-returns-3 : (t : ℕ) → read-condition-lts.Need-returns-3 (read-condition-claims t) (read-condition-at t) read-condition.Post read-condition-Inv-loop read-condition-μ-loop
 read-condition-returns-3 t c =
     let l = c .before .before in
     let b = l .before .before .before .before in
@@ -494,108 +271,31 @@ read-conjunction-Inv-loop s at out₀ w first count deep next₀ n₀ d₀ out n
 abbrev read-conjunction-μ-loop : read-conjunction-lts.MeasureT-loop
 read-conjunction-μ-loop s at out₀ w first count deep next₀ n₀ d₀ out next n d = length s - next
 
-read-conjunction-read-factor-requires : (t : ℕ) → read-conjunction-lts.Need-read-factor-requires (
-  read-factor-below t,
-  read-factor.Post,
-  token-reads.Asked,
-  token-reads.Learnt,
-  plain-note-reads.Asked,
-  plain-note-reads.Learnt,
-  note-part-reads.Asked,
-  note-part-reads.Learnt,
-  larger-reads.Asked,
-  larger-reads.Learnt,
-) (read-conjunction-at t) read-conjunction.Post read-conjunction-Inv-loop read-conjunction-μ-loop
+read-conjunction-read-factor-requires : (t : ℕ) → read-conjunction-lts.Need-read-factor-requires (read-conjunction-claims t) (read-conjunction-at t) read-conjunction.Post read-conjunction-Inv-loop read-conjunction-μ-loop
 read-conjunction-read-factor-requires t c κs = search needs
 
-read-conjunction-enum-known-first : (t : ℕ) → read-conjunction-lts.Need-enum-known-first (
-  read-factor-below t,
-  read-factor.Post,
-  token-reads.Asked,
-  token-reads.Learnt,
-  plain-note-reads.Asked,
-  plain-note-reads.Learnt,
-  note-part-reads.Asked,
-  note-part-reads.Learnt,
-  larger-reads.Asked,
-  larger-reads.Learnt,
-) (read-conjunction-at t) read-conjunction.Post read-conjunction-Inv-loop read-conjunction-μ-loop
+read-conjunction-enum-known-first : (t : ℕ) → read-conjunction-lts.Need-enum-known-first (read-conjunction-claims t) (read-conjunction-at t) read-conjunction.Post read-conjunction-Inv-loop read-conjunction-μ-loop
 read-conjunction-enum-known-first t c = search needs
 
-read-conjunction-enum-told : (t : ℕ) → read-conjunction-lts.Need-enum-told (
-  read-factor-below t,
-  read-factor.Post,
-  token-reads.Asked,
-  token-reads.Learnt,
-  plain-note-reads.Asked,
-  plain-note-reads.Learnt,
-  note-part-reads.Asked,
-  note-part-reads.Learnt,
-  larger-reads.Asked,
-  larger-reads.Learnt,
-) (read-conjunction-at t) read-conjunction.Post read-conjunction-Inv-loop read-conjunction-μ-loop
+read-conjunction-enum-told : (t : ℕ) → read-conjunction-lts.Need-enum-told (read-conjunction-claims t) (read-conjunction-at t) read-conjunction.Post read-conjunction-Inv-loop read-conjunction-μ-loop
 read-conjunction-enum-told t c = search needs
 
-read-conjunction-returns : (t : ℕ) → read-conjunction-lts.Need-returns (
-  read-factor-below t,
-  read-factor.Post,
-  token-reads.Asked,
-  token-reads.Learnt,
-  plain-note-reads.Asked,
-  plain-note-reads.Learnt,
-  note-part-reads.Asked,
-  note-part-reads.Learnt,
-  larger-reads.Asked,
-  larger-reads.Learnt,
-) (read-conjunction-at t) read-conjunction.Post read-conjunction-Inv-loop read-conjunction-μ-loop
+read-conjunction-returns : (t : ℕ) → read-conjunction-lts.Need-returns (read-conjunction-claims t) (read-conjunction-at t) read-conjunction.Post read-conjunction-Inv-loop read-conjunction-μ-loop
 read-conjunction-returns t c =
     let b = c .before .before in
     let a = b .before .before .before .args in
     (begins-not And (a .s .now) (a .at) (rw (c .enum-told .given .1) at (b .read-factor .ensures .0)), b .read-factor .ensures .1)
 
-read-conjunction-loop-holds : (t : ℕ) → read-conjunction-lts.Need-loop-holds (
-  read-factor-below t,
-  read-factor.Post,
-  token-reads.Asked,
-  token-reads.Learnt,
-  plain-note-reads.Asked,
-  plain-note-reads.Learnt,
-  note-part-reads.Asked,
-  note-part-reads.Learnt,
-  larger-reads.Asked,
-  larger-reads.Learnt,
-) (read-conjunction-at t) read-conjunction.Post read-conjunction-Inv-loop read-conjunction-μ-loop
+read-conjunction-loop-holds : (t : ℕ) → read-conjunction-lts.Need-loop-holds (read-conjunction-claims t) (read-conjunction-at t) read-conjunction.Post read-conjunction-Inv-loop read-conjunction-μ-loop
 read-conjunction-loop-holds t c =
     let b = c .before .before .before in
     let a = b .before .before .before .args in
     record { since = λ old r. begins And (a .s .now) (a .at) r (b .read-factor .ensures .1) }
 
-read-conjunction-token-requires : (t : ℕ) → read-conjunction-lts.Need-token-requires (
-  read-factor-below t,
-  read-factor.Post,
-  token-reads.Asked,
-  token-reads.Learnt,
-  plain-note-reads.Asked,
-  plain-note-reads.Learnt,
-  note-part-reads.Asked,
-  note-part-reads.Learnt,
-  larger-reads.Asked,
-  larger-reads.Learnt,
-) (read-conjunction-at t) read-conjunction.Post read-conjunction-Inv-loop read-conjunction-μ-loop
+read-conjunction-token-requires : (t : ℕ) → read-conjunction-lts.Need-token-requires (read-conjunction-claims t) (read-conjunction-at t) read-conjunction.Post read-conjunction-Inv-loop read-conjunction-μ-loop
 read-conjunction-token-requires t c κs = search needs
 
-read-conjunction-add-read-factor : (t : ℕ) → read-conjunction-lts.Need-add-read-factor (
-  read-factor-below t,
-  read-factor.Post,
-  token-reads.Asked,
-  token-reads.Learnt,
-  plain-note-reads.Asked,
-  plain-note-reads.Learnt,
-  note-part-reads.Asked,
-  note-part-reads.Learnt,
-  larger-reads.Asked,
-  larger-reads.Learnt,
-) (read-conjunction-at t) read-conjunction.Post read-conjunction-Inv-loop read-conjunction-μ-loop
+read-conjunction-add-read-factor : (t : ℕ) → read-conjunction-lts.Need-add-read-factor (read-conjunction-claims t) (read-conjunction-at t) read-conjunction.Post read-conjunction-Inv-loop read-conjunction-μ-loop
 read-conjunction-add-read-factor t c =
     let l = c .before .before in
     let b = l .before .before .before .before in
@@ -604,18 +304,7 @@ read-conjunction-add-read-factor t c =
     omega (arith, f .moved .within, b .before .before .before .pre .1 .short)
 
 read-conjunction-read-factor-requires-2 :
-    (t : ℕ) → read-conjunction-lts.Need-read-factor-requires-2 (
-      read-factor-below t,
-      read-factor.Post,
-      token-reads.Asked,
-      token-reads.Learnt,
-      plain-note-reads.Asked,
-      plain-note-reads.Learnt,
-      note-part-reads.Asked,
-      note-part-reads.Learnt,
-      larger-reads.Asked,
-      larger-reads.Learnt,
-    )
+    (t : ℕ) → read-conjunction-lts.Need-read-factor-requires-2 (read-conjunction-claims t)
     (read-conjunction-at t)
     read-conjunction.Post
     read-conjunction-Inv-loop
@@ -628,46 +317,13 @@ read-conjunction-read-factor-requires-2 t c κs =
     let pre = b .before .before .before .pre in
     (omega (arith, pre .0, f .moved .later), ready And (a .s .now) (a .at) f (sym (c .before .before .token .ensures .0) ∙ c .before .if1 .taken) (pre .1))
 
-read-conjunction-enum-known-behind : (t : ℕ) → read-conjunction-lts.Need-enum-known-behind (
-  read-factor-below t,
-  read-factor.Post,
-  token-reads.Asked,
-  token-reads.Learnt,
-  plain-note-reads.Asked,
-  plain-note-reads.Learnt,
-  note-part-reads.Asked,
-  note-part-reads.Learnt,
-  larger-reads.Asked,
-  larger-reads.Learnt,
-) (read-conjunction-at t) read-conjunction.Post read-conjunction-Inv-loop read-conjunction-μ-loop
+read-conjunction-enum-known-behind : (t : ℕ) → read-conjunction-lts.Need-enum-known-behind (read-conjunction-claims t) (read-conjunction-at t) read-conjunction.Post read-conjunction-Inv-loop read-conjunction-μ-loop
 read-conjunction-enum-known-behind t c = search needs
 
-read-conjunction-enum-told-2 : (t : ℕ) → read-conjunction-lts.Need-enum-told-2 (
-  read-factor-below t,
-  read-factor.Post,
-  token-reads.Asked,
-  token-reads.Learnt,
-  plain-note-reads.Asked,
-  plain-note-reads.Learnt,
-  note-part-reads.Asked,
-  note-part-reads.Learnt,
-  larger-reads.Asked,
-  larger-reads.Learnt,
-) (read-conjunction-at t) read-conjunction.Post read-conjunction-Inv-loop read-conjunction-μ-loop
+read-conjunction-enum-told-2 : (t : ℕ) → read-conjunction-lts.Need-enum-told-2 (read-conjunction-claims t) (read-conjunction-at t) read-conjunction.Post read-conjunction-Inv-loop read-conjunction-μ-loop
 read-conjunction-enum-told-2 t c = search needs
 
-read-conjunction-returns-2 : (t : ℕ) → read-conjunction-lts.Need-returns-2 (
-  read-factor-below t,
-  read-factor.Post,
-  token-reads.Asked,
-  token-reads.Learnt,
-  plain-note-reads.Asked,
-  plain-note-reads.Learnt,
-  note-part-reads.Asked,
-  note-part-reads.Learnt,
-  larger-reads.Asked,
-  larger-reads.Learnt,
-) (read-conjunction-at t) read-conjunction.Post read-conjunction-Inv-loop read-conjunction-μ-loop
+read-conjunction-returns-2 : (t : ℕ) → read-conjunction-lts.Need-returns-2 (read-conjunction-claims t) (read-conjunction-at t) read-conjunction.Post read-conjunction-Inv-loop read-conjunction-μ-loop
 read-conjunction-returns-2 t c =
     let l = c .before .before .before .before .before .before in
     let b = l .before .before .before .before in
@@ -676,46 +332,13 @@ read-conjunction-returns-2 t c =
     let r = c .before .before in
     (turns-not And (a .s .now) (a .at) f (sym (r .before .before .before .token .ensures .0) ∙ r .before .before .if1 .taken) (rw (c .enum-told2 .given .1) at (r .read-factor2 .ensures .0)), r .read-factor2 .ensures .1)
 
-read-conjunction-plain-note-requires : (t : ℕ) → read-conjunction-lts.Need-plain-note-requires (
-  read-factor-below t,
-  read-factor.Post,
-  token-reads.Asked,
-  token-reads.Learnt,
-  plain-note-reads.Asked,
-  plain-note-reads.Learnt,
-  note-part-reads.Asked,
-  note-part-reads.Learnt,
-  larger-reads.Asked,
-  larger-reads.Learnt,
-) (read-conjunction-at t) read-conjunction.Post read-conjunction-Inv-loop read-conjunction-μ-loop
+read-conjunction-plain-note-requires : (t : ℕ) → read-conjunction-lts.Need-plain-note-requires (read-conjunction-claims t) (read-conjunction-at t) read-conjunction.Post read-conjunction-Inv-loop read-conjunction-μ-loop
 read-conjunction-plain-note-requires t c κs = search needs
 
-read-conjunction-note-part-requires : (t : ℕ) → read-conjunction-lts.Need-note-part-requires (
-  read-factor-below t,
-  read-factor.Post,
-  token-reads.Asked,
-  token-reads.Learnt,
-  plain-note-reads.Asked,
-  plain-note-reads.Learnt,
-  note-part-reads.Asked,
-  note-part-reads.Learnt,
-  larger-reads.Asked,
-  larger-reads.Learnt,
-) (read-conjunction-at t) read-conjunction.Post read-conjunction-Inv-loop read-conjunction-μ-loop
+read-conjunction-note-part-requires : (t : ℕ) → read-conjunction-lts.Need-note-part-requires (read-conjunction-claims t) (read-conjunction-at t) read-conjunction.Post read-conjunction-Inv-loop read-conjunction-μ-loop
 read-conjunction-note-part-requires t c κs = c .before .before .before .before .before .read-factor2 .ensures .1
 
-read-conjunction-add-n : (t : ℕ) → read-conjunction-lts.Need-add-n (
-  read-factor-below t,
-  read-factor.Post,
-  token-reads.Asked,
-  token-reads.Learnt,
-  plain-note-reads.Asked,
-  plain-note-reads.Learnt,
-  note-part-reads.Asked,
-  note-part-reads.Learnt,
-  larger-reads.Asked,
-  larger-reads.Learnt,
-) (read-conjunction-at t) read-conjunction.Post read-conjunction-Inv-loop read-conjunction-μ-loop
+read-conjunction-add-n : (t : ℕ) → read-conjunction-lts.Need-add-n (read-conjunction-claims t) (read-conjunction-at t) read-conjunction.Post read-conjunction-Inv-loop read-conjunction-μ-loop
 read-conjunction-add-n t c =
     let r = c .before .before .before .before .before .before in
     let l = r .before .before .before .before in
@@ -726,49 +349,16 @@ read-conjunction-add-n t c =
     let pre = b .before .before .before .pre .1 in
     omega (arith, q .used, q .moved .within, f .used, pre .few, pre .short)
 
-read-conjunction-larger-requires : (t : ℕ) → read-conjunction-lts.Need-larger-requires (
-  read-factor-below t,
-  read-factor.Post,
-  token-reads.Asked,
-  token-reads.Learnt,
-  plain-note-reads.Asked,
-  plain-note-reads.Learnt,
-  note-part-reads.Asked,
-  note-part-reads.Learnt,
-  larger-reads.Asked,
-  larger-reads.Learnt,
-) (read-conjunction-at t) read-conjunction.Post read-conjunction-Inv-loop read-conjunction-μ-loop
+read-conjunction-larger-requires : (t : ℕ) → read-conjunction-lts.Need-larger-requires (read-conjunction-claims t) (read-conjunction-at t) read-conjunction.Post read-conjunction-Inv-loop read-conjunction-μ-loop
 read-conjunction-larger-requires t c κs = search needs
 
-read-conjunction-loop-less : (t : ℕ) → read-conjunction-lts.Need-loop-less (
-  read-factor-below t,
-  read-factor.Post,
-  token-reads.Asked,
-  token-reads.Learnt,
-  plain-note-reads.Asked,
-  plain-note-reads.Learnt,
-  note-part-reads.Asked,
-  note-part-reads.Learnt,
-  larger-reads.Asked,
-  larger-reads.Learnt,
-) (read-conjunction-at t) read-conjunction.Post read-conjunction-Inv-loop read-conjunction-μ-loop
+read-conjunction-loop-less : (t : ℕ) → read-conjunction-lts.Need-loop-less (read-conjunction-claims t) (read-conjunction-at t) read-conjunction.Post read-conjunction-Inv-loop read-conjunction-μ-loop
 read-conjunction-loop-less t c =
     let r = c .before .before .before .before .before .before .before in
     let q = rw (c .before .before .before .before .before .behind .given .1) at (r .read-factor2 .ensures .0) in
     omega (arith, q .moved .later, q .moved .within)
 
-read-conjunction-loop-again : (t : ℕ) → read-conjunction-lts.Need-loop-again (
-  read-factor-below t,
-  read-factor.Post,
-  token-reads.Asked,
-  token-reads.Learnt,
-  plain-note-reads.Asked,
-  plain-note-reads.Learnt,
-  note-part-reads.Asked,
-  note-part-reads.Learnt,
-  larger-reads.Asked,
-  larger-reads.Learnt,
-) (read-conjunction-at t) read-conjunction.Post read-conjunction-Inv-loop read-conjunction-μ-loop
+read-conjunction-loop-again : (t : ℕ) → read-conjunction-lts.Need-loop-again (read-conjunction-claims t) (read-conjunction-at t) read-conjunction.Post read-conjunction-Inv-loop read-conjunction-μ-loop
 read-conjunction-loop-again t c =
     let r = c .before .before .before .before .before .before .before in
     let l = r .before .before .before .before in
@@ -779,18 +369,7 @@ read-conjunction-loop-again t c =
       since = λ old x. turns And (a .s .now) (a .at) (l .loop .inv .since old x) (sym (r .before .before .before .token .ensures .0) ∙ r .before .before .if1 .taken) q (p .result) (p .ensures) (c .before .note-part .ensures .0) (c .before .note-part .ensures .1) (c .larger .ensures);
     }
 
-read-conjunction-returns-3 : (t : ℕ) → read-conjunction-lts.Need-returns-3 (
-  read-factor-below t,
-  read-factor.Post,
-  token-reads.Asked,
-  token-reads.Learnt,
-  plain-note-reads.Asked,
-  plain-note-reads.Learnt,
-  note-part-reads.Asked,
-  note-part-reads.Learnt,
-  larger-reads.Asked,
-  larger-reads.Learnt,
-) (read-conjunction-at t) read-conjunction.Post read-conjunction-Inv-loop read-conjunction-μ-loop
+read-conjunction-returns-3 : (t : ℕ) → read-conjunction-lts.Need-returns-3 (read-conjunction-claims t) (read-conjunction-at t) read-conjunction.Post read-conjunction-Inv-loop read-conjunction-μ-loop
 read-conjunction-returns-3 t c =
     let l = c .before .before in
     let b = l .before .before .before .before in
@@ -798,80 +377,31 @@ read-conjunction-returns-3 t c =
     let f = l .loop .inv .since (a .out .now) (rw (l .before .before .first .given .1) at (b .read-factor .ensures .0)) in
     (ends And (a .s .now) (a .at) f (λ h. c .if1 .left (c .before .token .ensures .0 ∙ h)), f .size)
 
-read-factor-after-nots-requires : (t : ℕ) → read-factor-lts.Need-after-nots-requires (
-  after-nots-reads.Asked,
-  after-nots-reads.Learnt,
-  read-test-below t,
-  read-test.Post,
-  note-nots-reads.Asked,
-  note-nots-reads.Learnt,
-) (read-factor-at t) read-factor.Post
+read-factor-after-nots-requires : (t : ℕ) → read-factor-lts.Need-after-nots-requires (read-factor-claims t) (read-factor-at t) read-factor.Post
 read-factor-after-nots-requires t c κs = search needs
 
-read-factor-read-test-requires : (t : ℕ) → read-factor-lts.Need-read-test-requires (
-  after-nots-reads.Asked,
-  after-nots-reads.Learnt,
-  read-test-below t,
-  read-test.Post,
-  note-nots-reads.Asked,
-  note-nots-reads.Learnt,
-) (read-factor-at t) read-factor.Post
+read-factor-read-test-requires : (t : ℕ) → read-factor-lts.Need-read-test-requires (read-factor-claims t) (read-factor-at t) read-factor.Post
 read-factor-read-test-requires t c κs =
     let start = c .before .before .before in
     let n = c .before .after-nots .ensures in
     let pre = start .pre .1 in
     (omega (arith, start .pre .0, n .later, n .within), record { short = pre .short; within = n .within; few = omega (arith, pre .few, n .later); size = pre .size })
 
-read-factor-enum-known-next : (t : ℕ) → read-factor-lts.Need-enum-known-next (
-  after-nots-reads.Asked,
-  after-nots-reads.Learnt,
-  read-test-below t,
-  read-test.Post,
-  note-nots-reads.Asked,
-  note-nots-reads.Learnt,
-) (read-factor-at t) read-factor.Post
+read-factor-enum-known-next : (t : ℕ) → read-factor-lts.Need-enum-known-next (read-factor-claims t) (read-factor-at t) read-factor.Post
 read-factor-enum-known-next t c = search needs
 
-read-factor-enum-told : (t : ℕ) → read-factor-lts.Need-enum-told (
-  after-nots-reads.Asked,
-  after-nots-reads.Learnt,
-  read-test-below t,
-  read-test.Post,
-  note-nots-reads.Asked,
-  note-nots-reads.Learnt,
-) (read-factor-at t) read-factor.Post
+read-factor-enum-told : (t : ℕ) → read-factor-lts.Need-enum-told (read-factor-claims t) (read-factor-at t) read-factor.Post
 read-factor-enum-told t c = search needs
 
-read-factor-returns : (t : ℕ) → read-factor-lts.Need-returns (
-  after-nots-reads.Asked,
-  after-nots-reads.Learnt,
-  read-test-below t,
-  read-test.Post,
-  note-nots-reads.Asked,
-  note-nots-reads.Learnt,
-) (read-factor-at t) read-factor.Post
+read-factor-returns : (t : ℕ) → read-factor-lts.Need-returns (read-factor-claims t) (read-factor-at t) read-factor.Post
 read-factor-returns t c =
     let b = c .before .before in
     (factor-not (b .before .before .after-nots .ensures) (rw (c .enum-told .given .1) at (b .read-test .ensures .0)), b .read-test .ensures .1)
 
-read-factor-sub-note-nots : (t : ℕ) → read-factor-lts.Need-sub-note-nots (
-  after-nots-reads.Asked,
-  after-nots-reads.Learnt,
-  read-test-below t,
-  read-test.Post,
-  note-nots-reads.Asked,
-  note-nots-reads.Learnt,
-) (read-factor-at t) read-factor.Post
+read-factor-sub-note-nots : (t : ℕ) → read-factor-lts.Need-sub-note-nots (read-factor-claims t) (read-factor-at t) read-factor.Post
 read-factor-sub-note-nots t c = omega (arith, c .before .before .before .before .before .before .after-nots .ensures .later)
 
-read-factor-note-nots-requires : (t : ℕ) → read-factor-lts.Need-note-nots-requires (
-  after-nots-reads.Asked,
-  after-nots-reads.Learnt,
-  read-test-below t,
-  read-test.Post,
-  note-nots-reads.Asked,
-  note-nots-reads.Learnt,
-) (read-factor-at t) read-factor.Post
+read-factor-note-nots-requires : (t : ℕ) → read-factor-lts.Need-note-nots-requires (read-factor-claims t) (read-factor-at t) read-factor.Post
 read-factor-note-nots-requires t c κs =
     let b = c .before .before .before .before in
     let n = b .before .before .after-nots .ensures in
@@ -879,24 +409,10 @@ read-factor-note-nots-requires t c κs =
     let pre = b .before .before .before .before .pre .1 in
     (b .read-test .ensures .1, omega (arith, n .later, r .used, r .moved .within, pre .few, pre .short))
 
-read-factor-sub-t13 : (t : ℕ) → read-factor-lts.Need-sub-t13 (
-  after-nots-reads.Asked,
-  after-nots-reads.Learnt,
-  read-test-below t,
-  read-test.Post,
-  note-nots-reads.Asked,
-  note-nots-reads.Learnt,
-) (read-factor-at t) read-factor.Post
+read-factor-sub-t13 : (t : ℕ) → read-factor-lts.Need-sub-t13 (read-factor-claims t) (read-factor-at t) read-factor.Post
 read-factor-sub-t13 t c = omega (arith, c .before .before .before .before .before .before .before .after-nots .ensures .later)
 
-read-factor-add-t14 : (t : ℕ) → read-factor-lts.Need-add-t14 (
-  after-nots-reads.Asked,
-  after-nots-reads.Learnt,
-  read-test-below t,
-  read-test.Post,
-  note-nots-reads.Asked,
-  note-nots-reads.Learnt,
-) (read-factor-at t) read-factor.Post
+read-factor-add-t14 : (t : ℕ) → read-factor-lts.Need-add-t14 (read-factor-claims t) (read-factor-at t) read-factor.Post
 read-factor-add-t14 t c =
     let b = c .before .before .before .before .before in
     let n = b .before .before .after-nots .ensures in
@@ -904,80 +420,31 @@ read-factor-add-t14 t c =
     let pre = b .before .before .before .before .pre .1 in
     omega (arith, n .later, r .used, r .moved .within, pre .few, pre .short)
 
-read-factor-returns-2 : (t : ℕ) → read-factor-lts.Need-returns-2 (
-  after-nots-reads.Asked,
-  after-nots-reads.Learnt,
-  read-test-below t,
-  read-test.Post,
-  note-nots-reads.Asked,
-  note-nots-reads.Learnt,
-) (read-factor-at t) read-factor.Post
+read-factor-returns-2 : (t : ℕ) → read-factor-lts.Need-returns-2 (read-factor-claims t) (read-factor-at t) read-factor.Post
 read-factor-returns-2 t c =
     let b = c .before .before .before .before .before in
     let n = b .before .before .after-nots .ensures in
     let r = rw (c .before .before .before .next .given .1) at (b .read-test .ensures .0) in
     (factor-reads n r (c .note-nots .ensures .0), c .note-nots .ensures .1)
 
-read-test-start-test-requires : (t : ℕ) → read-test-lts.Need-start-test-requires (
-  start-test-reads.Asked,
-  start-test-reads.Learnt,
-  note-part-reads.Asked,
-  note-part-reads.Learnt,
-  read-closed-below t,
-  read-closed.Post,
-) (read-test-at t) read-test.Post
+read-test-start-test-requires : (t : ℕ) → read-test-lts.Need-start-test-requires (read-test-claims t) (read-test-at t) read-test.Post
 read-test-start-test-requires t c κs = search needs
 
-read-test-enum-known-note : (t : ℕ) → read-test-lts.Need-enum-known-note (
-  start-test-reads.Asked,
-  start-test-reads.Learnt,
-  note-part-reads.Asked,
-  note-part-reads.Learnt,
-  read-closed-below t,
-  read-closed.Post,
-) (read-test-at t) read-test.Post
+read-test-enum-known-note : (t : ℕ) → read-test-lts.Need-enum-known-note (read-test-claims t) (read-test-at t) read-test.Post
 read-test-enum-known-note t c = search needs
 
-read-test-note-part-requires : (t : ℕ) → read-test-lts.Need-note-part-requires (
-  start-test-reads.Asked,
-  start-test-reads.Learnt,
-  note-part-reads.Asked,
-  note-part-reads.Learnt,
-  read-closed-below t,
-  read-closed.Post,
-) (read-test-at t) read-test.Post
+read-test-note-part-requires : (t : ℕ) → read-test-lts.Need-note-part-requires (read-test-claims t) (read-test-at t) read-test.Post
 read-test-note-part-requires t c κs = c .before .before .before .before .before .before .pre .1 .size
 
-read-test-add-t17 : (t : ℕ) → read-test-lts.Need-add-t17 (
-  start-test-reads.Asked,
-  start-test-reads.Learnt,
-  note-part-reads.Asked,
-  note-part-reads.Learnt,
-  read-closed-below t,
-  read-closed.Post,
-) (read-test-at t) read-test.Post
+read-test-add-t17 : (t : ℕ) → read-test-lts.Need-add-t17 (read-test-claims t) (read-test-at t) read-test.Post
 read-test-add-t17 t c =
     let pre = c .before .before .before .before .before .before .before .pre .1 in
     omega (arith, pre .few, pre .within, pre .short)
 
-read-test-enum-known-next : (t : ℕ) → read-test-lts.Need-enum-known-next (
-  start-test-reads.Asked,
-  start-test-reads.Learnt,
-  note-part-reads.Asked,
-  note-part-reads.Learnt,
-  read-closed-below t,
-  read-closed.Post,
-) (read-test-at t) read-test.Post
+read-test-enum-known-next : (t : ℕ) → read-test-lts.Need-enum-known-next (read-test-claims t) (read-test-at t) read-test.Post
 read-test-enum-known-next t c = search needs
 
-read-test-read-closed-requires : (t : ℕ) → read-test-lts.Need-read-closed-requires (
-  start-test-reads.Asked,
-  start-test-reads.Learnt,
-  note-part-reads.Asked,
-  note-part-reads.Learnt,
-  read-closed-below t,
-  read-closed.Post,
-) (read-test-at t) read-test.Post
+read-test-read-closed-requires : (t : ℕ) → read-test-lts.Need-read-closed-requires (read-test-claims t) (read-test-at t) read-test.Post
 read-test-read-closed-requires t c κs =
     let b = c .before .before .before .before in
     let start = b .before .before in
@@ -985,24 +452,10 @@ read-test-read-closed-requires t c κs =
     let pre = start .pre .1 in
     (omega (arith, start .pre .0, f .moved .later, f .moved .within), record { short = pre .short; within = f .moved .within; few = omega (arith, pre .few, f .moved .later); size = pre .size })
 
-read-test-enum-known-note-2 : (t : ℕ) → read-test-lts.Need-enum-known-note-2 (
-  start-test-reads.Asked,
-  start-test-reads.Learnt,
-  note-part-reads.Asked,
-  note-part-reads.Learnt,
-  read-closed-below t,
-  read-closed.Post,
-) (read-test-at t) read-test.Post
+read-test-enum-known-note-2 : (t : ℕ) → read-test-lts.Need-enum-known-note-2 (read-test-claims t) (read-test-at t) read-test.Post
 read-test-enum-known-note-2 t c = search needs
 
-read-test-read-closed-requires-2 : (t : ℕ) → read-test-lts.Need-read-closed-requires-2 (
-  start-test-reads.Asked,
-  start-test-reads.Learnt,
-  note-part-reads.Asked,
-  note-part-reads.Learnt,
-  read-closed-below t,
-  read-closed.Post,
-) (read-test-at t) read-test.Post
+read-test-read-closed-requires-2 : (t : ℕ) → read-test-lts.Need-read-closed-requires-2 (read-test-claims t) (read-test-at t) read-test.Post
 read-test-read-closed-requires-2 t c κs =
     let b = c .before .before .before .before in
     let start = b .before .before in
@@ -1010,34 +463,13 @@ read-test-read-closed-requires-2 t c κs =
     let pre = start .pre .1 in
     (omega (arith, start .pre .0, f .moved .later, f .moved .within), record { short = pre .short; within = f .moved .within; few = omega (arith, pre .few, f .moved .later); size = pre .size })
 
-read-test-enum-known-behind : (t : ℕ) → read-test-lts.Need-enum-known-behind (
-  start-test-reads.Asked,
-  start-test-reads.Learnt,
-  note-part-reads.Asked,
-  note-part-reads.Learnt,
-  read-closed-below t,
-  read-closed.Post,
-) (read-test-at t) read-test.Post
+read-test-enum-known-behind : (t : ℕ) → read-test-lts.Need-enum-known-behind (read-test-claims t) (read-test-at t) read-test.Post
 read-test-enum-known-behind t c = search needs
 
-read-test-enum-told : (t : ℕ) → read-test-lts.Need-enum-told (
-  start-test-reads.Asked,
-  start-test-reads.Learnt,
-  note-part-reads.Asked,
-  note-part-reads.Learnt,
-  read-closed-below t,
-  read-closed.Post,
-) (read-test-at t) read-test.Post
+read-test-enum-told : (t : ℕ) → read-test-lts.Need-enum-told (read-test-claims t) (read-test-at t) read-test.Post
 read-test-enum-told t c = search needs
 
-read-test-returns : (t : ℕ) → read-test-lts.Need-returns (
-  start-test-reads.Asked,
-  start-test-reads.Learnt,
-  note-part-reads.Asked,
-  note-part-reads.Learnt,
-  read-closed-below t,
-  read-closed.Post,
-) (read-test-at t) read-test.Post
+read-test-returns : (t : ℕ) → read-test-lts.Need-returns (read-test-claims t) (read-test-at t) read-test.Post
 read-test-returns t c =
     let r = c .before .before in
     let b = r .before .before .before .before .before in
@@ -1045,24 +477,10 @@ read-test-returns t c =
     let f = rw (r .before .before .before .note2 .given .1) at (b .start-test .ensures) in
     (around-not (a .s .now) (a .at) f (rw (c .enum-told .given .1) at (r .read-closed2 .ensures .0)), r .read-closed2 .ensures .1)
 
-read-test-note-part-requires-2 : (t : ℕ) → read-test-lts.Need-note-part-requires-2 (
-  start-test-reads.Asked,
-  start-test-reads.Learnt,
-  note-part-reads.Asked,
-  note-part-reads.Learnt,
-  read-closed-below t,
-  read-closed.Post,
-) (read-test-at t) read-test.Post
+read-test-note-part-requires-2 : (t : ℕ) → read-test-lts.Need-note-part-requires-2 (read-test-claims t) (read-test-at t) read-test.Post
 read-test-note-part-requires-2 t c κs = c .before .before .before .before .read-closed2 .ensures .1
 
-read-test-add-t23 : (t : ℕ) → read-test-lts.Need-add-t23 (
-  start-test-reads.Asked,
-  start-test-reads.Learnt,
-  note-part-reads.Asked,
-  note-part-reads.Learnt,
-  read-closed-below t,
-  read-closed.Post,
-) (read-test-at t) read-test.Post
+read-test-add-t23 : (t : ℕ) → read-test-lts.Need-add-t23 (read-test-claims t) (read-test-at t) read-test.Post
 read-test-add-t23 t c =
     let q = c .before .before .before .before .before in
     let b = q .before .before .before .before .before in
@@ -1071,14 +489,7 @@ read-test-add-t23 t c =
     let pre = b .before .before .pre .1 in
     omega (arith, f .moved .later, r .used, r .moved .within, pre .few, pre .short)
 
-read-test-add-t24 : (t : ℕ) → read-test-lts.Need-add-t24 (
-  start-test-reads.Asked,
-  start-test-reads.Learnt,
-  note-part-reads.Asked,
-  note-part-reads.Learnt,
-  read-closed-below t,
-  read-closed.Post,
-) (read-test-at t) read-test.Post
+read-test-add-t24 : (t : ℕ) → read-test-lts.Need-add-t24 (read-test-claims t) (read-test-at t) read-test.Post
 read-test-add-t24 t c =
     let q = c .before .before .before .before .before in
     let b = q .before .before .before .before .before in
@@ -1087,38 +498,17 @@ read-test-add-t24 t c =
     let pre = b .before .before .pre .1 in
     omega (arith, f .moved .later, r .used, r .moved .within, shallow r, pre .few, pre .short)
 
-read-test-enum-told-2 : (t : ℕ) → read-test-lts.Need-enum-told-2 (
-  start-test-reads.Asked,
-  start-test-reads.Learnt,
-  note-part-reads.Asked,
-  note-part-reads.Learnt,
-  read-closed-below t,
-  read-closed.Post,
-) (read-test-at t) read-test.Post
+read-test-enum-told-2 : (t : ℕ) → read-test-lts.Need-enum-told-2 (read-test-claims t) (read-test-at t) read-test.Post
 read-test-enum-told-2 t c = search needs
 
-read-test-returns-2 : (t : ℕ) → read-test-lts.Need-returns-2 (
-  start-test-reads.Asked,
-  start-test-reads.Learnt,
-  note-part-reads.Asked,
-  note-part-reads.Learnt,
-  read-closed-below t,
-  read-closed.Post,
-) (read-test-at t) read-test.Post
+read-test-returns-2 : (t : ℕ) → read-test-lts.Need-returns-2 (read-test-claims t) (read-test-at t) read-test.Post
 read-test-returns-2 t c =
     let b = c .before .before .before .before .before in
     let a = b .before .before .args in
     let f = rw (c .before .before .before .note .given .1) at (b .start-test .ensures) in
     (whole-reads (a .s .now) (a .at) f (c .note-part .ensures .0), c .note-part .ensures .1)
 
-read-test-returns-3 : (t : ℕ) → read-test-lts.Need-returns-3 (
-  start-test-reads.Asked,
-  start-test-reads.Learnt,
-  note-part-reads.Asked,
-  note-part-reads.Learnt,
-  read-closed-below t,
-  read-closed.Post,
-) (read-test-at t) read-test.Post
+read-test-returns-3 : (t : ℕ) → read-test-lts.Need-returns-3 (read-test-claims t) (read-test-at t) read-test.Post
 read-test-returns-3 t c =
     let b = c .before .before .before .before .before in
     let a = b .before .before .args in
@@ -1126,14 +516,7 @@ read-test-returns-3 t c =
     let r = c .read-closed in
     (bracket-reads (a .s .now) (a .at) f (a .w) (a .out .now) (r .last .1 .1 .0) (r .result) (r .ensures .0), r .ensures .1)
 
-read-test-returns-4 : (t : ℕ) → read-test-lts.Need-returns-4 (
-  start-test-reads.Asked,
-  start-test-reads.Learnt,
-  note-part-reads.Asked,
-  note-part-reads.Learnt,
-  read-closed-below t,
-  read-closed.Post,
-) (read-test-at t) read-test.Post
+read-test-returns-4 : (t : ℕ) → read-test-lts.Need-returns-4 (read-test-claims t) (read-test-at t) read-test.Post
 read-test-returns-4 t c =
     let q = c .before .before .before .before .before in
     let b = q .before .before .before .before .before in
@@ -1142,14 +525,7 @@ read-test-returns-4 t c =
     let r = rw (c .before .before .before .behind .given .1) at (q .read-closed2 .ensures .0) in
     (around-reads (a .s .now) (a .at) f r (c .note-part2 .ensures .0), c .note-part2 .ensures .1)
 
-read-test-returns-5 : (t : ℕ) → read-test-lts.Need-returns-5 (
-  start-test-reads.Asked,
-  start-test-reads.Learnt,
-  note-part-reads.Asked,
-  note-part-reads.Learnt,
-  read-closed-below t,
-  read-closed.Post,
-) (read-test-at t) read-test.Post
+read-test-returns-5 : (t : ℕ) → read-test-lts.Need-returns-5 (read-test-claims t) (read-test-at t) read-test.Post
 read-test-returns-5 t c =
     let b = c .before .before in
     let a = b .before .before .args in

@@ -88,161 +88,59 @@ abbrev place-pair-below : ℕ → In 4 place-pair-kinds.ps
 place-pair-below t =
     and 4 place-pair-kinds.ps (falls 4 place-pair-kinds.ps _<_ μ-place-pair t) place-pair.Pre
 
-place-sub-kind : (t : ℕ) → place-lts.Need-sub-kind (
-  place-not-below t,
-  place-not.Post,
-  place-comparison-reads.Asked,
-  place-comparison-reads.Learnt,
-  place-exists-below t,
-  place-exists.Post,
-  place-pair-below t,
-  place-pair.Post,
-  place-null-reads.Asked,
-  place-null-reads.Learnt,
-  place-list-below t,
-  place-list.Post,
-) (place-at t) place.Post
+abbrev place-claims : ℕ → place-lts.Claims
+place-claims t = (place-not-below t, place-not.Post, place-comparison-reads.Asked, place-comparison-reads.Learnt, place-exists-below t, place-exists.Post, place-pair-below t, place-pair.Post, place-null-reads.Asked, place-null-reads.Learnt, place-list-below t, place-list.Post)
+
+abbrev place-exists-claims : ℕ → place-exists-lts.Claims
+place-exists-claims t = (byte-reads.Asked, byte-reads.Learnt, find-numbered-reads.Asked, find-numbered-reads.Learnt, bind-reads.Asked, bind-reads.Learnt, place-below t, place.Post, put-part-reads.Asked, put-part-reads.Learnt)
+
+abbrev place-list-claims : ℕ → place-list-lts.Claims
+place-list-claims t = (byte-reads.Asked, byte-reads.Learnt, find-numbered-reads.Asked, find-numbered-reads.Learnt, bind-reads.Asked, bind-reads.Learnt, compared-part-reads.Asked, compared-part-reads.Learnt, place-below t, place.Post, put-part-reads.Asked, put-part-reads.Learnt)
+
+abbrev place-not-claims : ℕ → place-not-lts.Claims
+place-not-claims t = (place-below t, place.Post, plain-part-reads.Asked, plain-part-reads.Learnt, put-part-reads.Asked, put-part-reads.Learnt)
+
+abbrev place-pair-claims : ℕ → place-pair-lts.Claims
+place-pair-claims t = (place-below t, place.Post, plain-part-reads.Asked, plain-part-reads.Learnt, put-part-reads.Asked, put-part-reads.Learnt)
+
+place-sub-kind : (t : ℕ) → place-lts.Need-sub-kind (place-claims t) (place-at t) place.Post
 place-sub-kind t c = has-notes (c .before .before .pre .1) .0
 
-place-mul-kind : (t : ℕ) → place-lts.Need-mul-kind (
-  place-not-below t,
-  place-not.Post,
-  place-comparison-reads.Asked,
-  place-comparison-reads.Learnt,
-  place-exists-below t,
-  place-exists.Post,
-  place-pair-below t,
-  place-pair.Post,
-  place-null-reads.Asked,
-  place-null-reads.Learnt,
-  place-list-below t,
-  place-list.Post,
-) (place-at t) place.Post
+place-mul-kind : (t : ℕ) → place-lts.Need-mul-kind (place-claims t) (place-at t) place.Post
 place-mul-kind t c = search needs
 
-place-mul-kind-2 : (t : ℕ) → place-lts.Need-mul-kind-2 (
-  place-not-below t,
-  place-not.Post,
-  place-comparison-reads.Asked,
-  place-comparison-reads.Learnt,
-  place-exists-below t,
-  place-exists.Post,
-  place-pair-below t,
-  place-pair.Post,
-  place-null-reads.Asked,
-  place-null-reads.Learnt,
-  place-list-below t,
-  place-list.Post,
-) (place-at t) place.Post
+place-mul-kind-2 : (t : ℕ) → place-lts.Need-mul-kind-2 (place-claims t) (place-at t) place.Post
 place-mul-kind-2 t c = search needs
 
-place-shared-slice-read-kind : (t : ℕ) → place-lts.Need-shared-slice-read-kind (
-  place-not-below t,
-  place-not.Post,
-  place-comparison-reads.Asked,
-  place-comparison-reads.Learnt,
-  place-exists-below t,
-  place-exists.Post,
-  place-pair-below t,
-  place-pair.Post,
-  place-null-reads.Asked,
-  place-null-reads.Learnt,
-  place-list-below t,
-  place-list.Post,
-) (place-at t) place.Post
+place-shared-slice-read-kind : (t : ℕ) → place-lts.Need-shared-slice-read-kind (place-claims t) (place-at t) place.Post
 place-shared-slice-read-kind t c = let z = note-room (c .before .before .before .pre .1) in search needs
 
-place-place-not-requires : (t : ℕ) → place-lts.Need-place-not-requires (
-  place-not-below t,
-  place-not.Post,
-  place-comparison-reads.Asked,
-  place-comparison-reads.Learnt,
-  place-exists-below t,
-  place-exists.Post,
-  place-pair-below t,
-  place-pair.Post,
-  place-null-reads.Asked,
-  place-null-reads.Learnt,
-  place-list-below t,
-  place-list.Post,
-) (place-at t) place.Post
+place-place-not-requires : (t : ℕ) → place-lts.Need-place-not-requires (place-claims t) (place-at t) place.Post
 place-place-not-requires t c κs =
     let o = c .before .before .before .before .before in
     let the-match = c .before .match in
     let m = o .pre .0 in (omega arith, (o .pre .1, the-match .keys1))
 
-place-place-comparison-requires : (t : ℕ) → place-lts.Need-place-comparison-requires (
-  place-not-below t,
-  place-not.Post,
-  place-comparison-reads.Asked,
-  place-comparison-reads.Learnt,
-  place-exists-below t,
-  place-exists.Post,
-  place-pair-below t,
-  place-pair.Post,
-  place-null-reads.Asked,
-  place-null-reads.Learnt,
-  place-list-below t,
-  place-list.Post,
-) (place-at t) place.Post
+place-place-comparison-requires : (t : ℕ) → place-lts.Need-place-comparison-requires (place-claims t) (place-at t) place.Post
 place-place-comparison-requires t c κs =
     let o = c .before .before .before .before .before in
     let the-match = c .before .match in
     (o .pre .1, the-match .keys2)
 
-place-place-exists-requires : (t : ℕ) → place-lts.Need-place-exists-requires (
-  place-not-below t,
-  place-not.Post,
-  place-comparison-reads.Asked,
-  place-comparison-reads.Learnt,
-  place-exists-below t,
-  place-exists.Post,
-  place-pair-below t,
-  place-pair.Post,
-  place-null-reads.Asked,
-  place-null-reads.Learnt,
-  place-list-below t,
-  place-list.Post,
-) (place-at t) place.Post
+place-place-exists-requires : (t : ℕ) → place-lts.Need-place-exists-requires (place-claims t) (place-at t) place.Post
 place-place-exists-requires t c κs =
     let o = c .before .before .before .before .before in
     let the-match = c .before .match in
     let m = o .pre .0 in (omega arith, (o .pre .1, the-match .keys3))
 
-place-place-pair-requires : (t : ℕ) → place-lts.Need-place-pair-requires (
-  place-not-below t,
-  place-not.Post,
-  place-comparison-reads.Asked,
-  place-comparison-reads.Learnt,
-  place-exists-below t,
-  place-exists.Post,
-  place-pair-below t,
-  place-pair.Post,
-  place-null-reads.Asked,
-  place-null-reads.Learnt,
-  place-list-below t,
-  place-list.Post,
-) (place-at t) place.Post
+place-place-pair-requires : (t : ℕ) → place-lts.Need-place-pair-requires (place-claims t) (place-at t) place.Post
 place-place-pair-requires t c κs =
     let o = c .before .before .before .before .before .before .before in
     let the-if1 = c .before .before .if1 in
     let the-if2 = c .before .if2 in
     let m = o .pre .0 in (omega arith, (o .pre .1, (the-if1 .left, omega (arith, the-if2 .taken))))
 
-place-place-null-requires : (t : ℕ) → place-lts.Need-place-null-requires (
-  place-not-below t,
-  place-not.Post,
-  place-comparison-reads.Asked,
-  place-comparison-reads.Learnt,
-  place-exists-below t,
-  place-exists.Post,
-  place-pair-below t,
-  place-pair.Post,
-  place-null-reads.Asked,
-  place-null-reads.Learnt,
-  place-list-below t,
-  place-list.Post,
-) (place-at t) place.Post
+place-place-null-requires : (t : ℕ) → place-lts.Need-place-null-requires (place-claims t) (place-at t) place.Post
 place-place-null-requires t c κs =
     let o = c .before .before .before .before .before .before .before .before in
     let the-match = c .before .before .before .before .match in
@@ -250,20 +148,7 @@ place-place-null-requires t c κs =
     let the-if3 = c .before .if3 in
     (o .pre .1, null-kinds (o .pre .1) (the-if2 .left) (the-if3 .taken) (the-match .rest .0 .0 .1) (the-match .rest .0 .1))
 
-place-place-list-requires : (t : ℕ) → place-lts.Need-place-list-requires (
-  place-not-below t,
-  place-not.Post,
-  place-comparison-reads.Asked,
-  place-comparison-reads.Learnt,
-  place-exists-below t,
-  place-exists.Post,
-  place-pair-below t,
-  place-pair.Post,
-  place-null-reads.Asked,
-  place-null-reads.Learnt,
-  place-list-below t,
-  place-list.Post,
-) (place-at t) place.Post
+place-place-list-requires : (t : ℕ) → place-lts.Need-place-list-requires (place-claims t) (place-at t) place.Post
 place-place-list-requires t c κs =
     let o = c .before .before .before .before .before .before in
     let the-match = c .before .before .match in
@@ -276,219 +161,53 @@ place-place-list-requires t c κs =
       ),
     )
 
-place-returns : (t : ℕ) → place-lts.Need-returns (
-  place-not-below t,
-  place-not.Post,
-  place-comparison-reads.Asked,
-  place-comparison-reads.Learnt,
-  place-exists-below t,
-  place-exists.Post,
-  place-pair-below t,
-  place-pair.Post,
-  place-null-reads.Asked,
-  place-null-reads.Learnt,
-  place-list-below t,
-  place-list.Post,
-) (place-at t) place.Post
+place-returns : (t : ℕ) → place-lts.Need-returns (place-claims t) (place-at t) place.Post
 place-returns t c = c .place-not .ensures
 
-place-returns-2 : (t : ℕ) → place-lts.Need-returns-2 (
-  place-not-below t,
-  place-not.Post,
-  place-comparison-reads.Asked,
-  place-comparison-reads.Learnt,
-  place-exists-below t,
-  place-exists.Post,
-  place-pair-below t,
-  place-pair.Post,
-  place-null-reads.Asked,
-  place-null-reads.Learnt,
-  place-list-below t,
-  place-list.Post,
-) (place-at t) place.Post
+place-returns-2 : (t : ℕ) → place-lts.Need-returns-2 (place-claims t) (place-at t) place.Post
 place-returns-2 t c = c .place-comparison .ensures
 
-place-returns-3 : (t : ℕ) → place-lts.Need-returns-3 (
-  place-not-below t,
-  place-not.Post,
-  place-comparison-reads.Asked,
-  place-comparison-reads.Learnt,
-  place-exists-below t,
-  place-exists.Post,
-  place-pair-below t,
-  place-pair.Post,
-  place-null-reads.Asked,
-  place-null-reads.Learnt,
-  place-list-below t,
-  place-list.Post,
-) (place-at t) place.Post
+place-returns-3 : (t : ℕ) → place-lts.Need-returns-3 (place-claims t) (place-at t) place.Post
 place-returns-3 t c = c .place-exists .ensures
 
-place-returns-4 : (t : ℕ) → place-lts.Need-returns-4 (
-  place-not-below t,
-  place-not.Post,
-  place-comparison-reads.Asked,
-  place-comparison-reads.Learnt,
-  place-exists-below t,
-  place-exists.Post,
-  place-pair-below t,
-  place-pair.Post,
-  place-null-reads.Asked,
-  place-null-reads.Learnt,
-  place-list-below t,
-  place-list.Post,
-) (place-at t) place.Post
+place-returns-4 : (t : ℕ) → place-lts.Need-returns-4 (place-claims t) (place-at t) place.Post
 place-returns-4 t c = c .place-pair .ensures
 
-place-returns-5 : (t : ℕ) → place-lts.Need-returns-5 (
-  place-not-below t,
-  place-not.Post,
-  place-comparison-reads.Asked,
-  place-comparison-reads.Learnt,
-  place-exists-below t,
-  place-exists.Post,
-  place-pair-below t,
-  place-pair.Post,
-  place-null-reads.Asked,
-  place-null-reads.Learnt,
-  place-list-below t,
-  place-list.Post,
-) (place-at t) place.Post
+place-returns-5 : (t : ℕ) → place-lts.Need-returns-5 (place-claims t) (place-at t) place.Post
 place-returns-5 t c = c .place-null .ensures
 
-place-returns-6 : (t : ℕ) → place-lts.Need-returns-6 (
-  place-not-below t,
-  place-not.Post,
-  place-comparison-reads.Asked,
-  place-comparison-reads.Learnt,
-  place-exists-below t,
-  place-exists.Post,
-  place-pair-below t,
-  place-pair.Post,
-  place-null-reads.Asked,
-  place-null-reads.Learnt,
-  place-list-below t,
-  place-list.Post,
-) (place-at t) place.Post
+place-returns-6 : (t : ℕ) → place-lts.Need-returns-6 (place-claims t) (place-at t) place.Post
 place-returns-6 t c = c .place-list .ensures
 
-place-exists-sub-b : (t : ℕ) → place-exists-lts.Need-sub-b (
-  byte-reads.Asked,
-  byte-reads.Learnt,
-  find-numbered-reads.Asked,
-  find-numbered-reads.Learnt,
-  bind-reads.Asked,
-  bind-reads.Learnt,
-  place-below t,
-  place.Post,
-  put-part-reads.Asked,
-  put-part-reads.Learnt,
-) (place-exists-at t) place-exists.Post
+place-exists-sub-b : (t : ℕ) → place-exists-lts.Need-sub-b (place-exists-claims t) (place-exists-at t) place-exists.Post
 place-exists-sub-b t c =
     let o = c .before .before in
     has-notes (o .pre .1 .0) .0
 
-place-exists-mul-b : (t : ℕ) → place-exists-lts.Need-mul-b (
-  byte-reads.Asked,
-  byte-reads.Learnt,
-  find-numbered-reads.Asked,
-  find-numbered-reads.Learnt,
-  bind-reads.Asked,
-  bind-reads.Learnt,
-  place-below t,
-  place.Post,
-  put-part-reads.Asked,
-  put-part-reads.Learnt,
-) (place-exists-at t) place-exists.Post
+place-exists-mul-b : (t : ℕ) → place-exists-lts.Need-mul-b (place-exists-claims t) (place-exists-at t) place-exists.Post
 place-exists-mul-b t c = search needs
 
-place-exists-add-find-numbered : (t : ℕ) → place-exists-lts.Need-add-find-numbered (
-  byte-reads.Asked,
-  byte-reads.Learnt,
-  find-numbered-reads.Asked,
-  find-numbered-reads.Learnt,
-  bind-reads.Asked,
-  bind-reads.Learnt,
-  place-below t,
-  place.Post,
-  put-part-reads.Asked,
-  put-part-reads.Learnt,
-) (place-exists-at t) place-exists.Post
+place-exists-add-find-numbered : (t : ℕ) → place-exists-lts.Need-add-find-numbered (place-exists-claims t) (place-exists-at t) place-exists.Post
 place-exists-add-find-numbered t c = search needs
 
-place-exists-mul-find-numbered : (t : ℕ) → place-exists-lts.Need-mul-find-numbered (
-  byte-reads.Asked,
-  byte-reads.Learnt,
-  find-numbered-reads.Asked,
-  find-numbered-reads.Learnt,
-  bind-reads.Asked,
-  bind-reads.Learnt,
-  place-below t,
-  place.Post,
-  put-part-reads.Asked,
-  put-part-reads.Learnt,
-) (place-exists-at t) place-exists.Post
+place-exists-mul-find-numbered : (t : ℕ) → place-exists-lts.Need-mul-find-numbered (place-exists-claims t) (place-exists-at t) place-exists.Post
 place-exists-mul-find-numbered t c = search needs
 
 place-exists-shared-slice-read-find-numbered :
-    (t : ℕ) → place-exists-lts.Need-shared-slice-read-find-numbered (
-      byte-reads.Asked,
-      byte-reads.Learnt,
-      find-numbered-reads.Asked,
-      find-numbered-reads.Learnt,
-      bind-reads.Asked,
-      bind-reads.Learnt,
-      place-below t,
-      place.Post,
-      put-part-reads.Asked,
-      put-part-reads.Learnt,
-    ) (place-exists-at t) place-exists.Post
+    (t : ℕ) → place-exists-lts.Need-shared-slice-read-find-numbered (place-exists-claims t) (place-exists-at t) place-exists.Post
 place-exists-shared-slice-read-find-numbered t c = let z = note-room (c .before .before .before .pre .1 .0) in search needs
 
-place-exists-byte-requires : (t : ℕ) → place-exists-lts.Need-byte-requires (
-  byte-reads.Asked,
-  byte-reads.Learnt,
-  find-numbered-reads.Asked,
-  find-numbered-reads.Learnt,
-  bind-reads.Asked,
-  bind-reads.Learnt,
-  place-below t,
-  place.Post,
-  put-part-reads.Asked,
-  put-part-reads.Learnt,
-) (place-exists-at t) place-exists.Post
+place-exists-byte-requires : (t : ℕ) → place-exists-lts.Need-byte-requires (place-exists-claims t) (place-exists-at t) place-exists.Post
 place-exists-byte-requires t c κs =
     let o = c .before .before .before in
     file-long (o .pre .1 .0)
 
-place-exists-find-numbered-requires : (t : ℕ) → place-exists-lts.Need-find-numbered-requires (
-  byte-reads.Asked,
-  byte-reads.Learnt,
-  find-numbered-reads.Asked,
-  find-numbered-reads.Learnt,
-  bind-reads.Asked,
-  bind-reads.Learnt,
-  place-below t,
-  place.Post,
-  put-part-reads.Asked,
-  put-part-reads.Learnt,
-) (place-exists-at t) place-exists.Post
+place-exists-find-numbered-requires : (t : ℕ) → place-exists-lts.Need-find-numbered-requires (place-exists-claims t) (place-exists-at t) place-exists.Post
 place-exists-find-numbered-requires t c κs =
     let the-byte = c .byte in
     the-byte .ensures .1
 
-place-exists-returns : (t : ℕ) → place-exists-lts.Need-returns (
-  byte-reads.Asked,
-  byte-reads.Learnt,
-  find-numbered-reads.Asked,
-  find-numbered-reads.Learnt,
-  bind-reads.Asked,
-  bind-reads.Learnt,
-  place-below t,
-  place.Post,
-  put-part-reads.Asked,
-  put-part-reads.Learnt,
-) (place-exists-at t) place-exists.Post
+place-exists-returns : (t : ℕ) → place-exists-lts.Need-returns (place-exists-claims t) (place-exists-at t) place-exists.Post
 place-exists-returns t c =
     let o = c .before .before .before .before .before .before in
     let the-byte = c .before .before .byte in
@@ -496,106 +215,29 @@ place-exists-returns t c =
     let the-if1 = c .if1 in
     ((λ q. exists-unknown q (o .pre .1 .1) (the-byte .result) (the-byte .ensures .0) (the-find-numbered .result) (the-find-numbered .ensures .0) (the-if1 .taken)), o .pre .1 .0 .parts-size)
 
-place-exists-add-bind : (t : ℕ) → place-exists-lts.Need-add-bind (
-  byte-reads.Asked,
-  byte-reads.Learnt,
-  find-numbered-reads.Asked,
-  find-numbered-reads.Learnt,
-  bind-reads.Asked,
-  bind-reads.Learnt,
-  place-below t,
-  place.Post,
-  put-part-reads.Asked,
-  put-part-reads.Learnt,
-) (place-exists-at t) place-exists.Post
+place-exists-add-bind : (t : ℕ) → place-exists-lts.Need-add-bind (place-exists-claims t) (place-exists-at t) place-exists.Post
 place-exists-add-bind t c = search needs
 
-place-exists-mul-bind : (t : ℕ) → place-exists-lts.Need-mul-bind (
-  byte-reads.Asked,
-  byte-reads.Learnt,
-  find-numbered-reads.Asked,
-  find-numbered-reads.Learnt,
-  bind-reads.Asked,
-  bind-reads.Learnt,
-  place-below t,
-  place.Post,
-  put-part-reads.Asked,
-  put-part-reads.Learnt,
-) (place-exists-at t) place-exists.Post
+place-exists-mul-bind : (t : ℕ) → place-exists-lts.Need-mul-bind (place-exists-claims t) (place-exists-at t) place-exists.Post
 place-exists-mul-bind t c = search needs
 
-place-exists-shared-slice-read-bind : (t : ℕ) → place-exists-lts.Need-shared-slice-read-bind (
-  byte-reads.Asked,
-  byte-reads.Learnt,
-  find-numbered-reads.Asked,
-  find-numbered-reads.Learnt,
-  bind-reads.Asked,
-  bind-reads.Learnt,
-  place-below t,
-  place.Post,
-  put-part-reads.Asked,
-  put-part-reads.Learnt,
-) (place-exists-at t) place-exists.Post
+place-exists-shared-slice-read-bind : (t : ℕ) → place-exists-lts.Need-shared-slice-read-bind (place-exists-claims t) (place-exists-at t) place-exists.Post
 place-exists-shared-slice-read-bind t c = let z = note-room (c .before .before .before .before .before .before .before .pre .1 .0) in search needs
 
-place-exists-bind-requires : (t : ℕ) → place-exists-lts.Need-bind-requires (
-  byte-reads.Asked,
-  byte-reads.Learnt,
-  find-numbered-reads.Asked,
-  find-numbered-reads.Learnt,
-  bind-reads.Asked,
-  bind-reads.Learnt,
-  place-below t,
-  place.Post,
-  put-part-reads.Asked,
-  put-part-reads.Learnt,
-) (place-exists-at t) place-exists.Post
+place-exists-bind-requires : (t : ℕ) → place-exists-lts.Need-bind-requires (place-exists-claims t) (place-exists-at t) place-exists.Post
 place-exists-bind-requires t c κs =
     let o = c .before .before .before .before .before .before .before in
     (o .pre .1 .0 .scope-fits .size, exists-few (o .pre .1 .0) (o .pre .1 .1))
 
-place-exists-add-deeper : (t : ℕ) → place-exists-lts.Need-add-deeper (
-  byte-reads.Asked,
-  byte-reads.Learnt,
-  find-numbered-reads.Asked,
-  find-numbered-reads.Learnt,
-  bind-reads.Asked,
-  bind-reads.Learnt,
-  place-below t,
-  place.Post,
-  put-part-reads.Asked,
-  put-part-reads.Learnt,
-) (place-exists-at t) place-exists.Post
+place-exists-add-deeper : (t : ℕ) → place-exists-lts.Need-add-deeper (place-exists-claims t) (place-exists-at t) place-exists.Post
 place-exists-add-deeper t c = search needs
 
-place-exists-sub-place : (t : ℕ) → place-exists-lts.Need-sub-place (
-  byte-reads.Asked,
-  byte-reads.Learnt,
-  find-numbered-reads.Asked,
-  find-numbered-reads.Learnt,
-  bind-reads.Asked,
-  bind-reads.Learnt,
-  place-below t,
-  place.Post,
-  put-part-reads.Asked,
-  put-part-reads.Learnt,
-) (place-exists-at t) place-exists.Post
+place-exists-sub-place : (t : ℕ) → place-exists-lts.Need-sub-place (place-exists-claims t) (place-exists-at t) place-exists.Post
 place-exists-sub-place t c =
     let o = c .before .before .before .before .before .before .before .before in
     has-notes (o .pre .1 .0) .0
 
-place-exists-place-requires : (t : ℕ) → place-exists-lts.Need-place-requires (
-  byte-reads.Asked,
-  byte-reads.Learnt,
-  find-numbered-reads.Asked,
-  find-numbered-reads.Learnt,
-  bind-reads.Asked,
-  bind-reads.Learnt,
-  place-below t,
-  place.Post,
-  put-part-reads.Asked,
-  put-part-reads.Learnt,
-) (place-exists-at t) place-exists.Post
+place-exists-place-requires : (t : ℕ) → place-exists-lts.Need-place-requires (place-exists-claims t) (place-exists-at t) place-exists.Post
 place-exists-place-requires t c κs =
     let o = c .before .before .before .before .before .before .before .before .before .before in
     let the-byte = c .before .before .before .before .before .before .byte in
@@ -606,46 +248,13 @@ place-exists-place-requires t c κs =
     let z = has-notes (o .pre .1 .0) in
     (omega arith, exists-run (o .pre .1 .0) (o .pre .1 .1) (the-byte .result) (the-byte .ensures .0) (the-find-numbered .result) (the-find-numbered .ensures .0) (the-if1 .left) (the-find-numbered .ensures .1) (the-bind .result) (the-bind .ensures))
 
-place-exists-enum-known-inner : (t : ℕ) → place-exists-lts.Need-enum-known-inner (
-  byte-reads.Asked,
-  byte-reads.Learnt,
-  find-numbered-reads.Asked,
-  find-numbered-reads.Learnt,
-  bind-reads.Asked,
-  bind-reads.Learnt,
-  place-below t,
-  place.Post,
-  put-part-reads.Asked,
-  put-part-reads.Learnt,
-) (place-exists-at t) place-exists.Post
+place-exists-enum-known-inner : (t : ℕ) → place-exists-lts.Need-enum-known-inner (place-exists-claims t) (place-exists-at t) place-exists.Post
 place-exists-enum-known-inner t c = search needs
 
-place-exists-enum-told : (t : ℕ) → place-exists-lts.Need-enum-told (
-  byte-reads.Asked,
-  byte-reads.Learnt,
-  find-numbered-reads.Asked,
-  find-numbered-reads.Learnt,
-  bind-reads.Asked,
-  bind-reads.Learnt,
-  place-below t,
-  place.Post,
-  put-part-reads.Asked,
-  put-part-reads.Learnt,
-) (place-exists-at t) place-exists.Post
+place-exists-enum-told : (t : ℕ) → place-exists-lts.Need-enum-told (place-exists-claims t) (place-exists-at t) place-exists.Post
 place-exists-enum-told t c = search needs
 
-place-exists-returns-2 : (t : ℕ) → place-exists-lts.Need-returns-2 (
-  byte-reads.Asked,
-  byte-reads.Learnt,
-  find-numbered-reads.Asked,
-  find-numbered-reads.Learnt,
-  bind-reads.Asked,
-  bind-reads.Learnt,
-  place-below t,
-  place.Post,
-  put-part-reads.Asked,
-  put-part-reads.Learnt,
-) (place-exists-at t) place-exists.Post
+place-exists-returns-2 : (t : ℕ) → place-exists-lts.Need-returns-2 (place-exists-claims t) (place-exists-at t) place-exists.Post
 place-exists-returns-2 t c =
     let o = c .before .before .before .before .before .before .before .before .before .before .before .before .before in
     let the-byte = c .before .before .before .before .before .before .before .before .before .byte in
@@ -656,18 +265,7 @@ place-exists-returns-2 t c =
     let the-enum-told = c .enum-told in
     ((λ q. exists-missing q (o .pre .1 .1) (the-byte .result) (the-byte .ensures .0) (the-find-numbered .result) (the-find-numbered .ensures .0) (the-if1 .left) (the-find-numbered .ensures .1) (the-bind .result) (the-bind .ensures) (the-place .last .1 .1 .1 .0) (the-place .result) (the-place .ensures .0 (exists-run q (o .pre .1 .1) (the-byte .result) (the-byte .ensures .0) (the-find-numbered .result) (the-find-numbered .ensures .0) (the-if1 .left) (the-find-numbered .ensures .1) (the-bind .result) (the-bind .ensures))) (the-enum-told .given .1)), the-place .ensures .1)
 
-place-exists-sub-put-part : (t : ℕ) → place-exists-lts.Need-sub-put-part (
-  byte-reads.Asked,
-  byte-reads.Learnt,
-  find-numbered-reads.Asked,
-  find-numbered-reads.Learnt,
-  bind-reads.Asked,
-  bind-reads.Learnt,
-  place-below t,
-  place.Post,
-  put-part-reads.Asked,
-  put-part-reads.Learnt,
-) (place-exists-at t) place-exists.Post
+place-exists-sub-put-part : (t : ℕ) → place-exists-lts.Need-sub-put-part (place-exists-claims t) (place-exists-at t) place-exists.Post
 place-exists-sub-put-part t c =
     let o = c .before .before .before .before .before .before .before .before .before .before .before .before .before .before .before in
     let the-byte = c .before .before .before .before .before .before .before .before .before .before .before .byte in
@@ -678,18 +276,7 @@ place-exists-sub-put-part t c =
     let the-inner = c .before .before .inner in
     exists-room (o .pre .1 .0) (o .pre .1 .1) (the-byte .result) (the-byte .ensures .0) (the-find-numbered .result) (the-find-numbered .ensures .0) (the-if1 .left) (the-find-numbered .ensures .1) (the-bind .result) (the-bind .ensures) (the-place .last .1 .1 .1 .0) (the-place .result) (the-place .ensures .0 (exists-run (o .pre .1 .0) (o .pre .1 .1) (the-byte .result) (the-byte .ensures .0) (the-find-numbered .result) (the-find-numbered .ensures .0) (the-if1 .left) (the-find-numbered .ensures .1) (the-bind .result) (the-bind .ensures))) _ (the-inner .given .1) .0
 
-place-exists-put-part-requires : (t : ℕ) → place-exists-lts.Need-put-part-requires (
-  byte-reads.Asked,
-  byte-reads.Learnt,
-  find-numbered-reads.Asked,
-  find-numbered-reads.Learnt,
-  bind-reads.Asked,
-  bind-reads.Learnt,
-  place-below t,
-  place.Post,
-  put-part-reads.Asked,
-  put-part-reads.Learnt,
-) (place-exists-at t) place-exists.Post
+place-exists-put-part-requires : (t : ℕ) → place-exists-lts.Need-put-part-requires (place-exists-claims t) (place-exists-at t) place-exists.Post
 place-exists-put-part-requires t c κs =
     let o = c .before .before .before .before .before .before .before .before .before .before .before .before .before .before .before in
     let the-byte = c .before .before .before .before .before .before .before .before .before .before .before .byte in
@@ -701,18 +288,7 @@ place-exists-put-part-requires t c κs =
     let z = exists-room (o .pre .1 .0) (o .pre .1 .1) (the-byte .result) (the-byte .ensures .0) (the-find-numbered .result) (the-find-numbered .ensures .0) (the-if1 .left) (the-find-numbered .ensures .1) (the-bind .result) (the-bind .ensures) (the-place .last .1 .1 .1 .0) (the-place .result) (the-place .ensures .0 (exists-run (o .pre .1 .0) (o .pre .1 .1) (the-byte .result) (the-byte .ensures .0) (the-find-numbered .result) (the-find-numbered .ensures .0) (the-if1 .left) (the-find-numbered .ensures .1) (the-bind .result) (the-bind .ensures))) _ (the-inner .given .1) in
     (the-place .ensures .1, omega arith)
 
-place-exists-sub-t17 : (t : ℕ) → place-exists-lts.Need-sub-t17 (
-  byte-reads.Asked,
-  byte-reads.Learnt,
-  find-numbered-reads.Asked,
-  find-numbered-reads.Learnt,
-  bind-reads.Asked,
-  bind-reads.Learnt,
-  place-below t,
-  place.Post,
-  put-part-reads.Asked,
-  put-part-reads.Learnt,
-) (place-exists-at t) place-exists.Post
+place-exists-sub-t17 : (t : ℕ) → place-exists-lts.Need-sub-t17 (place-exists-claims t) (place-exists-at t) place-exists.Post
 place-exists-sub-t17 t c =
     let o = c .before .before .before .before .before .before .before .before .before .before .before .before .before .before .before .before in
     let the-byte = c .before .before .before .before .before .before .before .before .before .before .before .before .byte in
@@ -723,18 +299,7 @@ place-exists-sub-t17 t c =
     let the-inner = c .before .before .before .inner in
     exists-room (o .pre .1 .0) (o .pre .1 .1) (the-byte .result) (the-byte .ensures .0) (the-find-numbered .result) (the-find-numbered .ensures .0) (the-if1 .left) (the-find-numbered .ensures .1) (the-bind .result) (the-bind .ensures) (the-place .last .1 .1 .1 .0) (the-place .result) (the-place .ensures .0 (exists-run (o .pre .1 .0) (o .pre .1 .1) (the-byte .result) (the-byte .ensures .0) (the-find-numbered .result) (the-find-numbered .ensures .0) (the-if1 .left) (the-find-numbered .ensures .1) (the-bind .result) (the-bind .ensures))) _ (the-inner .given .1) .0
 
-place-exists-returns-3 : (t : ℕ) → place-exists-lts.Need-returns-3 (
-  byte-reads.Asked,
-  byte-reads.Learnt,
-  find-numbered-reads.Asked,
-  find-numbered-reads.Learnt,
-  bind-reads.Asked,
-  bind-reads.Learnt,
-  place-below t,
-  place.Post,
-  put-part-reads.Asked,
-  put-part-reads.Learnt,
-) (place-exists-at t) place-exists.Post
+place-exists-returns-3 : (t : ℕ) → place-exists-lts.Need-returns-3 (place-exists-claims t) (place-exists-at t) place-exists.Post
 place-exists-returns-3 t c =
     let o = c .before .before .before .before .before .before .before .before .before .before .before .before .before .before .before .before in
     let the-byte = c .before .before .before .before .before .before .before .before .before .before .before .before .byte in
@@ -746,139 +311,35 @@ place-exists-returns-3 t c =
     let the-put-part = c .put-part in
     ((λ q. exists-placed q (o .pre .1 .1) (the-byte .result) (the-byte .ensures .0) (the-find-numbered .result) (the-find-numbered .ensures .0) (the-if1 .left) (the-find-numbered .ensures .1) (the-bind .result) (the-bind .ensures) (the-place .last .1 .1 .1 .0) (the-place .result) (the-place .ensures .0 (exists-run q (o .pre .1 .1) (the-byte .result) (the-byte .ensures .0) (the-find-numbered .result) (the-find-numbered .ensures .0) (the-if1 .left) (the-find-numbered .ensures .1) (the-bind .result) (the-bind .ensures))) _ (the-inner .given .1) (the-put-part .last .0) (the-put-part .ensures .0)), the-put-part .ensures .1)
 
-place-list-sub-b : (t : ℕ) → place-list-lts.Need-sub-b (
-  byte-reads.Asked,
-  byte-reads.Learnt,
-  find-numbered-reads.Asked,
-  find-numbered-reads.Learnt,
-  bind-reads.Asked,
-  bind-reads.Learnt,
-  compared-part-reads.Asked,
-  compared-part-reads.Learnt,
-  place-below t,
-  place.Post,
-  put-part-reads.Asked,
-  put-part-reads.Learnt,
-) (place-list-at t) place-list.Post
+place-list-sub-b : (t : ℕ) → place-list-lts.Need-sub-b (place-list-claims t) (place-list-at t) place-list.Post
 place-list-sub-b t c =
     let o = c .before .before in
     has-notes (o .pre .1 .0) .0
 
-place-list-mul-b : (t : ℕ) → place-list-lts.Need-mul-b (
-  byte-reads.Asked,
-  byte-reads.Learnt,
-  find-numbered-reads.Asked,
-  find-numbered-reads.Learnt,
-  bind-reads.Asked,
-  bind-reads.Learnt,
-  compared-part-reads.Asked,
-  compared-part-reads.Learnt,
-  place-below t,
-  place.Post,
-  put-part-reads.Asked,
-  put-part-reads.Learnt,
-) (place-list-at t) place-list.Post
+place-list-mul-b : (t : ℕ) → place-list-lts.Need-mul-b (place-list-claims t) (place-list-at t) place-list.Post
 place-list-mul-b t c = search needs
 
-place-list-add-find-numbered : (t : ℕ) → place-list-lts.Need-add-find-numbered (
-  byte-reads.Asked,
-  byte-reads.Learnt,
-  find-numbered-reads.Asked,
-  find-numbered-reads.Learnt,
-  bind-reads.Asked,
-  bind-reads.Learnt,
-  compared-part-reads.Asked,
-  compared-part-reads.Learnt,
-  place-below t,
-  place.Post,
-  put-part-reads.Asked,
-  put-part-reads.Learnt,
-) (place-list-at t) place-list.Post
+place-list-add-find-numbered : (t : ℕ) → place-list-lts.Need-add-find-numbered (place-list-claims t) (place-list-at t) place-list.Post
 place-list-add-find-numbered t c = search needs
 
-place-list-mul-find-numbered : (t : ℕ) → place-list-lts.Need-mul-find-numbered (
-  byte-reads.Asked,
-  byte-reads.Learnt,
-  find-numbered-reads.Asked,
-  find-numbered-reads.Learnt,
-  bind-reads.Asked,
-  bind-reads.Learnt,
-  compared-part-reads.Asked,
-  compared-part-reads.Learnt,
-  place-below t,
-  place.Post,
-  put-part-reads.Asked,
-  put-part-reads.Learnt,
-) (place-list-at t) place-list.Post
+place-list-mul-find-numbered : (t : ℕ) → place-list-lts.Need-mul-find-numbered (place-list-claims t) (place-list-at t) place-list.Post
 place-list-mul-find-numbered t c = search needs
 
 place-list-shared-slice-read-find-numbered :
-    (t : ℕ) → place-list-lts.Need-shared-slice-read-find-numbered (
-      byte-reads.Asked,
-      byte-reads.Learnt,
-      find-numbered-reads.Asked,
-      find-numbered-reads.Learnt,
-      bind-reads.Asked,
-      bind-reads.Learnt,
-      compared-part-reads.Asked,
-      compared-part-reads.Learnt,
-      place-below t,
-      place.Post,
-      put-part-reads.Asked,
-      put-part-reads.Learnt,
-    ) (place-list-at t) place-list.Post
+    (t : ℕ) → place-list-lts.Need-shared-slice-read-find-numbered (place-list-claims t) (place-list-at t) place-list.Post
 place-list-shared-slice-read-find-numbered t c = let z = note-room (c .before .before .before .pre .1 .0) in search needs
 
-place-list-byte-requires : (t : ℕ) → place-list-lts.Need-byte-requires (
-  byte-reads.Asked,
-  byte-reads.Learnt,
-  find-numbered-reads.Asked,
-  find-numbered-reads.Learnt,
-  bind-reads.Asked,
-  bind-reads.Learnt,
-  compared-part-reads.Asked,
-  compared-part-reads.Learnt,
-  place-below t,
-  place.Post,
-  put-part-reads.Asked,
-  put-part-reads.Learnt,
-) (place-list-at t) place-list.Post
+place-list-byte-requires : (t : ℕ) → place-list-lts.Need-byte-requires (place-list-claims t) (place-list-at t) place-list.Post
 place-list-byte-requires t c κs =
     let o = c .before .before .before in
     file-long (o .pre .1 .0)
 
-place-list-find-numbered-requires : (t : ℕ) → place-list-lts.Need-find-numbered-requires (
-  byte-reads.Asked,
-  byte-reads.Learnt,
-  find-numbered-reads.Asked,
-  find-numbered-reads.Learnt,
-  bind-reads.Asked,
-  bind-reads.Learnt,
-  compared-part-reads.Asked,
-  compared-part-reads.Learnt,
-  place-below t,
-  place.Post,
-  put-part-reads.Asked,
-  put-part-reads.Learnt,
-) (place-list-at t) place-list.Post
+place-list-find-numbered-requires : (t : ℕ) → place-list-lts.Need-find-numbered-requires (place-list-claims t) (place-list-at t) place-list.Post
 place-list-find-numbered-requires t c κs =
     let the-byte = c .byte in
     the-byte .ensures .1
 
-place-list-returns : (t : ℕ) → place-list-lts.Need-returns (
-  byte-reads.Asked,
-  byte-reads.Learnt,
-  find-numbered-reads.Asked,
-  find-numbered-reads.Learnt,
-  bind-reads.Asked,
-  bind-reads.Learnt,
-  compared-part-reads.Asked,
-  compared-part-reads.Learnt,
-  place-below t,
-  place.Post,
-  put-part-reads.Asked,
-  put-part-reads.Learnt,
-) (place-list-at t) place-list.Post
+place-list-returns : (t : ℕ) → place-list-lts.Need-returns (place-list-claims t) (place-list-at t) place-list.Post
 place-list-returns t c =
     let o = c .before .before .before .before .before .before in
     let the-byte = c .before .before .byte in
@@ -886,102 +347,24 @@ place-list-returns t c =
     let the-if1 = c .if1 in
     ((λ q. list-unknown q (o .pre .1 .1) (the-byte .result) (the-byte .ensures .0) (the-find-numbered .result) (the-find-numbered .ensures .0) (the-if1 .taken)), o .pre .1 .0 .parts-size)
 
-place-list-add-bind : (t : ℕ) → place-list-lts.Need-add-bind (
-  byte-reads.Asked,
-  byte-reads.Learnt,
-  find-numbered-reads.Asked,
-  find-numbered-reads.Learnt,
-  bind-reads.Asked,
-  bind-reads.Learnt,
-  compared-part-reads.Asked,
-  compared-part-reads.Learnt,
-  place-below t,
-  place.Post,
-  put-part-reads.Asked,
-  put-part-reads.Learnt,
-) (place-list-at t) place-list.Post
+place-list-add-bind : (t : ℕ) → place-list-lts.Need-add-bind (place-list-claims t) (place-list-at t) place-list.Post
 place-list-add-bind t c = search needs
 
-place-list-mul-bind : (t : ℕ) → place-list-lts.Need-mul-bind (
-  byte-reads.Asked,
-  byte-reads.Learnt,
-  find-numbered-reads.Asked,
-  find-numbered-reads.Learnt,
-  bind-reads.Asked,
-  bind-reads.Learnt,
-  compared-part-reads.Asked,
-  compared-part-reads.Learnt,
-  place-below t,
-  place.Post,
-  put-part-reads.Asked,
-  put-part-reads.Learnt,
-) (place-list-at t) place-list.Post
+place-list-mul-bind : (t : ℕ) → place-list-lts.Need-mul-bind (place-list-claims t) (place-list-at t) place-list.Post
 place-list-mul-bind t c = search needs
 
-place-list-shared-slice-read-bind : (t : ℕ) → place-list-lts.Need-shared-slice-read-bind (
-  byte-reads.Asked,
-  byte-reads.Learnt,
-  find-numbered-reads.Asked,
-  find-numbered-reads.Learnt,
-  bind-reads.Asked,
-  bind-reads.Learnt,
-  compared-part-reads.Asked,
-  compared-part-reads.Learnt,
-  place-below t,
-  place.Post,
-  put-part-reads.Asked,
-  put-part-reads.Learnt,
-) (place-list-at t) place-list.Post
+place-list-shared-slice-read-bind : (t : ℕ) → place-list-lts.Need-shared-slice-read-bind (place-list-claims t) (place-list-at t) place-list.Post
 place-list-shared-slice-read-bind t c = let z = note-room (c .before .before .before .before .before .before .before .pre .1 .0) in search needs
 
-place-list-bind-requires : (t : ℕ) → place-list-lts.Need-bind-requires (
-  byte-reads.Asked,
-  byte-reads.Learnt,
-  find-numbered-reads.Asked,
-  find-numbered-reads.Learnt,
-  bind-reads.Asked,
-  bind-reads.Learnt,
-  compared-part-reads.Asked,
-  compared-part-reads.Learnt,
-  place-below t,
-  place.Post,
-  put-part-reads.Asked,
-  put-part-reads.Learnt,
-) (place-list-at t) place-list.Post
+place-list-bind-requires : (t : ℕ) → place-list-lts.Need-bind-requires (place-list-claims t) (place-list-at t) place-list.Post
 place-list-bind-requires t c κs =
     let o = c .before .before .before .before .before .before .before in
     (o .pre .1 .0 .scope-fits .size, list-few (o .pre .1 .0) (o .pre .1 .1))
 
-place-list-add-deeper : (t : ℕ) → place-list-lts.Need-add-deeper (
-  byte-reads.Asked,
-  byte-reads.Learnt,
-  find-numbered-reads.Asked,
-  find-numbered-reads.Learnt,
-  bind-reads.Asked,
-  bind-reads.Learnt,
-  compared-part-reads.Asked,
-  compared-part-reads.Learnt,
-  place-below t,
-  place.Post,
-  put-part-reads.Asked,
-  put-part-reads.Learnt,
-) (place-list-at t) place-list.Post
+place-list-add-deeper : (t : ℕ) → place-list-lts.Need-add-deeper (place-list-claims t) (place-list-at t) place-list.Post
 place-list-add-deeper t c = search needs
 
-place-list-compared-part-requires : (t : ℕ) → place-list-lts.Need-compared-part-requires (
-  byte-reads.Asked,
-  byte-reads.Learnt,
-  find-numbered-reads.Asked,
-  find-numbered-reads.Learnt,
-  bind-reads.Asked,
-  bind-reads.Learnt,
-  compared-part-reads.Asked,
-  compared-part-reads.Learnt,
-  place-below t,
-  place.Post,
-  put-part-reads.Asked,
-  put-part-reads.Learnt,
-) (place-list-at t) place-list.Post
+place-list-compared-part-requires : (t : ℕ) → place-list-lts.Need-compared-part-requires (place-list-claims t) (place-list-at t) place-list.Post
 place-list-compared-part-requires t c κs =
     let o = c .before .before .before .before .before .before .before .before .before in
     let the-byte = c .before .before .before .before .before .byte in
@@ -990,52 +373,13 @@ place-list-compared-part-requires t c κs =
     let the-bind = c .before .bind in
     (o .pre .1 .0 .sized, (note-room (o .pre .1 .0), (list-fits (o .pre .1 .0) (o .pre .1 .1) (the-byte .result) (the-byte .ensures .0) (the-find-numbered .result) (the-find-numbered .ensures .0) (the-if1 .left) (the-find-numbered .ensures .1) (the-bind .result) (the-bind .ensures) _ (omega arith), omega arith)))
 
-place-list-enum-known-part : (t : ℕ) → place-list-lts.Need-enum-known-part (
-  byte-reads.Asked,
-  byte-reads.Learnt,
-  find-numbered-reads.Asked,
-  find-numbered-reads.Learnt,
-  bind-reads.Asked,
-  bind-reads.Learnt,
-  compared-part-reads.Asked,
-  compared-part-reads.Learnt,
-  place-below t,
-  place.Post,
-  put-part-reads.Asked,
-  put-part-reads.Learnt,
-) (place-list-at t) place-list.Post
+place-list-enum-known-part : (t : ℕ) → place-list-lts.Need-enum-known-part (place-list-claims t) (place-list-at t) place-list.Post
 place-list-enum-known-part t c = search needs
 
-place-list-enum-told : (t : ℕ) → place-list-lts.Need-enum-told (
-  byte-reads.Asked,
-  byte-reads.Learnt,
-  find-numbered-reads.Asked,
-  find-numbered-reads.Learnt,
-  bind-reads.Asked,
-  bind-reads.Learnt,
-  compared-part-reads.Asked,
-  compared-part-reads.Learnt,
-  place-below t,
-  place.Post,
-  put-part-reads.Asked,
-  put-part-reads.Learnt,
-) (place-list-at t) place-list.Post
+place-list-enum-told : (t : ℕ) → place-list-lts.Need-enum-told (place-list-claims t) (place-list-at t) place-list.Post
 place-list-enum-told t c = search needs
 
-place-list-returns-2 : (t : ℕ) → place-list-lts.Need-returns-2 (
-  byte-reads.Asked,
-  byte-reads.Learnt,
-  find-numbered-reads.Asked,
-  find-numbered-reads.Learnt,
-  bind-reads.Asked,
-  bind-reads.Learnt,
-  compared-part-reads.Asked,
-  compared-part-reads.Learnt,
-  place-below t,
-  place.Post,
-  put-part-reads.Asked,
-  put-part-reads.Learnt,
-) (place-list-at t) place-list.Post
+place-list-returns-2 : (t : ℕ) → place-list-lts.Need-returns-2 (place-list-claims t) (place-list-at t) place-list.Post
 place-list-returns-2 t c =
     let o = c .before .before .before .before .before .before .before .before .before .before .before .before in
     let the-byte = c .before .before .before .before .before .before .before .before .byte in
@@ -1046,38 +390,12 @@ place-list-returns-2 t c =
     let the-enum-told = c .enum-told in
     ((λ q. list-values-missing q (o .pre .1 .1) (the-byte .result) (the-byte .ensures .0) (the-find-numbered .result) (the-find-numbered .ensures .0) (the-if1 .left) (the-find-numbered .ensures .1) (the-bind .result) (the-bind .ensures) (the-compared-part .result) (the-compared-part .ensures) (the-enum-told .given .1)), o .pre .1 .0 .parts-size)
 
-place-list-sub-place : (t : ℕ) → place-list-lts.Need-sub-place (
-  byte-reads.Asked,
-  byte-reads.Learnt,
-  find-numbered-reads.Asked,
-  find-numbered-reads.Learnt,
-  bind-reads.Asked,
-  bind-reads.Learnt,
-  compared-part-reads.Asked,
-  compared-part-reads.Learnt,
-  place-below t,
-  place.Post,
-  put-part-reads.Asked,
-  put-part-reads.Learnt,
-) (place-list-at t) place-list.Post
+place-list-sub-place : (t : ℕ) → place-list-lts.Need-sub-place (place-list-claims t) (place-list-at t) place-list.Post
 place-list-sub-place t c =
     let o = c .before .before .before .before .before .before .before .before .before .before .before .before .before in
     has-notes (o .pre .1 .0) .0
 
-place-list-place-requires : (t : ℕ) → place-list-lts.Need-place-requires (
-  byte-reads.Asked,
-  byte-reads.Learnt,
-  find-numbered-reads.Asked,
-  find-numbered-reads.Learnt,
-  bind-reads.Asked,
-  bind-reads.Learnt,
-  compared-part-reads.Asked,
-  compared-part-reads.Learnt,
-  place-below t,
-  place.Post,
-  put-part-reads.Asked,
-  put-part-reads.Learnt,
-) (place-list-at t) place-list.Post
+place-list-place-requires : (t : ℕ) → place-list-lts.Need-place-requires (place-list-claims t) (place-list-at t) place-list.Post
 place-list-place-requires t c κs =
     let o = c .before .before .before .before .before .before .before .before .before .before .before .before .before .before .before in
     let the-byte = c .before .before .before .before .before .before .before .before .before .before .before .byte in
@@ -1088,52 +406,13 @@ place-list-place-requires t c κs =
     let z = has-notes (o .pre .1 .0) in
     (omega arith, list-run (o .pre .1 .0) (o .pre .1 .1) (the-byte .result) (the-byte .ensures .0) (the-find-numbered .result) (the-find-numbered .ensures .0) (the-if1 .left) (the-find-numbered .ensures .1) (the-bind .result) (the-bind .ensures))
 
-place-list-enum-known-inner : (t : ℕ) → place-list-lts.Need-enum-known-inner (
-  byte-reads.Asked,
-  byte-reads.Learnt,
-  find-numbered-reads.Asked,
-  find-numbered-reads.Learnt,
-  bind-reads.Asked,
-  bind-reads.Learnt,
-  compared-part-reads.Asked,
-  compared-part-reads.Learnt,
-  place-below t,
-  place.Post,
-  put-part-reads.Asked,
-  put-part-reads.Learnt,
-) (place-list-at t) place-list.Post
+place-list-enum-known-inner : (t : ℕ) → place-list-lts.Need-enum-known-inner (place-list-claims t) (place-list-at t) place-list.Post
 place-list-enum-known-inner t c = search needs
 
-place-list-enum-told-2 : (t : ℕ) → place-list-lts.Need-enum-told-2 (
-  byte-reads.Asked,
-  byte-reads.Learnt,
-  find-numbered-reads.Asked,
-  find-numbered-reads.Learnt,
-  bind-reads.Asked,
-  bind-reads.Learnt,
-  compared-part-reads.Asked,
-  compared-part-reads.Learnt,
-  place-below t,
-  place.Post,
-  put-part-reads.Asked,
-  put-part-reads.Learnt,
-) (place-list-at t) place-list.Post
+place-list-enum-told-2 : (t : ℕ) → place-list-lts.Need-enum-told-2 (place-list-claims t) (place-list-at t) place-list.Post
 place-list-enum-told-2 t c = search needs
 
-place-list-returns-3 : (t : ℕ) → place-list-lts.Need-returns-3 (
-  byte-reads.Asked,
-  byte-reads.Learnt,
-  find-numbered-reads.Asked,
-  find-numbered-reads.Learnt,
-  bind-reads.Asked,
-  bind-reads.Learnt,
-  compared-part-reads.Asked,
-  compared-part-reads.Learnt,
-  place-below t,
-  place.Post,
-  put-part-reads.Asked,
-  put-part-reads.Learnt,
-) (place-list-at t) place-list.Post
+place-list-returns-3 : (t : ℕ) → place-list-lts.Need-returns-3 (place-list-claims t) (place-list-at t) place-list.Post
 place-list-returns-3 t c =
     let o = c .before .before .before .before .before .before .before .before .before .before .before .before .before .before .before .before .before .before in
     let the-byte = c .before .before .before .before .before .before .before .before .before .before .before .before .before .before .byte in
@@ -1146,20 +425,7 @@ place-list-returns-3 t c =
     let the-enum-told2 = c .enum-told2 in
     ((λ q. list-missing q (o .pre .1 .1) (the-byte .result) (the-byte .ensures .0) (the-find-numbered .result) (the-find-numbered .ensures .0) (the-if1 .left) (the-find-numbered .ensures .1) (the-bind .result) (the-bind .ensures) (the-compared-part .result) (the-compared-part .ensures) _ (the-part .given .1) (the-place .last .1 .1 .1 .0) (the-place .result) (the-place .ensures .0 (list-run q (o .pre .1 .1) (the-byte .result) (the-byte .ensures .0) (the-find-numbered .result) (the-find-numbered .ensures .0) (the-if1 .left) (the-find-numbered .ensures .1) (the-bind .result) (the-bind .ensures))) (the-enum-told2 .given .1)), the-place .ensures .1)
 
-place-list-sub-put-part : (t : ℕ) → place-list-lts.Need-sub-put-part (
-  byte-reads.Asked,
-  byte-reads.Learnt,
-  find-numbered-reads.Asked,
-  find-numbered-reads.Learnt,
-  bind-reads.Asked,
-  bind-reads.Learnt,
-  compared-part-reads.Asked,
-  compared-part-reads.Learnt,
-  place-below t,
-  place.Post,
-  put-part-reads.Asked,
-  put-part-reads.Learnt,
-) (place-list-at t) place-list.Post
+place-list-sub-put-part : (t : ℕ) → place-list-lts.Need-sub-put-part (place-list-claims t) (place-list-at t) place-list.Post
 place-list-sub-put-part t c =
     let o = c .before .before .before .before .before .before .before .before .before .before .before .before .before .before .before .before .before .before .before .before in
     let the-byte = c .before .before .before .before .before .before .before .before .before .before .before .before .before .before .before .before .byte in
@@ -1172,20 +438,7 @@ place-list-sub-put-part t c =
     let the-inner = c .before .before .inner in
     list-room (o .pre .1 .0) (o .pre .1 .1) (the-byte .result) (the-byte .ensures .0) (the-find-numbered .result) (the-find-numbered .ensures .0) (the-if1 .left) (the-find-numbered .ensures .1) (the-bind .result) (the-bind .ensures) (the-compared-part .result) (the-compared-part .ensures) _ (the-part .given .1) (the-place .last .1 .1 .1 .0) (the-place .result) (the-place .ensures .0 (list-run (o .pre .1 .0) (o .pre .1 .1) (the-byte .result) (the-byte .ensures .0) (the-find-numbered .result) (the-find-numbered .ensures .0) (the-if1 .left) (the-find-numbered .ensures .1) (the-bind .result) (the-bind .ensures))) _ (the-inner .given .1) .0
 
-place-list-put-part-requires : (t : ℕ) → place-list-lts.Need-put-part-requires (
-  byte-reads.Asked,
-  byte-reads.Learnt,
-  find-numbered-reads.Asked,
-  find-numbered-reads.Learnt,
-  bind-reads.Asked,
-  bind-reads.Learnt,
-  compared-part-reads.Asked,
-  compared-part-reads.Learnt,
-  place-below t,
-  place.Post,
-  put-part-reads.Asked,
-  put-part-reads.Learnt,
-) (place-list-at t) place-list.Post
+place-list-put-part-requires : (t : ℕ) → place-list-lts.Need-put-part-requires (place-list-claims t) (place-list-at t) place-list.Post
 place-list-put-part-requires t c κs =
     let o = c .before .before .before .before .before .before .before .before .before .before .before .before .before .before .before .before .before .before .before .before in
     let the-byte = c .before .before .before .before .before .before .before .before .before .before .before .before .before .before .before .before .byte in
@@ -1199,20 +452,7 @@ place-list-put-part-requires t c κs =
     let z = list-room (o .pre .1 .0) (o .pre .1 .1) (the-byte .result) (the-byte .ensures .0) (the-find-numbered .result) (the-find-numbered .ensures .0) (the-if1 .left) (the-find-numbered .ensures .1) (the-bind .result) (the-bind .ensures) (the-compared-part .result) (the-compared-part .ensures) _ (the-part .given .1) (the-place .last .1 .1 .1 .0) (the-place .result) (the-place .ensures .0 (list-run (o .pre .1 .0) (o .pre .1 .1) (the-byte .result) (the-byte .ensures .0) (the-find-numbered .result) (the-find-numbered .ensures .0) (the-if1 .left) (the-find-numbered .ensures .1) (the-bind .result) (the-bind .ensures))) _ (the-inner .given .1) in
     (the-place .ensures .1, omega arith)
 
-place-list-sub-t17 : (t : ℕ) → place-list-lts.Need-sub-t17 (
-  byte-reads.Asked,
-  byte-reads.Learnt,
-  find-numbered-reads.Asked,
-  find-numbered-reads.Learnt,
-  bind-reads.Asked,
-  bind-reads.Learnt,
-  compared-part-reads.Asked,
-  compared-part-reads.Learnt,
-  place-below t,
-  place.Post,
-  put-part-reads.Asked,
-  put-part-reads.Learnt,
-) (place-list-at t) place-list.Post
+place-list-sub-t17 : (t : ℕ) → place-list-lts.Need-sub-t17 (place-list-claims t) (place-list-at t) place-list.Post
 place-list-sub-t17 t c =
     let o = c .before .before .before .before .before .before .before .before .before .before .before .before .before .before .before .before .before .before .before .before .before in
     let the-byte = c .before .before .before .before .before .before .before .before .before .before .before .before .before .before .before .before .before .byte in
@@ -1225,20 +465,7 @@ place-list-sub-t17 t c =
     let the-inner = c .before .before .before .inner in
     list-room (o .pre .1 .0) (o .pre .1 .1) (the-byte .result) (the-byte .ensures .0) (the-find-numbered .result) (the-find-numbered .ensures .0) (the-if1 .left) (the-find-numbered .ensures .1) (the-bind .result) (the-bind .ensures) (the-compared-part .result) (the-compared-part .ensures) _ (the-part .given .1) (the-place .last .1 .1 .1 .0) (the-place .result) (the-place .ensures .0 (list-run (o .pre .1 .0) (o .pre .1 .1) (the-byte .result) (the-byte .ensures .0) (the-find-numbered .result) (the-find-numbered .ensures .0) (the-if1 .left) (the-find-numbered .ensures .1) (the-bind .result) (the-bind .ensures))) _ (the-inner .given .1) .0
 
-place-list-returns-4 : (t : ℕ) → place-list-lts.Need-returns-4 (
-  byte-reads.Asked,
-  byte-reads.Learnt,
-  find-numbered-reads.Asked,
-  find-numbered-reads.Learnt,
-  bind-reads.Asked,
-  bind-reads.Learnt,
-  compared-part-reads.Asked,
-  compared-part-reads.Learnt,
-  place-below t,
-  place.Post,
-  put-part-reads.Asked,
-  put-part-reads.Learnt,
-) (place-list-at t) place-list.Post
+place-list-returns-4 : (t : ℕ) → place-list-lts.Need-returns-4 (place-list-claims t) (place-list-at t) place-list.Post
 place-list-returns-4 t c =
     let o = c .before .before .before .before .before .before .before .before .before .before .before .before .before .before .before .before .before .before .before .before .before in
     let the-byte = c .before .before .before .before .before .before .before .before .before .before .before .before .before .before .before .before .before .byte in
@@ -1252,97 +479,41 @@ place-list-returns-4 t c =
     let the-put-part = c .put-part in
     ((λ q. list-placed q (o .pre .1 .1) (the-byte .result) (the-byte .ensures .0) (the-find-numbered .result) (the-find-numbered .ensures .0) (the-if1 .left) (the-find-numbered .ensures .1) (the-bind .result) (the-bind .ensures) (the-compared-part .result) (the-compared-part .ensures) _ (the-part .given .1) (the-place .last .1 .1 .1 .0) (the-place .result) (the-place .ensures .0 (list-run q (o .pre .1 .1) (the-byte .result) (the-byte .ensures .0) (the-find-numbered .result) (the-find-numbered .ensures .0) (the-if1 .left) (the-find-numbered .ensures .1) (the-bind .result) (the-bind .ensures))) _ (the-inner .given .1) (the-put-part .last .0) (the-put-part .ensures .0)), the-put-part .ensures .1)
 
-place-not-sub-place : (t : ℕ) → place-not-lts.Need-sub-place (
-  place-below t,
-  place.Post,
-  plain-part-reads.Asked,
-  plain-part-reads.Learnt,
-  put-part-reads.Asked,
-  put-part-reads.Learnt,
-) (place-not-at t) place-not.Post
+place-not-sub-place : (t : ℕ) → place-not-lts.Need-sub-place (place-not-claims t) (place-not-at t) place-not.Post
 place-not-sub-place t c = has-notes (c .before .before .pre .1 .0) .0
 
-place-not-place-requires : (t : ℕ) → place-not-lts.Need-place-requires (
-  place-below t,
-  place.Post,
-  plain-part-reads.Asked,
-  plain-part-reads.Learnt,
-  put-part-reads.Asked,
-  put-part-reads.Learnt,
-) (place-not-at t) place-not.Post
+place-not-place-requires : (t : ℕ) → place-not-lts.Need-place-requires (place-not-claims t) (place-not-at t) place-not.Post
 place-not-place-requires t c κs =
     let o = c .before .before .before in
     let m = o .pre .0 in
     let z = has-notes (o .pre .1 .0) in
     (omega arith, not-run (o .pre .1 .0) (o .pre .1 .1))
 
-place-not-enum-known-inner : (t : ℕ) → place-not-lts.Need-enum-known-inner (
-  place-below t,
-  place.Post,
-  plain-part-reads.Asked,
-  plain-part-reads.Learnt,
-  put-part-reads.Asked,
-  put-part-reads.Learnt,
-) (place-not-at t) place-not.Post
+place-not-enum-known-inner : (t : ℕ) → place-not-lts.Need-enum-known-inner (place-not-claims t) (place-not-at t) place-not.Post
 place-not-enum-known-inner t c = search needs
 
-place-not-enum-told : (t : ℕ) → place-not-lts.Need-enum-told (
-  place-below t,
-  place.Post,
-  plain-part-reads.Asked,
-  plain-part-reads.Learnt,
-  put-part-reads.Asked,
-  put-part-reads.Learnt,
-) (place-not-at t) place-not.Post
+place-not-enum-told : (t : ℕ) → place-not-lts.Need-enum-told (place-not-claims t) (place-not-at t) place-not.Post
 place-not-enum-told t c = search needs
 
-place-not-returns : (t : ℕ) → place-not-lts.Need-returns (
-  place-below t,
-  place.Post,
-  plain-part-reads.Asked,
-  plain-part-reads.Learnt,
-  put-part-reads.Asked,
-  put-part-reads.Learnt,
-) (place-not-at t) place-not.Post
+place-not-returns : (t : ℕ) → place-not-lts.Need-returns (place-not-claims t) (place-not-at t) place-not.Post
 place-not-returns t c =
     let o = c .before .before .before .before .before .before in
     let the-place = c .before .before .place in
     let the-enum-told = c .enum-told in
     ((λ q. not-missing q (o .pre .1 .1) (the-place .last .1 .1 .1 .0) (the-place .result) (the-place .ensures .0 (not-run q (o .pre .1 .1))) (the-enum-told .given .1)), the-place .ensures .1)
 
-place-not-sub-put-part : (t : ℕ) → place-not-lts.Need-sub-put-part (
-  place-below t,
-  place.Post,
-  plain-part-reads.Asked,
-  plain-part-reads.Learnt,
-  put-part-reads.Asked,
-  put-part-reads.Learnt,
-) (place-not-at t) place-not.Post
+place-not-sub-put-part : (t : ℕ) → place-not-lts.Need-sub-put-part (place-not-claims t) (place-not-at t) place-not.Post
 place-not-sub-put-part t c =
     let o = c .before .before .before .before .before .before .before .before in
     let the-place = c .before .before .before .before .place in
     let the-inner = c .before .before .inner in
     not-room (o .pre .1 .0) (o .pre .1 .1) (the-place .last .1 .1 .1 .0) (the-place .result) (the-place .ensures .0 (not-run (o .pre .1 .0) (o .pre .1 .1))) _ (the-inner .given .1) .0
 
-place-not-plain-part-requires : (t : ℕ) → place-not-lts.Need-plain-part-requires (
-  place-below t,
-  place.Post,
-  plain-part-reads.Asked,
-  plain-part-reads.Learnt,
-  put-part-reads.Asked,
-  put-part-reads.Learnt,
-) (place-not-at t) place-not.Post
+place-not-plain-part-requires : (t : ℕ) → place-not-lts.Need-plain-part-requires (place-not-claims t) (place-not-at t) place-not.Post
 place-not-plain-part-requires t c κs =
     tt
 
-place-not-put-part-requires : (t : ℕ) → place-not-lts.Need-put-part-requires (
-  place-below t,
-  place.Post,
-  plain-part-reads.Asked,
-  plain-part-reads.Learnt,
-  put-part-reads.Asked,
-  put-part-reads.Learnt,
-) (place-not-at t) place-not.Post
+place-not-put-part-requires : (t : ℕ) → place-not-lts.Need-put-part-requires (place-not-claims t) (place-not-at t) place-not.Post
 place-not-put-part-requires t c κs =
     let o = c .before .before .before .before .before .before .before .before .before in
     let the-place = c .before .before .before .before .before .place in
@@ -1350,28 +521,14 @@ place-not-put-part-requires t c κs =
     let z = not-room (o .pre .1 .0) (o .pre .1 .1) (the-place .last .1 .1 .1 .0) (the-place .result) (the-place .ensures .0 (not-run (o .pre .1 .0) (o .pre .1 .1))) _ (the-inner .given .1) in
     (the-place .ensures .1, omega arith)
 
-place-not-sub-t10 : (t : ℕ) → place-not-lts.Need-sub-t10 (
-  place-below t,
-  place.Post,
-  plain-part-reads.Asked,
-  plain-part-reads.Learnt,
-  put-part-reads.Asked,
-  put-part-reads.Learnt,
-) (place-not-at t) place-not.Post
+place-not-sub-t10 : (t : ℕ) → place-not-lts.Need-sub-t10 (place-not-claims t) (place-not-at t) place-not.Post
 place-not-sub-t10 t c =
     let o = c .before .before .before .before .before .before .before .before .before .before in
     let the-place = c .before .before .before .before .before .before .place in
     let the-inner = c .before .before .before .before .inner in
     not-room (o .pre .1 .0) (o .pre .1 .1) (the-place .last .1 .1 .1 .0) (the-place .result) (the-place .ensures .0 (not-run (o .pre .1 .0) (o .pre .1 .1))) _ (the-inner .given .1) .0
 
-place-not-returns-2 : (t : ℕ) → place-not-lts.Need-returns-2 (
-  place-below t,
-  place.Post,
-  plain-part-reads.Asked,
-  plain-part-reads.Learnt,
-  put-part-reads.Asked,
-  put-part-reads.Learnt,
-) (place-not-at t) place-not.Post
+place-not-returns-2 : (t : ℕ) → place-not-lts.Need-returns-2 (place-not-claims t) (place-not-at t) place-not.Post
 place-not-returns-2 t c =
     let o = c .before .before .before .before .before .before .before .before .before .before in
     let the-place = c .before .before .before .before .before .before .place in
@@ -1380,150 +537,59 @@ place-not-returns-2 t c =
     let the-put-part = c .put-part in
     ((λ q. not-placed q (o .pre .1 .1) (the-place .last .1 .1 .1 .0) (the-place .result) (the-place .ensures .0 (not-run q (o .pre .1 .1))) _ (the-inner .given .1) (the-put-part .last .0) _ (the-plain-part .ensures) (the-put-part .ensures .0)), the-put-part .ensures .1)
 
-place-pair-sub-kind : (t : ℕ) → place-pair-lts.Need-sub-kind (
-  place-below t,
-  place.Post,
-  plain-part-reads.Asked,
-  plain-part-reads.Learnt,
-  put-part-reads.Asked,
-  put-part-reads.Learnt,
-) (place-pair-at t) place-pair.Post
+place-pair-sub-kind : (t : ℕ) → place-pair-lts.Need-sub-kind (place-pair-claims t) (place-pair-at t) place-pair.Post
 place-pair-sub-kind t c = has-notes (c .before .before .pre .1 .0) .0
 
-place-pair-mul-kind : (t : ℕ) → place-pair-lts.Need-mul-kind (
-  place-below t,
-  place.Post,
-  plain-part-reads.Asked,
-  plain-part-reads.Learnt,
-  put-part-reads.Asked,
-  put-part-reads.Learnt,
-) (place-pair-at t) place-pair.Post
+place-pair-mul-kind : (t : ℕ) → place-pair-lts.Need-mul-kind (place-pair-claims t) (place-pair-at t) place-pair.Post
 place-pair-mul-kind t c = search needs
 
-place-pair-mul-kind-2 : (t : ℕ) → place-pair-lts.Need-mul-kind-2 (
-  place-below t,
-  place.Post,
-  plain-part-reads.Asked,
-  plain-part-reads.Learnt,
-  put-part-reads.Asked,
-  put-part-reads.Learnt,
-) (place-pair-at t) place-pair.Post
+place-pair-mul-kind-2 : (t : ℕ) → place-pair-lts.Need-mul-kind-2 (place-pair-claims t) (place-pair-at t) place-pair.Post
 place-pair-mul-kind-2 t c = search needs
 
-place-pair-shared-slice-read-kind : (t : ℕ) → place-pair-lts.Need-shared-slice-read-kind (
-  place-below t,
-  place.Post,
-  plain-part-reads.Asked,
-  plain-part-reads.Learnt,
-  put-part-reads.Asked,
-  put-part-reads.Learnt,
-) (place-pair-at t) place-pair.Post
+place-pair-shared-slice-read-kind : (t : ℕ) → place-pair-lts.Need-shared-slice-read-kind (place-pair-claims t) (place-pair-at t) place-pair.Post
 place-pair-shared-slice-read-kind t c = let z = note-room (c .before .before .before .pre .1 .0) in search needs
 
-place-pair-sub-place : (t : ℕ) → place-pair-lts.Need-sub-place (
-  place-below t,
-  place.Post,
-  plain-part-reads.Asked,
-  plain-part-reads.Learnt,
-  put-part-reads.Asked,
-  put-part-reads.Learnt,
-) (place-pair-at t) place-pair.Post
+place-pair-sub-place : (t : ℕ) → place-pair-lts.Need-sub-place (place-pair-claims t) (place-pair-at t) place-pair.Post
 place-pair-sub-place t c = has-notes (c .before .before .before .pre .1 .0) .0
 
-place-pair-place-requires : (t : ℕ) → place-pair-lts.Need-place-requires (
-  place-below t,
-  place.Post,
-  plain-part-reads.Asked,
-  plain-part-reads.Learnt,
-  put-part-reads.Asked,
-  put-part-reads.Learnt,
-) (place-pair-at t) place-pair.Post
+place-pair-place-requires : (t : ℕ) → place-pair-lts.Need-place-requires (place-pair-claims t) (place-pair-at t) place-pair.Post
 place-pair-place-requires t c κs =
     let o = c .before .before .before .before in
     let m = o .pre .0 in
     let z = has-notes (o .pre .1 .0) in
     (omega arith, right-run (o .pre .1 .0) (o .pre .1 .1))
 
-place-pair-enum-known-right : (t : ℕ) → place-pair-lts.Need-enum-known-right (
-  place-below t,
-  place.Post,
-  plain-part-reads.Asked,
-  plain-part-reads.Learnt,
-  put-part-reads.Asked,
-  put-part-reads.Learnt,
-) (place-pair-at t) place-pair.Post
+place-pair-enum-known-right : (t : ℕ) → place-pair-lts.Need-enum-known-right (place-pair-claims t) (place-pair-at t) place-pair.Post
 place-pair-enum-known-right t c = search needs
 
-place-pair-enum-told : (t : ℕ) → place-pair-lts.Need-enum-told (
-  place-below t,
-  place.Post,
-  plain-part-reads.Asked,
-  plain-part-reads.Learnt,
-  put-part-reads.Asked,
-  put-part-reads.Learnt,
-) (place-pair-at t) place-pair.Post
+place-pair-enum-told : (t : ℕ) → place-pair-lts.Need-enum-told (place-pair-claims t) (place-pair-at t) place-pair.Post
 place-pair-enum-told t c = search needs
 
-place-pair-returns : (t : ℕ) → place-pair-lts.Need-returns (
-  place-below t,
-  place.Post,
-  plain-part-reads.Asked,
-  plain-part-reads.Learnt,
-  put-part-reads.Asked,
-  put-part-reads.Learnt,
-) (place-pair-at t) place-pair.Post
+place-pair-returns : (t : ℕ) → place-pair-lts.Need-returns (place-pair-claims t) (place-pair-at t) place-pair.Post
 place-pair-returns t c =
     let o = c .before .before .before .before .before .before .before in
     let the-place = c .before .before .place in
     let the-enum-told = c .enum-told in
     ((λ q. right-missing q (o .pre .1 .1) (the-place .last .1 .1 .1 .0) (the-place .ensures .1) (the-place .result) (the-place .ensures .0 (right-run q (o .pre .1 .1))) (the-enum-told .given .1)), the-place .ensures .1)
 
-place-pair-sub-left-notes : (t : ℕ) → place-pair-lts.Need-sub-left-notes (
-  place-below t,
-  place.Post,
-  plain-part-reads.Asked,
-  plain-part-reads.Learnt,
-  put-part-reads.Asked,
-  put-part-reads.Learnt,
-) (place-pair-at t) place-pair.Post
+place-pair-sub-left-notes : (t : ℕ) → place-pair-lts.Need-sub-left-notes (place-pair-claims t) (place-pair-at t) place-pair.Post
 place-pair-sub-left-notes t c = has-notes (c .before .before .before .before .before .before .before .before .pre .1 .0) .0
 
-place-pair-sub-left-notes-2 : (t : ℕ) → place-pair-lts.Need-sub-left-notes-2 (
-  place-below t,
-  place.Post,
-  plain-part-reads.Asked,
-  plain-part-reads.Learnt,
-  put-part-reads.Asked,
-  put-part-reads.Learnt,
-) (place-pair-at t) place-pair.Post
+place-pair-sub-left-notes-2 : (t : ℕ) → place-pair-lts.Need-sub-left-notes-2 (place-pair-claims t) (place-pair-at t) place-pair.Post
 place-pair-sub-left-notes-2 t c =
     let o = c .before .before .before .before .before .before .before .before in
     let the-place = c .before .before .before .place in
     let the-right = c .before .right in
     right-room (o .pre .1 .0) (o .pre .1 .1) (the-place .last .1 .1 .1 .0) (the-place .ensures .1) (the-place .result) (the-place .ensures .0 (right-run (o .pre .1 .0) (o .pre .1 .1))) _ (the-right .given .1) .0
 
-place-pair-sub-left-notes-3 : (t : ℕ) → place-pair-lts.Need-sub-left-notes-3 (
-  place-below t,
-  place.Post,
-  plain-part-reads.Asked,
-  plain-part-reads.Learnt,
-  put-part-reads.Asked,
-  put-part-reads.Learnt,
-) (place-pair-at t) place-pair.Post
+place-pair-sub-left-notes-3 : (t : ℕ) → place-pair-lts.Need-sub-left-notes-3 (place-pair-claims t) (place-pair-at t) place-pair.Post
 place-pair-sub-left-notes-3 t c =
     let o = c .before .before .before .before .before .before .before .before in
     let the-place = c .before .before .before .place in
     let the-right = c .before .right in
     right-room (o .pre .1 .0) (o .pre .1 .1) (the-place .last .1 .1 .1 .0) (the-place .ensures .1) (the-place .result) (the-place .ensures .0 (right-run (o .pre .1 .0) (o .pre .1 .1))) _ (the-right .given .1) .1
 
-place-pair-place-requires-2 : (t : ℕ) → place-pair-lts.Need-place-requires-2 (
-  place-below t,
-  place.Post,
-  plain-part-reads.Asked,
-  plain-part-reads.Learnt,
-  put-part-reads.Asked,
-  put-part-reads.Learnt,
-) (place-pair-at t) place-pair.Post
+place-pair-place-requires-2 : (t : ℕ) → place-pair-lts.Need-place-requires-2 (place-pair-claims t) (place-pair-at t) place-pair.Post
 place-pair-place-requires-2 t c κs =
     let o = c .before .before .before .before .before .before .before .before .before in
     let the-place = c .before .before .before .before .place in
@@ -1532,34 +598,13 @@ place-pair-place-requires-2 t c κs =
     let z = has-notes (o .pre .1 .0) in
     (omega arith, left-run (o .pre .1 .0) (o .pre .1 .1) (the-place .last .1 .1 .1 .0) (the-place .ensures .1) (the-place .result) (the-place .ensures .0 (right-run (o .pre .1 .0) (o .pre .1 .1))) _ (the-right .given .1))
 
-place-pair-enum-known-left : (t : ℕ) → place-pair-lts.Need-enum-known-left (
-  place-below t,
-  place.Post,
-  plain-part-reads.Asked,
-  plain-part-reads.Learnt,
-  put-part-reads.Asked,
-  put-part-reads.Learnt,
-) (place-pair-at t) place-pair.Post
+place-pair-enum-known-left : (t : ℕ) → place-pair-lts.Need-enum-known-left (place-pair-claims t) (place-pair-at t) place-pair.Post
 place-pair-enum-known-left t c = search needs
 
-place-pair-enum-told-2 : (t : ℕ) → place-pair-lts.Need-enum-told-2 (
-  place-below t,
-  place.Post,
-  plain-part-reads.Asked,
-  plain-part-reads.Learnt,
-  put-part-reads.Asked,
-  put-part-reads.Learnt,
-) (place-pair-at t) place-pair.Post
+place-pair-enum-told-2 : (t : ℕ) → place-pair-lts.Need-enum-told-2 (place-pair-claims t) (place-pair-at t) place-pair.Post
 place-pair-enum-told-2 t c = search needs
 
-place-pair-returns-2 : (t : ℕ) → place-pair-lts.Need-returns-2 (
-  place-below t,
-  place.Post,
-  plain-part-reads.Asked,
-  plain-part-reads.Learnt,
-  put-part-reads.Asked,
-  put-part-reads.Learnt,
-) (place-pair-at t) place-pair.Post
+place-pair-returns-2 : (t : ℕ) → place-pair-lts.Need-returns-2 (place-pair-claims t) (place-pair-at t) place-pair.Post
 place-pair-returns-2 t c =
     let o = c .before .before .before .before .before .before .before .before .before .before .before .before in
     let the-place = c .before .before .before .before .before .before .before .place in
@@ -1568,14 +613,7 @@ place-pair-returns-2 t c =
     let the-enum-told2 = c .enum-told2 in
     ((λ q. left-missing q (o .pre .1 .1) (the-place .last .1 .1 .1 .0) (the-place .ensures .1) (the-place .result) (the-place .ensures .0 (right-run q (o .pre .1 .1))) _ (the-right .given .1) (the-place2 .last .1 .1 .1 .0) (the-place2 .result) (the-place2 .ensures .0 (left-run q (o .pre .1 .1) (the-place .last .1 .1 .1 .0) (the-place .ensures .1) (the-place .result) (the-place .ensures .0 (right-run q (o .pre .1 .1))) _ (the-right .given .1))) (the-enum-told2 .given .1)), the-place2 .ensures .1)
 
-place-pair-sub-put-part : (t : ℕ) → place-pair-lts.Need-sub-put-part (
-  place-below t,
-  place.Post,
-  plain-part-reads.Asked,
-  plain-part-reads.Learnt,
-  put-part-reads.Asked,
-  put-part-reads.Learnt,
-) (place-pair-at t) place-pair.Post
+place-pair-sub-put-part : (t : ℕ) → place-pair-lts.Need-sub-put-part (place-pair-claims t) (place-pair-at t) place-pair.Post
 place-pair-sub-put-part t c =
     let o = c .before .before .before .before .before .before .before .before .before .before .before .before .before .before in
     let the-place = c .before .before .before .before .before .before .before .before .before .place in
@@ -1584,25 +622,11 @@ place-pair-sub-put-part t c =
     let the-left = c .before .before .left in
     left-room (o .pre .1 .0) (o .pre .1 .1) (the-place .last .1 .1 .1 .0) (the-place .ensures .1) (the-place .result) (the-place .ensures .0 (right-run (o .pre .1 .0) (o .pre .1 .1))) _ (the-right .given .1) (the-place2 .last .1 .1 .1 .0) (the-place2 .result) (the-place2 .ensures .0 (left-run (o .pre .1 .0) (o .pre .1 .1) (the-place .last .1 .1 .1 .0) (the-place .ensures .1) (the-place .result) (the-place .ensures .0 (right-run (o .pre .1 .0) (o .pre .1 .1))) _ (the-right .given .1))) _ (the-left .given .1) .0
 
-place-pair-plain-part-requires : (t : ℕ) → place-pair-lts.Need-plain-part-requires (
-  place-below t,
-  place.Post,
-  plain-part-reads.Asked,
-  plain-part-reads.Learnt,
-  put-part-reads.Asked,
-  put-part-reads.Learnt,
-) (place-pair-at t) place-pair.Post
+place-pair-plain-part-requires : (t : ℕ) → place-pair-lts.Need-plain-part-requires (place-pair-claims t) (place-pair-at t) place-pair.Post
 place-pair-plain-part-requires t c κs =
     tt
 
-place-pair-put-part-requires : (t : ℕ) → place-pair-lts.Need-put-part-requires (
-  place-below t,
-  place.Post,
-  plain-part-reads.Asked,
-  plain-part-reads.Learnt,
-  put-part-reads.Asked,
-  put-part-reads.Learnt,
-) (place-pair-at t) place-pair.Post
+place-pair-put-part-requires : (t : ℕ) → place-pair-lts.Need-put-part-requires (place-pair-claims t) (place-pair-at t) place-pair.Post
 place-pair-put-part-requires t c κs =
     let o = c .before .before .before .before .before .before .before .before .before .before .before .before .before .before .before in
     let the-place = c .before .before .before .before .before .before .before .before .before .before .place in
@@ -1612,14 +636,7 @@ place-pair-put-part-requires t c κs =
     let z = left-room (o .pre .1 .0) (o .pre .1 .1) (the-place .last .1 .1 .1 .0) (the-place .ensures .1) (the-place .result) (the-place .ensures .0 (right-run (o .pre .1 .0) (o .pre .1 .1))) _ (the-right .given .1) (the-place2 .last .1 .1 .1 .0) (the-place2 .result) (the-place2 .ensures .0 (left-run (o .pre .1 .0) (o .pre .1 .1) (the-place .last .1 .1 .1 .0) (the-place .ensures .1) (the-place .result) (the-place .ensures .0 (right-run (o .pre .1 .0) (o .pre .1 .1))) _ (the-right .given .1))) _ (the-left .given .1) in
     (the-place2 .ensures .1, omega arith)
 
-place-pair-sub-t12 : (t : ℕ) → place-pair-lts.Need-sub-t12 (
-  place-below t,
-  place.Post,
-  plain-part-reads.Asked,
-  plain-part-reads.Learnt,
-  put-part-reads.Asked,
-  put-part-reads.Learnt,
-) (place-pair-at t) place-pair.Post
+place-pair-sub-t12 : (t : ℕ) → place-pair-lts.Need-sub-t12 (place-pair-claims t) (place-pair-at t) place-pair.Post
 place-pair-sub-t12 t c =
     let o = c .before .before .before .before .before .before .before .before .before .before .before .before .before .before .before .before in
     let the-place = c .before .before .before .before .before .before .before .before .before .before .before .place in
@@ -1628,14 +645,7 @@ place-pair-sub-t12 t c =
     let the-left = c .before .before .before .before .left in
     left-room (o .pre .1 .0) (o .pre .1 .1) (the-place .last .1 .1 .1 .0) (the-place .ensures .1) (the-place .result) (the-place .ensures .0 (right-run (o .pre .1 .0) (o .pre .1 .1))) _ (the-right .given .1) (the-place2 .last .1 .1 .1 .0) (the-place2 .result) (the-place2 .ensures .0 (left-run (o .pre .1 .0) (o .pre .1 .1) (the-place .last .1 .1 .1 .0) (the-place .ensures .1) (the-place .result) (the-place .ensures .0 (right-run (o .pre .1 .0) (o .pre .1 .1))) _ (the-right .given .1))) _ (the-left .given .1) .0
 
-place-pair-returns-3 : (t : ℕ) → place-pair-lts.Need-returns-3 (
-  place-below t,
-  place.Post,
-  plain-part-reads.Asked,
-  plain-part-reads.Learnt,
-  put-part-reads.Asked,
-  put-part-reads.Learnt,
-) (place-pair-at t) place-pair.Post
+place-pair-returns-3 : (t : ℕ) → place-pair-lts.Need-returns-3 (place-pair-claims t) (place-pair-at t) place-pair.Post
 place-pair-returns-3 t c =
     let o = c .before .before .before .before .before .before .before .before .before .before .before .before .before .before .before .before in
     let the-place = c .before .before .before .before .before .before .before .before .before .before .before .place in

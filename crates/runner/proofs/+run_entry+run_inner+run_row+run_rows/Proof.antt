@@ -65,277 +65,121 @@ abbrev run-rows-below : ℕ → In 4 run-rows-kinds.ps
 run-rows-below t =
     and 4 run-rows-kinds.ps (falls 4 run-rows-kinds.ps _<_ μ-run-rows t) run-rows.Pre
 
--- src/lib.rt:113:22
-run-entry-mul-if1 : (t : ℕ) → run-entry-lts.Need-mul-if1 (
-  run-leaf-reads.Asked,
-  run-leaf-reads.Learnt,
-  run-inner-below t,
-  run-inner.Post,
-) (run-entry-at t) run-entry.Post
+abbrev run-entry-claims : ℕ → run-entry-lts.Claims
+run-entry-claims t = (run-leaf-reads.Asked, run-leaf-reads.Learnt, run-inner-below t, run-inner.Post)
+
+abbrev run-inner-claims : ℕ → run-inner-lts.Claims
+run-inner-claims t = (run-entry-below t, run-entry.Post, run-rows-below t, run-rows.Post)
+
+abbrev run-row-claims : ℕ → run-row-lts.Claims
+run-row-claims t = (run-leaf-reads.Asked, run-leaf-reads.Learnt, run-entry-below t, run-entry.Post)
+
+abbrev run-rows-claims : ℕ → run-rows-lts.Claims
+run-rows-claims t = (run-leaf-rows-reads.Asked, run-leaf-rows-reads.Learnt, table-place-reads.Asked, table-place-reads.Learnt, run-row-below t, run-row.Post)
+
+run-entry-mul-if1 : (t : ℕ) → run-entry-lts.Need-mul-if1 (run-entry-claims t) (run-entry-at t) run-entry.Post
 run-entry-mul-if1 t c = let z = start (c .before .before .pre .1) in omega arith
 
--- src/lib.rt:113:20
-run-entry-mul-if1-2 : (t : ℕ) → run-entry-lts.Need-mul-if1-2 (
-  run-leaf-reads.Asked,
-  run-leaf-reads.Learnt,
-  run-inner-below t,
-  run-inner.Post,
-) (run-entry-at t) run-entry.Post
+run-entry-mul-if1-2 : (t : ℕ) → run-entry-lts.Need-mul-if1-2 (run-entry-claims t) (run-entry-at t) run-entry.Post
 run-entry-mul-if1-2 t c = let z = start (c .before .before .pre .1) in omega arith
 
--- src/lib.rt:113:20
-run-entry-shared-slice-read-if1 : (t : ℕ) → run-entry-lts.Need-shared-slice-read-if1 (
-  run-leaf-reads.Asked,
-  run-leaf-reads.Learnt,
-  run-inner-below t,
-  run-inner.Post,
-) (run-entry-at t) run-entry.Post
+run-entry-shared-slice-read-if1 : (t : ℕ) → run-entry-lts.Need-shared-slice-read-if1 (run-entry-claims t) (run-entry-at t) run-entry.Post
 run-entry-shared-slice-read-if1 t c = let z = start (c .before .before .before .pre .1) in omega arith
 
--- src/lib.rt:114:9
-run-entry-run-leaf-requires : (t : ℕ) → run-entry-lts.Need-run-leaf-requires (
-  run-leaf-reads.Asked,
-  run-leaf-reads.Learnt,
-  run-inner-below t,
-  run-inner.Post,
-) (run-entry-at t) run-entry.Post
+run-entry-run-leaf-requires : (t : ℕ) → run-entry-lts.Need-run-leaf-requires (run-entry-claims t) (run-entry-at t) run-entry.Post
 run-entry-run-leaf-requires t c κs = leaf-ready (c .before .before .before .before .pre .1) (c .if1 .taken)
 
--- src/lib.rt:114:9
-run-entry-returns : (t : ℕ) → run-entry-lts.Need-returns (
-  run-leaf-reads.Asked,
-  run-leaf-reads.Learnt,
-  run-inner-below t,
-  run-inner.Post,
-) (run-entry-at t) run-entry.Post
+run-entry-returns : (t : ℕ) → run-entry-lts.Need-returns (run-entry-claims t) (run-entry-at t) run-entry.Post
 run-entry-returns t c = λ h. leaf-answer h (c .before .if1 .taken) _ (c .run-leaf .ensures (leaf-ready h (c .before .if1 .taken)))
 
--- src/lib.rt:116:5
-run-entry-run-inner-requires : (t : ℕ) → run-entry-lts.Need-run-inner-requires (
-  run-leaf-reads.Asked,
-  run-leaf-reads.Learnt,
-  run-inner-below t,
-  run-inner.Post,
-) (run-entry-at t) run-entry.Post
+run-entry-run-inner-requires : (t : ℕ) → run-entry-lts.Need-run-inner-requires (run-entry-claims t) (run-entry-at t) run-entry.Post
 run-entry-run-inner-requires t c κs = let m = c .before .before .before .before .pre .0 in (omega arith, (c .before .before .before .before .pre .1, c .if1 .left))
 
--- src/lib.rt:101:1
-run-entry-returns-2 : (t : ℕ) → run-entry-lts.Need-returns-2 (
-  run-leaf-reads.Asked,
-  run-leaf-reads.Learnt,
-  run-inner-below t,
-  run-inner.Post,
-) (run-entry-at t) run-entry.Post
+run-entry-returns-2 : (t : ℕ) → run-entry-lts.Need-returns-2 (run-entry-claims t) (run-entry-at t) run-entry.Post
 run-entry-returns-2 t c = c .run-inner .ensures
 
--- src/lib.rt:132:15
-run-inner-mul-k : (t : ℕ) → run-inner-lts.Need-mul-k (
-  run-entry-below t,
-  run-entry.Post,
-  run-rows-below t,
-  run-rows.Post,
-) (run-inner-at t) run-inner.Post
+run-inner-mul-k : (t : ℕ) → run-inner-lts.Need-mul-k (run-inner-claims t) (run-inner-at t) run-inner.Post
 run-inner-mul-k t c = let z = start (c .before .before .pre .1 .0) in omega arith
 
--- src/lib.rt:132:13
-run-inner-mul-k-2 : (t : ℕ) → run-inner-lts.Need-mul-k-2 (
-  run-entry-below t,
-  run-entry.Post,
-  run-rows-below t,
-  run-rows.Post,
-) (run-inner-at t) run-inner.Post
+run-inner-mul-k-2 : (t : ℕ) → run-inner-lts.Need-mul-k-2 (run-inner-claims t) (run-inner-at t) run-inner.Post
 run-inner-mul-k-2 t c = let z = start (c .before .before .pre .1 .0) in omega arith
 
--- src/lib.rt:132:13
-run-inner-shared-slice-read-k : (t : ℕ) → run-inner-lts.Need-shared-slice-read-k (
-  run-entry-below t,
-  run-entry.Post,
-  run-rows-below t,
-  run-rows.Post,
-) (run-inner-at t) run-inner.Post
+run-inner-shared-slice-read-k : (t : ℕ) → run-inner-lts.Need-shared-slice-read-k (run-inner-claims t) (run-inner-at t) run-inner.Post
 run-inner-shared-slice-read-k t c = let z = start (c .before .before .before .pre .1 .0) in omega arith
 
--- src/lib.rt:135:23
-run-inner-mul-m : (t : ℕ) → run-inner-lts.Need-mul-m (
-  run-entry-below t,
-  run-entry.Post,
-  run-rows-below t,
-  run-rows.Post,
-) (run-inner-at t) run-inner.Post
+run-inner-mul-m : (t : ℕ) → run-inner-lts.Need-mul-m (run-inner-claims t) (run-inner-at t) run-inner.Post
 run-inner-mul-m t c = let h = c .before .before .before .before .pre .1 .0 in let z = start h in let y = middle h And (c .match .keys1) in omega arith
 
--- src/lib.rt:135:23
-run-inner-add-m : (t : ℕ) → run-inner-lts.Need-add-m (
-  run-entry-below t,
-  run-entry.Post,
-  run-rows-below t,
-  run-rows.Post,
-) (run-inner-at t) run-inner.Post
+run-inner-add-m : (t : ℕ) → run-inner-lts.Need-add-m (run-inner-claims t) (run-inner-at t) run-inner.Post
 run-inner-add-m t c = let h = c .before .before .before .before .pre .1 .0 in let z = start h in let y = middle h And (c .match .keys1) in omega arith
 
--- src/lib.rt:135:21
-run-inner-mul-m-2 : (t : ℕ) → run-inner-lts.Need-mul-m-2 (
-  run-entry-below t,
-  run-entry.Post,
-  run-rows-below t,
-  run-rows.Post,
-) (run-inner-at t) run-inner.Post
+run-inner-mul-m-2 : (t : ℕ) → run-inner-lts.Need-mul-m-2 (run-inner-claims t) (run-inner-at t) run-inner.Post
 run-inner-mul-m-2 t c = let h = c .before .before .before .before .pre .1 .0 in let z = start h in let y = middle h And (c .match .keys1) in omega arith
 
--- src/lib.rt:135:21
-run-inner-shared-slice-read-m : (t : ℕ) → run-inner-lts.Need-shared-slice-read-m (
-  run-entry-below t,
-  run-entry.Post,
-  run-rows-below t,
-  run-rows.Post,
-) (run-inner-at t) run-inner.Post
+run-inner-shared-slice-read-m : (t : ℕ) → run-inner-lts.Need-shared-slice-read-m (run-inner-claims t) (run-inner-at t) run-inner.Post
 run-inner-shared-slice-read-m t c = let h = c .before .before .before .before .before .pre .1 .0 in let z = start h in let y = middle h And (c .before .match .keys1) in omega arith
 
--- src/lib.rt:136:46
-run-inner-add-run-entry : (t : ℕ) → run-inner-lts.Need-add-run-entry (
-  run-entry-below t,
-  run-entry.Post,
-  run-rows-below t,
-  run-rows.Post,
-) (run-inner-at t) run-inner.Post
+run-inner-add-run-entry : (t : ℕ) → run-inner-lts.Need-add-run-entry (run-inner-claims t) (run-inner-at t) run-inner.Post
 run-inner-add-run-entry t c = let z = start (c .before .before .before .before .before .pre .1 .0) in omega arith
 
--- src/lib.rt:136:17
-run-inner-run-entry-requires : (t : ℕ) → run-inner-lts.Need-run-entry-requires (
-  run-entry-below t,
-  run-entry.Post,
-  run-rows-below t,
-  run-rows.Post,
-) (run-inner-at t) run-inner.Post
+run-inner-run-entry-requires : (t : ℕ) → run-inner-lts.Need-run-entry-requires (run-inner-claims t) (run-inner-at t) run-inner.Post
 run-inner-run-entry-requires t c κs =
     let p = c .before .before .before .before .before .pre in
     let m = p .0 in
     let y = middle (p .1 .0) And (c .before .match .keys1) in
     (omega arith, left-run (p .1 .0) And (c .before .match .keys1))
 
--- src/lib.rt:138:17
-run-inner-returns : (t : ℕ) → run-inner-lts.Need-returns (
-  run-entry-below t,
-  run-entry.Post,
-  run-rows-below t,
-  run-rows.Post,
-) (run-inner-at t) run-inner.Post
+run-inner-returns : (t : ℕ) → run-inner-lts.Need-returns (run-inner-claims t) (run-inner-at t) run-inner.Post
 run-inner-returns t c = λ h.
     let k = c .before .before .before .match .keys1 in
     let e = not-true _ (c .if1 .taken) in
     left-decides h And k false (sym e ∙ c .before .run-entry .ensures (left-run h And k)) refl
 
--- src/lib.rt:140:13
-run-inner-run-entry-requires-2 : (t : ℕ) → run-inner-lts.Need-run-entry-requires-2 (
-  run-entry-below t,
-  run-entry.Post,
-  run-rows-below t,
-  run-rows.Post,
-) (run-inner-at t) run-inner.Post
+run-inner-run-entry-requires-2 : (t : ℕ) → run-inner-lts.Need-run-entry-requires-2 (run-inner-claims t) (run-inner-at t) run-inner.Post
 run-inner-run-entry-requires-2 t c κs =
     let p = c .before .before .before .before .before .before .before .pre in
     let m = p .0 in
     let y = middle (p .1 .0) And (c .before .before .before .match .keys1) in
     (omega arith, right-run (p .1 .0) And (c .before .before .before .match .keys1))
 
--- src/lib.rt:143:23
-run-inner-mul-m-3 : (t : ℕ) → run-inner-lts.Need-mul-m-3 (
-  run-entry-below t,
-  run-entry.Post,
-  run-rows-below t,
-  run-rows.Post,
-) (run-inner-at t) run-inner.Post
+run-inner-mul-m-3 : (t : ℕ) → run-inner-lts.Need-mul-m-3 (run-inner-claims t) (run-inner-at t) run-inner.Post
 run-inner-mul-m-3 t c = let h = c .before .before .before .before .pre .1 .0 in let z = start h in let y = middle h Or (c .match .keys2) in omega arith
 
--- src/lib.rt:143:23
-run-inner-add-m-2 : (t : ℕ) → run-inner-lts.Need-add-m-2 (
-  run-entry-below t,
-  run-entry.Post,
-  run-rows-below t,
-  run-rows.Post,
-) (run-inner-at t) run-inner.Post
+run-inner-add-m-2 : (t : ℕ) → run-inner-lts.Need-add-m-2 (run-inner-claims t) (run-inner-at t) run-inner.Post
 run-inner-add-m-2 t c = let h = c .before .before .before .before .pre .1 .0 in let z = start h in let y = middle h Or (c .match .keys2) in omega arith
 
--- src/lib.rt:143:21
-run-inner-mul-m-4 : (t : ℕ) → run-inner-lts.Need-mul-m-4 (
-  run-entry-below t,
-  run-entry.Post,
-  run-rows-below t,
-  run-rows.Post,
-) (run-inner-at t) run-inner.Post
+run-inner-mul-m-4 : (t : ℕ) → run-inner-lts.Need-mul-m-4 (run-inner-claims t) (run-inner-at t) run-inner.Post
 run-inner-mul-m-4 t c = let h = c .before .before .before .before .pre .1 .0 in let z = start h in let y = middle h Or (c .match .keys2) in omega arith
 
--- src/lib.rt:143:21
-run-inner-shared-slice-read-m-2 : (t : ℕ) → run-inner-lts.Need-shared-slice-read-m-2 (
-  run-entry-below t,
-  run-entry.Post,
-  run-rows-below t,
-  run-rows.Post,
-) (run-inner-at t) run-inner.Post
+run-inner-shared-slice-read-m-2 : (t : ℕ) → run-inner-lts.Need-shared-slice-read-m-2 (run-inner-claims t) (run-inner-at t) run-inner.Post
 run-inner-shared-slice-read-m-2 t c = let h = c .before .before .before .before .before .pre .1 .0 in let z = start h in let y = middle h Or (c .before .match .keys2) in omega arith
 
--- src/lib.rt:144:46
-run-inner-add-run-entry-2 : (t : ℕ) → run-inner-lts.Need-add-run-entry-2 (
-  run-entry-below t,
-  run-entry.Post,
-  run-rows-below t,
-  run-rows.Post,
-) (run-inner-at t) run-inner.Post
+run-inner-add-run-entry-2 : (t : ℕ) → run-inner-lts.Need-add-run-entry-2 (run-inner-claims t) (run-inner-at t) run-inner.Post
 run-inner-add-run-entry-2 t c = let z = start (c .before .before .before .before .before .pre .1 .0) in omega arith
 
--- src/lib.rt:144:17
-run-inner-run-entry-requires-3 : (t : ℕ) → run-inner-lts.Need-run-entry-requires-3 (
-  run-entry-below t,
-  run-entry.Post,
-  run-rows-below t,
-  run-rows.Post,
-) (run-inner-at t) run-inner.Post
+run-inner-run-entry-requires-3 : (t : ℕ) → run-inner-lts.Need-run-entry-requires-3 (run-inner-claims t) (run-inner-at t) run-inner.Post
 run-inner-run-entry-requires-3 t c κs =
     let p = c .before .before .before .before .before .pre in
     let m = p .0 in
     let y = middle (p .1 .0) Or (c .before .match .keys2) in
     (omega arith, left-run (p .1 .0) Or (c .before .match .keys2))
 
--- src/lib.rt:146:17
-run-inner-returns-2 : (t : ℕ) → run-inner-lts.Need-returns-2 (
-  run-entry-below t,
-  run-entry.Post,
-  run-rows-below t,
-  run-rows.Post,
-) (run-inner-at t) run-inner.Post
+run-inner-returns-2 : (t : ℕ) → run-inner-lts.Need-returns-2 (run-inner-claims t) (run-inner-at t) run-inner.Post
 run-inner-returns-2 t c = λ h.
     let k = c .before .before .before .match .keys2 in
     left-decides h Or k true (sym (c .if2 .taken) ∙ c .before .run-entry3 .ensures (left-run h Or k)) refl
 
--- src/lib.rt:148:13
-run-inner-run-entry-requires-4 : (t : ℕ) → run-inner-lts.Need-run-entry-requires-4 (
-  run-entry-below t,
-  run-entry.Post,
-  run-rows-below t,
-  run-rows.Post,
-) (run-inner-at t) run-inner.Post
+run-inner-run-entry-requires-4 : (t : ℕ) → run-inner-lts.Need-run-entry-requires-4 (run-inner-claims t) (run-inner-at t) run-inner.Post
 run-inner-run-entry-requires-4 t c κs =
     let p = c .before .before .before .before .before .before .before .pre in
     let m = p .0 in
     let y = middle (p .1 .0) Or (c .before .before .before .match .keys2) in
     (omega arith, right-run (p .1 .0) Or (c .before .before .before .match .keys2))
 
--- src/lib.rt:150:21
-run-inner-run-rows-requires : (t : ℕ) → run-inner-lts.Need-run-rows-requires (
-  run-entry-below t,
-  run-entry.Post,
-  run-rows-below t,
-  run-rows.Post,
-) (run-inner-at t) run-inner.Post
+run-inner-run-rows-requires : (t : ℕ) → run-inner-lts.Need-run-rows-requires (run-inner-claims t) (run-inner-at t) run-inner.Post
 run-inner-run-rows-requires t c κs = let p = c .before .before .before .before .pre in let m = p .0 in (omega arith, (p .1 .0, c .match .keys3))
 
--- src/lib.rt:151:14
-run-inner-run-rows-requires-2 : (t : ℕ) → run-inner-lts.Need-run-rows-requires-2 (
-  run-entry-below t,
-  run-entry.Post,
-  run-rows-below t,
-  run-rows.Post,
-) (run-inner-at t) run-inner.Post
+run-inner-run-rows-requires-2 : (t : ℕ) → run-inner-lts.Need-run-rows-requires-2 (run-inner-claims t) (run-inner-at t) run-inner.Post
 run-inner-run-rows-requires-2 t c κs =
     let p = c .before .before .before .before .pre in
     let m = p .0 in
@@ -344,220 +188,106 @@ run-inner-run-rows-requires-2 t c κs =
     let r = c .match .rest in
     (omega arith, (p .1 .0, omega arith))
 
--- src/lib.rt:120:1
-run-inner-returns-3 : (t : ℕ) → run-inner-lts.Need-returns-3 (
-  run-entry-below t,
-  run-entry.Post,
-  run-rows-below t,
-  run-rows.Post,
-) (run-inner-at t) run-inner.Post
+run-inner-returns-3 : (t : ℕ) → run-inner-lts.Need-returns-3 (run-inner-claims t) (run-inner-at t) run-inner.Post
 run-inner-returns-3 t c = λ h.
     let k = c .before .before .before .before .match .keys1 in
     right-decides h And k _ (c .before .before .run-entry .ensures (left-run h And k)) (not-false _ (c .before .if1 .left)) _
     (c .run-entry2 .ensures (right-run h And k))
 
--- src/lib.rt:120:1
-run-inner-returns-4 : (t : ℕ) → run-inner-lts.Need-returns-4 (
-  run-entry-below t,
-  run-entry.Post,
-  run-rows-below t,
-  run-rows.Post,
-) (run-inner-at t) run-inner.Post
+run-inner-returns-4 : (t : ℕ) → run-inner-lts.Need-returns-4 (run-inner-claims t) (run-inner-at t) run-inner.Post
 run-inner-returns-4 t c = λ h.
     let k = c .before .before .before .before .match .keys2 in
     right-decides h Or k _ (c .before .before .run-entry3 .ensures (left-run h Or k)) (c .before .if2 .left) _
     (c .run-entry4 .ensures (right-run h Or k))
 
--- src/lib.rt:120:1
-run-inner-returns-5 : (t : ℕ) → run-inner-lts.Need-returns-5 (
-  run-entry-below t,
-  run-entry.Post,
-  run-rows-below t,
-  run-rows.Post,
-) (run-inner-at t) run-inner.Post
+run-inner-returns-5 : (t : ℕ) → run-inner-lts.Need-returns-5 (run-inner-claims t) (run-inner-at t) run-inner.Post
 run-inner-returns-5 t c = c .run-rows .ensures
 
--- src/lib.rt:120:1
-run-inner-returns-6 : (t : ℕ) → run-inner-lts.Need-returns-6 (
-  run-entry-below t,
-  run-entry.Post,
-  run-rows-below t,
-  run-rows.Post,
-) (run-inner-at t) run-inner.Post
+run-inner-returns-6 : (t : ℕ) → run-inner-lts.Need-returns-6 (run-inner-claims t) (run-inner-at t) run-inner.Post
 run-inner-returns-6 t c = c .run-rows2 .ensures
 
--- src/lib.rt:169:15
-run-row-mul-k : (t : ℕ) → run-row-lts.Need-mul-k (
-  run-leaf-reads.Asked,
-  run-leaf-reads.Learnt,
-  run-entry-below t,
-  run-entry.Post,
-) (run-row-at t) run-row.Post
+run-row-mul-k : (t : ℕ) → run-row-lts.Need-mul-k (run-row-claims t) (run-row-at t) run-row.Post
 run-row-mul-k t c = let z = start (c .before .before .pre .1) in omega arith
 
--- src/lib.rt:169:13
-run-row-mul-k-2 : (t : ℕ) → run-row-lts.Need-mul-k-2 (
-  run-leaf-reads.Asked,
-  run-leaf-reads.Learnt,
-  run-entry-below t,
-  run-entry.Post,
-) (run-row-at t) run-row.Post
+run-row-mul-k-2 : (t : ℕ) → run-row-lts.Need-mul-k-2 (run-row-claims t) (run-row-at t) run-row.Post
 run-row-mul-k-2 t c = let z = start (c .before .before .pre .1) in omega arith
 
--- src/lib.rt:169:13
-run-row-shared-slice-read-k : (t : ℕ) → run-row-lts.Need-shared-slice-read-k (
-  run-leaf-reads.Asked,
-  run-leaf-reads.Learnt,
-  run-entry-below t,
-  run-entry.Post,
-) (run-row-at t) run-row.Post
+run-row-shared-slice-read-k : (t : ℕ) → run-row-lts.Need-shared-slice-read-k (run-row-claims t) (run-row-at t) run-row.Post
 run-row-shared-slice-read-k t c = let z = start (c .before .before .before .pre .1) in omega arith
 
--- src/lib.rt:171:36
-run-row-add-if2 : (t : ℕ) → run-row-lts.Need-add-if2 (
-  run-leaf-reads.Asked,
-  run-leaf-reads.Learnt,
-  run-entry-below t,
-  run-entry.Post,
-) (run-row-at t) run-row.Post
+run-row-add-if2 : (t : ℕ) → run-row-lts.Need-add-if2 (run-row-claims t) (run-row-at t) run-row.Post
 run-row-add-if2 t c =
     let h = c .before .before .before .before .pre .1 in
     let z = start h in
     let y = middle h (joint h (c .if1 .taken)) (joint-kind h (c .if1 .taken)) in
     omega arith
 
--- src/lib.rt:171:26
-run-row-mul-if2 : (t : ℕ) → run-row-lts.Need-mul-if2 (
-  run-leaf-reads.Asked,
-  run-leaf-reads.Learnt,
-  run-entry-below t,
-  run-entry.Post,
-) (run-row-at t) run-row.Post
+run-row-mul-if2 : (t : ℕ) → run-row-lts.Need-mul-if2 (run-row-claims t) (run-row-at t) run-row.Post
 run-row-mul-if2 t c =
     let h = c .before .before .before .before .pre .1 in
     let z = start h in
     let y = middle h (joint h (c .if1 .taken)) (joint-kind h (c .if1 .taken)) in
     omega arith
 
--- src/lib.rt:171:24
-run-row-mul-if2-2 : (t : ℕ) → run-row-lts.Need-mul-if2-2 (
-  run-leaf-reads.Asked,
-  run-leaf-reads.Learnt,
-  run-entry-below t,
-  run-entry.Post,
-) (run-row-at t) run-row.Post
+run-row-mul-if2-2 : (t : ℕ) → run-row-lts.Need-mul-if2-2 (run-row-claims t) (run-row-at t) run-row.Post
 run-row-mul-if2-2 t c =
     let h = c .before .before .before .before .pre .1 in
     let z = start h in
     let y = middle h (joint h (c .if1 .taken)) (joint-kind h (c .if1 .taken)) in
     omega arith
 
--- src/lib.rt:171:24
-run-row-shared-slice-read-if2 : (t : ℕ) → run-row-lts.Need-shared-slice-read-if2 (
-  run-leaf-reads.Asked,
-  run-leaf-reads.Learnt,
-  run-entry-below t,
-  run-entry.Post,
-) (run-row-at t) run-row.Post
+run-row-shared-slice-read-if2 : (t : ℕ) → run-row-lts.Need-shared-slice-read-if2 (run-row-claims t) (run-row-at t) run-row.Post
 run-row-shared-slice-read-if2 t c =
     let h = c .before .before .before .before .before .pre .1 in
     let z = start h in
     let y = middle h (joint h (c .before .if1 .taken)) (joint-kind h (c .before .if1 .taken)) in
     omega arith
 
--- src/lib.rt:172:45
-run-row-add-run-leaf : (t : ℕ) → run-row-lts.Need-add-run-leaf (
-  run-leaf-reads.Asked,
-  run-leaf-reads.Learnt,
-  run-entry-below t,
-  run-entry.Post,
-) (run-row-at t) run-row.Post
+run-row-add-run-leaf : (t : ℕ) → run-row-lts.Need-add-run-leaf (run-row-claims t) (run-row-at t) run-row.Post
 run-row-add-run-leaf t c =
     let h = c .before .before .before .before .before .before .pre .1 in
     let z = start h in
     let y = middle h (joint h (c .before .before .if1 .taken)) (joint-kind h (c .before .before .if1 .taken)) in
     omega arith
 
--- src/lib.rt:172:17
-run-row-run-leaf-requires : (t : ℕ) → run-row-lts.Need-run-leaf-requires (
-  run-leaf-reads.Asked,
-  run-leaf-reads.Learnt,
-  run-entry-below t,
-  run-entry.Post,
-) (run-row-at t) run-row.Post
+run-row-run-leaf-requires : (t : ℕ) → run-row-lts.Need-run-leaf-requires (run-row-claims t) (run-row-at t) run-row.Post
 run-row-run-leaf-requires t c κs = test-ready (c .before .before .before .before .before .before .pre .1) (c .before .before .if1 .taken) (c .if2 .taken)
 
--- src/lib.rt:174:17
-run-row-returns : (t : ℕ) → run-row-lts.Need-returns (
-  run-leaf-reads.Asked,
-  run-leaf-reads.Learnt,
-  run-entry-below t,
-  run-entry.Post,
-) (run-row-at t) run-row.Post
+run-row-returns : (t : ℕ) → run-row-lts.Need-returns (run-row-claims t) (run-row-at t) run-row.Post
 run-row-returns t c = λ h.
     let two = c .before .before .before .before .if1 .taken in
     let k = c .before .before .if2 .taken in
     test-decides h two k _ (c .before .run-leaf .ensures (test-ready h two k)) (c .if3 .taken)
 
--- src/lib.rt:176:44
-run-row-mul-run-entry : (t : ℕ) → run-row-lts.Need-mul-run-entry (
-  run-leaf-reads.Asked,
-  run-leaf-reads.Learnt,
-  run-entry-below t,
-  run-entry.Post,
-) (run-row-at t) run-row.Post
+run-row-mul-run-entry : (t : ℕ) → run-row-lts.Need-mul-run-entry (run-row-claims t) (run-row-at t) run-row.Post
 run-row-mul-run-entry t c =
     let h = c .before .before .before .before .before .before .before .before .pre .1 in
     let z = start h in
     let y = middle h (joint h (c .before .before .before .before .if1 .taken)) (joint-kind h (c .before .before .before .before .if1 .taken)) in
     omega arith
 
--- src/lib.rt:176:44
-run-row-add-run-entry : (t : ℕ) → run-row-lts.Need-add-run-entry (
-  run-leaf-reads.Asked,
-  run-leaf-reads.Learnt,
-  run-entry-below t,
-  run-entry.Post,
-) (run-row-at t) run-row.Post
+run-row-add-run-entry : (t : ℕ) → run-row-lts.Need-add-run-entry (run-row-claims t) (run-row-at t) run-row.Post
 run-row-add-run-entry t c =
     let h = c .before .before .before .before .before .before .before .before .pre .1 in
     let z = start h in
     let y = middle h (joint h (c .before .before .before .before .if1 .taken)) (joint-kind h (c .before .before .before .before .if1 .taken)) in
     omega arith
 
--- src/lib.rt:176:42
-run-row-mul-run-entry-2 : (t : ℕ) → run-row-lts.Need-mul-run-entry-2 (
-  run-leaf-reads.Asked,
-  run-leaf-reads.Learnt,
-  run-entry-below t,
-  run-entry.Post,
-) (run-row-at t) run-row.Post
+run-row-mul-run-entry-2 : (t : ℕ) → run-row-lts.Need-mul-run-entry-2 (run-row-claims t) (run-row-at t) run-row.Post
 run-row-mul-run-entry-2 t c =
     let h = c .before .before .before .before .before .before .before .before .pre .1 in
     let z = start h in
     let y = middle h (joint h (c .before .before .before .before .if1 .taken)) (joint-kind h (c .before .before .before .before .if1 .taken)) in
     omega arith
 
--- src/lib.rt:176:42
-run-row-shared-slice-read-run-entry : (t : ℕ) → run-row-lts.Need-shared-slice-read-run-entry (
-  run-leaf-reads.Asked,
-  run-leaf-reads.Learnt,
-  run-entry-below t,
-  run-entry.Post,
-) (run-row-at t) run-row.Post
+run-row-shared-slice-read-run-entry : (t : ℕ) → run-row-lts.Need-shared-slice-read-run-entry (run-row-claims t) (run-row-at t) run-row.Post
 run-row-shared-slice-read-run-entry t c =
     let h = c .before .before .before .before .before .before .before .before .before .pre .1 in
     let z = start h in
     let y = middle h (joint h (c .before .before .before .before .before .if1 .taken)) (joint-kind h (c .before .before .before .before .before .if1 .taken)) in
     omega arith
 
--- src/lib.rt:176:13
-run-row-run-entry-requires : (t : ℕ) → run-row-lts.Need-run-entry-requires (
-  run-leaf-reads.Asked,
-  run-leaf-reads.Learnt,
-  run-entry-below t,
-  run-entry.Post,
-) (run-row-at t) run-row.Post
+run-row-run-entry-requires : (t : ℕ) → run-row-lts.Need-run-entry-requires (run-row-claims t) (run-row-at t) run-row.Post
 run-row-run-entry-requires t c κs =
     let p = c .before .before .before .before .before .before .before .before .before .pre in
     let two = c .before .before .before .before .before .if1 .taken in
@@ -565,35 +295,17 @@ run-row-run-entry-requires t c κs =
     let y = middle (p .1) (joint (p .1) two) (joint-kind (p .1) two) in
     (omega arith, right-run (p .1) (joint (p .1) two) (joint-kind (p .1) two))
 
--- src/lib.rt:176:13
-run-row-returns-2 : (t : ℕ) → run-row-lts.Need-returns-2 (
-  run-leaf-reads.Asked,
-  run-leaf-reads.Learnt,
-  run-entry-below t,
-  run-entry.Post,
-) (run-row-at t) run-row.Post
+run-row-returns-2 : (t : ℕ) → run-row-lts.Need-returns-2 (run-row-claims t) (run-row-at t) run-row.Post
 run-row-returns-2 t c = λ h.
     let two = c .before .before .before .before .before .before .if1 .taken in
     let k = c .before .before .before .before .if2 .taken in
     test-passes h two k _ (c .before .before .before .run-leaf .ensures (test-ready h two k)) (c .before .before .if3 .left) _
     (c .run-entry .ensures (right-run h (joint h two) (joint-kind h two)))
 
--- src/lib.rt:179:5
-run-row-run-entry-requires-2 : (t : ℕ) → run-row-lts.Need-run-entry-requires-2 (
-  run-leaf-reads.Asked,
-  run-leaf-reads.Learnt,
-  run-entry-below t,
-  run-entry.Post,
-) (run-row-at t) run-row.Post
+run-row-run-entry-requires-2 : (t : ℕ) → run-row-lts.Need-run-entry-requires-2 (run-row-claims t) (run-row-at t) run-row.Post
 run-row-run-entry-requires-2 t c κs = let p = c .before .before .before .before .pre in let m = p .0 in (omega arith, p .1)
 
--- src/lib.rt:157:1
-run-row-returns-3 : (t : ℕ) → run-row-lts.Need-returns-3 (
-  run-leaf-reads.Asked,
-  run-leaf-reads.Learnt,
-  run-entry-below t,
-  run-entry.Post,
-) (run-row-at t) run-row.Post
+run-row-returns-3 : (t : ℕ) → run-row-lts.Need-returns-3 (run-row-claims t) (run-row-at t) run-row.Post
 run-row-returns-3 t c = c .run-entry2 .ensures
 
 abbrev run-rows-Inv-loop : run-rows-lts.InvT-loop
@@ -602,218 +314,74 @@ run-rows-Inv-loop d g file s e w depth q table first₀ v₀ r₀ first v r = Ro
 abbrev run-rows-μ-loop : run-rows-lts.MeasureT-loop
 run-rows-μ-loop d g file s e w depth q table first₀ v₀ r₀ first v r = table .rows - r
 
--- src/lib.rt:196:32
-run-rows-add-if1 : (t : ℕ) → run-rows-lts.Need-add-if1 (
-  run-leaf-rows-reads.Asked,
-  run-leaf-rows-reads.Learnt,
-  table-place-reads.Asked,
-  table-place-reads.Learnt,
-  run-row-below t,
-  run-row.Post,
-) (run-rows-at t) run-rows.Post run-rows-Inv-loop run-rows-μ-loop
+run-rows-add-if1 : (t : ℕ) → run-rows-lts.Need-add-if1 (run-rows-claims t) (run-rows-at t) run-rows.Post run-rows-Inv-loop run-rows-μ-loop
 run-rows-add-if1 t c = let o = c .before .before in let z = row-bounds (o .pre .1 .0) (o .args .q) (o .pre .1 .1) in omega arith
 
--- src/lib.rt:196:22
-run-rows-mul-if1 : (t : ℕ) → run-rows-lts.Need-mul-if1 (
-  run-leaf-rows-reads.Asked,
-  run-leaf-rows-reads.Learnt,
-  table-place-reads.Asked,
-  table-place-reads.Learnt,
-  run-row-below t,
-  run-row.Post,
-) (run-rows-at t) run-rows.Post run-rows-Inv-loop run-rows-μ-loop
+run-rows-mul-if1 : (t : ℕ) → run-rows-lts.Need-mul-if1 (run-rows-claims t) (run-rows-at t) run-rows.Post run-rows-Inv-loop run-rows-μ-loop
 run-rows-mul-if1 t c = let o = c .before .before in let z = row-bounds (o .pre .1 .0) (o .args .q) (o .pre .1 .1) in omega arith
 
--- src/lib.rt:196:20
-run-rows-mul-if1-2 : (t : ℕ) → run-rows-lts.Need-mul-if1-2 (
-  run-leaf-rows-reads.Asked,
-  run-leaf-rows-reads.Learnt,
-  table-place-reads.Asked,
-  table-place-reads.Learnt,
-  run-row-below t,
-  run-row.Post,
-) (run-rows-at t) run-rows.Post run-rows-Inv-loop run-rows-μ-loop
+run-rows-mul-if1-2 : (t : ℕ) → run-rows-lts.Need-mul-if1-2 (run-rows-claims t) (run-rows-at t) run-rows.Post run-rows-Inv-loop run-rows-μ-loop
 run-rows-mul-if1-2 t c = let o = c .before .before in let z = row-bounds (o .pre .1 .0) (o .args .q) (o .pre .1 .1) in omega arith
 
--- src/lib.rt:196:20
-run-rows-shared-slice-read-if1 : (t : ℕ) → run-rows-lts.Need-shared-slice-read-if1 (
-  run-leaf-rows-reads.Asked,
-  run-leaf-rows-reads.Learnt,
-  table-place-reads.Asked,
-  table-place-reads.Learnt,
-  run-row-below t,
-  run-row.Post,
-) (run-rows-at t) run-rows.Post run-rows-Inv-loop run-rows-μ-loop
+run-rows-shared-slice-read-if1 : (t : ℕ) → run-rows-lts.Need-shared-slice-read-if1 (run-rows-claims t) (run-rows-at t) run-rows.Post run-rows-Inv-loop run-rows-μ-loop
 run-rows-shared-slice-read-if1 t c = let o = c .before .before .before in let z = row-bounds (o .pre .1 .0) (o .args .q) (o .pre .1 .1) in omega arith
 
--- src/lib.rt:197:9
-run-rows-run-leaf-rows-requires : (t : ℕ) → run-rows-lts.Need-run-leaf-rows-requires (
-  run-leaf-rows-reads.Asked,
-  run-leaf-rows-reads.Learnt,
-  table-place-reads.Asked,
-  table-place-reads.Learnt,
-  run-row-below t,
-  run-row.Post,
-) (run-rows-at t) run-rows.Post run-rows-Inv-loop run-rows-μ-loop
+run-rows-run-leaf-rows-requires : (t : ℕ) → run-rows-lts.Need-run-leaf-rows-requires (run-rows-claims t) (run-rows-at t) run-rows.Post run-rows-Inv-loop run-rows-μ-loop
 run-rows-run-leaf-rows-requires t c κs = let o = c .before .before .before .before in (o .pre .1 .0, (o .pre .1 .1, c .if1 .taken))
 
--- src/lib.rt:197:9
-run-rows-returns : (t : ℕ) → run-rows-lts.Need-returns (
-  run-leaf-rows-reads.Asked,
-  run-leaf-rows-reads.Learnt,
-  table-place-reads.Asked,
-  table-place-reads.Learnt,
-  run-row-below t,
-  run-row.Post,
-) (run-rows-at t) run-rows.Post run-rows-Inv-loop run-rows-μ-loop
+run-rows-returns : (t : ℕ) → run-rows-lts.Need-returns (run-rows-claims t) (run-rows-at t) run-rows.Post run-rows-Inv-loop run-rows-μ-loop
 run-rows-returns t c = c .run-leaf-rows .ensures
 
--- src/lib.rt:199:41
-run-rows-mul-table-place : (t : ℕ) → run-rows-lts.Need-mul-table-place (
-  run-leaf-rows-reads.Asked,
-  run-leaf-rows-reads.Learnt,
-  table-place-reads.Asked,
-  table-place-reads.Learnt,
-  run-row-below t,
-  run-row.Post,
-) (run-rows-at t) run-rows.Post run-rows-Inv-loop run-rows-μ-loop
+run-rows-mul-table-place : (t : ℕ) → run-rows-lts.Need-mul-table-place (run-rows-claims t) (run-rows-at t) run-rows.Post run-rows-Inv-loop run-rows-μ-loop
 run-rows-mul-table-place t c = let o = c .before .before .before .before in let z = row-bounds (o .pre .1 .0) (o .args .q) (o .pre .1 .1) in omega arith
 
--- src/lib.rt:199:41
-run-rows-add-table-place : (t : ℕ) → run-rows-lts.Need-add-table-place (
-  run-leaf-rows-reads.Asked,
-  run-leaf-rows-reads.Learnt,
-  table-place-reads.Asked,
-  table-place-reads.Learnt,
-  run-row-below t,
-  run-row.Post,
-) (run-rows-at t) run-rows.Post run-rows-Inv-loop run-rows-μ-loop
+run-rows-add-table-place : (t : ℕ) → run-rows-lts.Need-add-table-place (run-rows-claims t) (run-rows-at t) run-rows.Post run-rows-Inv-loop run-rows-μ-loop
 run-rows-add-table-place t c = let o = c .before .before .before .before in let z = row-bounds (o .pre .1 .0) (o .args .q) (o .pre .1 .1) in omega arith
 
--- src/lib.rt:199:39
-run-rows-mul-table-place-2 : (t : ℕ) → run-rows-lts.Need-mul-table-place-2 (
-  run-leaf-rows-reads.Asked,
-  run-leaf-rows-reads.Learnt,
-  table-place-reads.Asked,
-  table-place-reads.Learnt,
-  run-row-below t,
-  run-row.Post,
-) (run-rows-at t) run-rows.Post run-rows-Inv-loop run-rows-μ-loop
+run-rows-mul-table-place-2 : (t : ℕ) → run-rows-lts.Need-mul-table-place-2 (run-rows-claims t) (run-rows-at t) run-rows.Post run-rows-Inv-loop run-rows-μ-loop
 run-rows-mul-table-place-2 t c = let o = c .before .before .before .before in let z = row-bounds (o .pre .1 .0) (o .args .q) (o .pre .1 .1) in omega arith
 
--- src/lib.rt:199:39
-run-rows-shared-slice-read-table-place : (t : ℕ) → run-rows-lts.Need-shared-slice-read-table-place (
-  run-leaf-rows-reads.Asked,
-  run-leaf-rows-reads.Learnt,
-  table-place-reads.Asked,
-  table-place-reads.Learnt,
-  run-row-below t,
-  run-row.Post,
-) (run-rows-at t) run-rows.Post run-rows-Inv-loop run-rows-μ-loop
+run-rows-shared-slice-read-table-place : (t : ℕ) → run-rows-lts.Need-shared-slice-read-table-place (run-rows-claims t) (run-rows-at t) run-rows.Post run-rows-Inv-loop run-rows-μ-loop
 run-rows-shared-slice-read-table-place t c = let o = c .before .before .before .before .before in let z = row-bounds (o .pre .1 .0) (o .args .q) (o .pre .1 .1) in omega arith
 
--- src/lib.rt:199:9
-run-rows-table-place-requires : (t : ℕ) → run-rows-lts.Need-table-place-requires (
-  run-leaf-rows-reads.Asked,
-  run-leaf-rows-reads.Learnt,
-  table-place-reads.Asked,
-  table-place-reads.Learnt,
-  run-row-below t,
-  run-row.Post,
-) (run-rows-at t) run-rows.Post run-rows-Inv-loop run-rows-μ-loop
+run-rows-table-place-requires : (t : ℕ) → run-rows-lts.Need-table-place-requires (run-rows-claims t) (run-rows-at t) run-rows.Post run-rows-Inv-loop run-rows-μ-loop
 run-rows-table-place-requires t c κs = let o = c .before .before .before .before .before in row-bounds (o .pre .1 .0) (o .args .q) (o .pre .1 .1) .high
 
--- src/lib.rt:203:5
-run-rows-loop-holds : (t : ℕ) → run-rows-lts.Need-loop-holds (
-  run-leaf-rows-reads.Asked,
-  run-leaf-rows-reads.Learnt,
-  table-place-reads.Asked,
-  table-place-reads.Learnt,
-  run-row-below t,
-  run-row.Post,
-) (run-rows-at t) run-rows.Post run-rows-Inv-loop run-rows-μ-loop
+run-rows-loop-holds : (t : ℕ) → run-rows-lts.Need-loop-holds (run-rows-claims t) (run-rows-at t) run-rows.Post run-rows-Inv-loop run-rows-μ-loop
 run-rows-loop-holds t c = passed-none _ _ _ _ _ _ _ _ (c .before .before .before .before .before .before .before .pre .1 .0 .readable .standing .size) (c .before .table-place .ensures)
 
--- src/lib.rt:204:9
-run-rows-mul-v : (t : ℕ) → run-rows-lts.Need-mul-v (
-  run-leaf-rows-reads.Asked,
-  run-leaf-rows-reads.Learnt,
-  table-place-reads.Asked,
-  table-place-reads.Learnt,
-  run-row-below t,
-  run-row.Post,
-) (run-rows-at t) run-rows.Post run-rows-Inv-loop run-rows-μ-loop
+run-rows-mul-v : (t : ℕ) → run-rows-lts.Need-mul-v (run-rows-claims t) (run-rows-at t) run-rows.Post run-rows-Inv-loop run-rows-μ-loop
 run-rows-mul-v t c =
     let o = c .before .before .before .before .before .before .before .before .before .before in
     let z = row-bounds (o .pre .1 .0) (o .args .q) (o .pre .1 .1) in
     omega arith
 
--- src/lib.rt:204:9
-run-rows-array-write-v : (t : ℕ) → run-rows-lts.Need-array-write-v (
-  run-leaf-rows-reads.Asked,
-  run-leaf-rows-reads.Learnt,
-  table-place-reads.Asked,
-  table-place-reads.Learnt,
-  run-row-below t,
-  run-row.Post,
-) (run-rows-at t) run-rows.Post run-rows-Inv-loop run-rows-μ-loop
+run-rows-array-write-v : (t : ℕ) → run-rows-lts.Need-array-write-v (run-rows-claims t) (run-rows-at t) run-rows.Post run-rows-Inv-loop run-rows-μ-loop
 run-rows-array-write-v t c =
     let o = c .before .before .before .before .before .before .before .before .before .before in
     let z = row-bounds (o .pre .1 .0) (o .args .q) (o .pre .1 .1) in
     omega arith
 
--- src/lib.rt:205:37
-run-rows-add-run-row : (t : ℕ) → run-rows-lts.Need-add-run-row (
-  run-leaf-rows-reads.Asked,
-  run-leaf-rows-reads.Learnt,
-  table-place-reads.Asked,
-  table-place-reads.Learnt,
-  run-row-below t,
-  run-row.Post,
-) (run-rows-at t) run-rows.Post run-rows-Inv-loop run-rows-μ-loop
+run-rows-add-run-row : (t : ℕ) → run-rows-lts.Need-add-run-row (run-rows-claims t) (run-rows-at t) run-rows.Post run-rows-Inv-loop run-rows-μ-loop
 run-rows-add-run-row t c =
     let o = c .before .before .before .before .before .before .before .before .before .before in
     let z = row-bounds (o .pre .1 .0) (o .args .q) (o .pre .1 .1) in
     omega arith
 
--- src/lib.rt:205:51
-run-rows-add-run-row-2 : (t : ℕ) → run-rows-lts.Need-add-run-row-2 (
-  run-leaf-rows-reads.Asked,
-  run-leaf-rows-reads.Learnt,
-  table-place-reads.Asked,
-  table-place-reads.Learnt,
-  run-row-below t,
-  run-row.Post,
-) (run-rows-at t) run-rows.Post run-rows-Inv-loop run-rows-μ-loop
+run-rows-add-run-row-2 : (t : ℕ) → run-rows-lts.Need-add-run-row-2 (run-rows-claims t) (run-rows-at t) run-rows.Post run-rows-Inv-loop run-rows-μ-loop
 run-rows-add-run-row-2 t c =
     let o = c .before .before .before .before .before .before .before .before .before .before .before in
     let z = row-bounds (o .pre .1 .0) (o .args .q) (o .pre .1 .1) in
     omega arith
 
--- src/lib.rt:205:13
-run-rows-run-row-requires : (t : ℕ) → run-rows-lts.Need-run-row-requires (
-  run-leaf-rows-reads.Asked,
-  run-leaf-rows-reads.Learnt,
-  table-place-reads.Asked,
-  table-place-reads.Learnt,
-  run-row-below t,
-  run-row.Post,
-) (run-rows-at t) run-rows.Post run-rows-Inv-loop run-rows-μ-loop
+run-rows-run-row-requires : (t : ℕ) → run-rows-lts.Need-run-row-requires (run-rows-claims t) (run-rows-at t) run-rows.Post run-rows-Inv-loop run-rows-μ-loop
 run-rows-run-row-requires t c κs =
     let o = c .before .before .before .before .before .before .before .before .before .before .before in
     let m = o .pre .0 in
     let z = row-bounds (o .pre .1 .0) (o .args .q) (o .pre .1 .1) in
     (omega arith, inner-run (o .pre .1 .0) (o .args .q) (o .pre .1 .1) (c .before .if2 .taken) (c .before .before .before .loop .inv))
 
--- src/lib.rt:207:13
-run-rows-returns-2 : (t : ℕ) → run-rows-lts.Need-returns-2 (
-  run-leaf-rows-reads.Asked,
-  run-leaf-rows-reads.Learnt,
-  table-place-reads.Asked,
-  table-place-reads.Learnt,
-  run-row-below t,
-  run-row.Post,
-) (run-rows-at t) run-rows.Post run-rows-Inv-loop run-rows-μ-loop
+run-rows-returns-2 : (t : ℕ) → run-rows-lts.Need-returns-2 (run-rows-claims t) (run-rows-at t) run-rows.Post run-rows-Inv-loop run-rows-μ-loop
 run-rows-returns-2 t c = λ h.
     let o = c .before .before .before .before .before .before .before .before .before .before .before .before .before in
     let below = c .before .before .before .if2 .taken in
@@ -821,54 +389,22 @@ run-rows-returns-2 t c = λ h.
     row-stops h (o .args .q) (o .pre .1 .1) passed below _ (c .before .run-row .ensures (inner-run h (o .args .q) (o .pre .1 .1) below passed))
     (differ _ _ (c .if3 .taken))
 
--- src/lib.rt:209:9
-run-rows-add-first : (t : ℕ) → run-rows-lts.Need-add-first (
-  run-leaf-rows-reads.Asked,
-  run-leaf-rows-reads.Learnt,
-  table-place-reads.Asked,
-  table-place-reads.Learnt,
-  run-row-below t,
-  run-row.Post,
-) (run-rows-at t) run-rows.Post run-rows-Inv-loop run-rows-μ-loop
+run-rows-add-first : (t : ℕ) → run-rows-lts.Need-add-first (run-rows-claims t) (run-rows-at t) run-rows.Post run-rows-Inv-loop run-rows-μ-loop
 run-rows-add-first t c =
     let o = c .before .before .before .before .before .before .before .before .before .before .before .before .before .before in
     let z = row-room (o .pre .1 .0) (o .args .q) (o .pre .1 .1) (c .before .before .before .before .if2 .taken) (c .before .before .before .before .before .before .loop .inv) in
     omega arith
 
--- src/lib.rt:210:9
-run-rows-add-r : (t : ℕ) → run-rows-lts.Need-add-r (
-  run-leaf-rows-reads.Asked,
-  run-leaf-rows-reads.Learnt,
-  table-place-reads.Asked,
-  table-place-reads.Learnt,
-  run-row-below t,
-  run-row.Post,
-) (run-rows-at t) run-rows.Post run-rows-Inv-loop run-rows-μ-loop
+run-rows-add-r : (t : ℕ) → run-rows-lts.Need-add-r (run-rows-claims t) (run-rows-at t) run-rows.Post run-rows-Inv-loop run-rows-μ-loop
 run-rows-add-r t c =
     let o = c .before .before .before .before .before .before .before .before .before .before .before .before .before .before in
     let z = row-few (o .pre .1 .0) (o .args .q) (o .pre .1 .1) (c .before .before .before .before .if2 .taken) (c .before .before .before .before .before .before .loop .inv) in
     omega arith
 
--- src/lib.rt:203:5
-run-rows-loop-less : (t : ℕ) → run-rows-lts.Need-loop-less (
-  run-leaf-rows-reads.Asked,
-  run-leaf-rows-reads.Learnt,
-  table-place-reads.Asked,
-  table-place-reads.Learnt,
-  run-row-below t,
-  run-row.Post,
-) (run-rows-at t) run-rows.Post run-rows-Inv-loop run-rows-μ-loop
+run-rows-loop-less : (t : ℕ) → run-rows-lts.Need-loop-less (run-rows-claims t) (run-rows-at t) run-rows.Post run-rows-Inv-loop run-rows-μ-loop
 run-rows-loop-less t c = let z = c .before .before .before .before .if2 .taken in omega arith
 
--- src/lib.rt:203:5
-run-rows-loop-again : (t : ℕ) → run-rows-lts.Need-loop-again (
-  run-leaf-rows-reads.Asked,
-  run-leaf-rows-reads.Learnt,
-  table-place-reads.Asked,
-  table-place-reads.Learnt,
-  run-row-below t,
-  run-row.Post,
-) (run-rows-at t) run-rows.Post run-rows-Inv-loop run-rows-μ-loop
+run-rows-loop-again : (t : ℕ) → run-rows-lts.Need-loop-again (run-rows-claims t) (run-rows-at t) run-rows.Post run-rows-Inv-loop run-rows-μ-loop
 run-rows-loop-again t c =
     let o = c .before .before .before .before .before .before .before .before .before .before .before .before .before .before in
     let below = c .before .before .before .before .if2 .taken in
@@ -877,15 +413,7 @@ run-rows-loop-again t c =
     sym (c .before .before .run-row .ensures (inner-run h (o .args .q) (o .pre .1 .1) below passed) ∙ inner-says h (o .args .q) (o .pre .1 .1) _)
     ∙ agree _ _ (c .before .if3 .left))
 
--- src/lib.rt:183:1
-run-rows-returns-3 : (t : ℕ) → run-rows-lts.Need-returns-3 (
-  run-leaf-rows-reads.Asked,
-  run-leaf-rows-reads.Learnt,
-  table-place-reads.Asked,
-  table-place-reads.Learnt,
-  run-row-below t,
-  run-row.Post,
-) (run-rows-at t) run-rows.Post run-rows-Inv-loop run-rows-μ-loop
+run-rows-returns-3 : (t : ℕ) → run-rows-lts.Need-returns-3 (run-rows-claims t) (run-rows-at t) run-rows.Post run-rows-Inv-loop run-rows-μ-loop
 run-rows-returns-3 t c = λ h.
     let o = c .before .before .before .before .before .before .before .before .before .before in
     rows-end h (o .args .q) (o .pre .1 .1) (c .before .before .loop .inv) (c .if2 .left)
