@@ -59,4 +59,14 @@ fresh
 printf 'exit 1\n' > "$work/repo/tests/fails.sh"
 expect 'a test script that fails' 1 '^2 passed, 1 failed$'
 
+fresh
+printf '# alone\nexit 1\n' > "$work/repo/tests/fails.sh"
+expect 'a test script that runs alone and fails' 1 '^2 passed, 1 failed$'
+
+fresh
+printf 'sleep 2\nexit 1\n' > "$work/repo/tests/fails.sh"
+printf 'sleep 1\n' > "$work/repo/tests/first.sh"
+printf 'kill -9 $$\n' > "$work/repo/tests/killed.sh"
+expect 'test scripts side by side, of which two fail' 1 '^3 passed, 2 failed$'
+
 exit "$bad"

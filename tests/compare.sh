@@ -1,5 +1,6 @@
 #!/usr/bin/env bash
 # A slice of the long comparison (tests/compare/run): the reference's own tests, half a minute of drawn inputs, and two defects that have to be seen.
+# alone: the comparing program has two threads.
 set -eu
 cd "$(dirname "$0")/.."
 bindings/build

@@ -2,7 +2,7 @@
 use mathlib.Core.Path.{_≡_, sym, ap, _∙_}
 use Prim.Native.Nat.{ℕ}
 use Rattle.tables.specs.Refusals.{Answer}
-use Rattle.roskudla_gate.specs.Exports.{statusOf, numberAfter}
+use Rattle.tables.specs.Exports.{statusOf, numberAfter}
 
 -- r is the case v of an enum, and stands for the answer a
 module _ {A E : Type 0} (f : E → Answer A) {r v : E} {a : Answer A} (stands : f r ≡ a) (is : r ≡ v) where

@@ -2,7 +2,7 @@
 // A slice is a pointer and then a length, in elements; what is written through one argument must not be reachable through another.
 ghost use mathlib.Core.Path.{_≡_};
 ghost use Rattle.card.specs.Calls.{checkCall, runCall, listCall};
-ghost use Rattle.roskudla_gate.specs.Exports.{statusOf, yesNo, numberAfter};
+ghost use Rattle.tables.specs.Exports.{statusOf, yesNo, numberAfter};
 use checker::Checked;
 use gate::Listed;
 use gate::Ran;

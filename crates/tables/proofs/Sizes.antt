@@ -2,14 +2,15 @@
 use mathlib.Core.Path.{_≡_, refl, ap, ap₂, _∙_}
 use mathlib.Core.Bool.{_&&_}
 use mathlib.Core.List.{List, [], _∷_, map}
-use Prim.Native.Nat.{ℕ, suc, _<_}
-use lib.Dec.{T, eqb, leb, eqb→eq, eqb-refl}
+use Prim.Native.Nat.{ℕ, suc, _≤_, _<_}
+use lib.Dec.{T, eqb, leb, leb→le, eqb→eq, eqb-refl}
 use lib.Ieee.Fits.{and-l, and-r, and-i}
 use lib.ListN.{length, getD}
 use Rattle.tables.specs.Lists.{tabulate, all, same}
 use Rattle.tables.specs.Bytes.{between}
 use Rattle.tables.specs.Tables.{mostTables, mostColumns, mostRows, Size, tableCount, sizeAt, sizes, columnsOf, rowCount, sizeFits, sizesFit, sameColumns}
-use Rattle.tables.proofs.Tabulated.{tabulate-length, tabulate-at, tabulate-map}
+use Rattle.tables.proofs.Tabulated.{tabulate-length, tabulate-at, tabulate-map, all-each}
+use Rattle.tables.proofs.Tests.{bounds}
 
 -- a table's columns and rows
 module _ (file : List ℕ) where
@@ -43,6 +44,21 @@ columns-fit file h =
     and-i (between 1 mostTables (length (columnsOf file))) _
     (rw columns-count (and-l (between 1 mostTables (tableCount file)) _ h))
     (all-columns (sizes file) (and-l (all sizeFits (sizes file)) _ (and-r (between 1 mostTables (tableCount file)) _ h)))
+
+-- at most 8 tables
+pub tables-few : (file : List ℕ) → T (sizesFit file) → tableCount file ≤ mostTables
+unfolding sizesFit
+tables-few file h = bounds 1 mostTables (tableCount file) (and-l (between 1 mostTables (tableCount file)) _ h) .1
+
+-- table 1 is there, with at most 1,000 rows
+pub first-rows : (file : List ℕ) → T (sizesFit file) → rowCount file 1 ≤ mostRows
+unfolding sizesFit sizes
+first-rows file h =
+    let n = tableCount file in
+    let some-table = bounds 1 mostTables n (and-l (between 1 mostTables n) _ h) .0 in
+    let every = and-l (all sizeFits (tabulate n (sizeAt file))) _ (and-r (between 1 mostTables n) _ h) in
+    let first = and-r (between 1 mostColumns (sizeAt file 0 .columns)) (leb (sizeAt file 0 .rows) mostRows) (all-each sizeFits n (sizeAt file) every 0 some-table) in
+    rw (count-at file 0 some-table) (leb→le (sizeAt file 0 .rows) mostRows first)
 
 -- ---- the same lists
 

@@ -5,3 +5,5 @@ pub mod Sums
 pub mod Fits
 pub mod Demand3
 pub mod Blanks
+pub mod Status
+pub mod Room

@@ -2,20 +2,22 @@
 use mathlib.Core.Path.{_≡_}
 use mathlib.Core.Bool.{true, false, not}
 use mathlib.Core.List.{List, [], _∷_, _++_, map}
-use mathlib.Core.Option.{some}
-use Prim.Native.Nat.{ℕ}
+use mathlib.Core.Option.{none, some}
+use Prim.Native.Nat.{ℕ, _≤_}
 use lib.ListN.{length, replicate}
-use Rattle.tables.specs.Tables.{Tables}
+use Rattle.tables.specs.Tables.{Tables, mostRows}
 use Rattle.tables.specs.Claims.{BlanksDiffer}
 use Rattle.tables.specs.Values.{Env}
-use Rattle.tables.specs.Refusals.{Refused, Given, firstApplying}
+use Rattle.tables.specs.Refusals.{Answer, Refused, Given, firstApplying}
+use Rattle.tables.specs.Exports.{statusOf, isGiven}
 use Rattle.card.specs.Card.{AsNo, AsYes, Card, answer, entries}
-use Rattle.card.specs.Calls.{runCall, listCall}
+use Rattle.card.specs.Sound.{mostCardBytes}
+use Rattle.card.specs.Calls.{gateRefusals, checkCall, runCall, listCall}
 use Rattle.card.specs.Cases.{workedCard}
 use Rattle.rule.specs.Cases.{caseTables}
 use Rattle.rule.specs.Condition.{Rule}
 use Rattle.rule.specs.declared.Part.{Part}
-use Rattle.rule.specs.Names.{Scoped}
+use Rattle.rule.specs.Names.{mostParts, Scoped}
 use Rattle.rule.specs.Calls.{readingRefusals, Accepted, readCall, judgeCall, admitCall}
 use Rattle.rule.specs.Meaning.{isTrue, isFalse, meaning}
 use Rattle.translation.specs.Translation.{negated, cardOf, ruleCard, entrySum}
@@ -78,3 +80,23 @@ LaterCaseClaim = Later caseTables laterTables
 -- what demand 3 compares, whole: one claim over all rules, files, rows and lent buffers
 abbrev pub Demand3Claim : Type 0
 Demand3Claim = (text file : List ℕ) → Accepted text file → Demand3For text file
+
+-- a status of 0 means that there is one: no refusal has that number
+abbrev pub ZeroIsSuccess : {A : Type 0} → Answer A → Type 0
+ZeroIsSuccess a = statusOf a ≡ 0 → isGiven a ≡ true
+
+-- with so much room as the header names, a call that lends gives its answer where nothing else refuses it: 64 parts, 2,891 bytes of a card, 1,000 rows
+pub record RoomClaim : Type 0 where
+  pub numbers : (mostParts ≡ 64) × (mostCardBytes ≡ 2891) × (mostRows ≡ 1000)
+  pub reading : (text file : List ℕ) (parts : List Part) → Accepted text file → mostParts ≤ length parts → isGiven (readCall text file parts .result) ≡ true
+  pub making : (text file card : List ℕ) → Accepted text file → mostCardBytes ≤ length card → isGiven (cardCall text file card .result) ≡ true
+  pub listing : (card file rows : List ℕ) → firstApplying (gateRefusals card file) ≡ none → mostRows ≤ length rows → isGiven (listCall card file rows .result) ≡ true
+
+-- each call returns 0 for an answer alone
+pub record StatusClaim : Type 0 where
+  pub reading : (text file : List ℕ) (parts : List Part) → ZeroIsSuccess (readCall text file parts .result)
+  pub judging : (text file : List ℕ) (row : ℕ) → ZeroIsSuccess (judgeCall text file row)
+  pub making : (text file card : List ℕ) → ZeroIsSuccess (cardCall text file card .result)
+  pub checking : (card : List ℕ) → ZeroIsSuccess (checkCall card)
+  pub running : (card file : List ℕ) (row : ℕ) → ZeroIsSuccess (runCall card file row)
+  pub listing : (card file rows : List ℕ) → ZeroIsSuccess (listCall card file rows .result)

@@ -48,7 +48,7 @@ use Rattle.reader.proofs.read as read
 use Rattle.reader.proofs.read.Symbol as read-def
 use Rattle.reader.proofs.read.Symbol.{name as #reader·read}
 use Rattle.reader.proofs.read.Met as read-thm
-use Rattle.roskudla_gate.specs.Exports.{statusOf, numberAfter}
+use Rattle.tables.specs.Exports.{statusOf, numberAfter}
 use Rattle.roskudla.proofs.give_count as give
 use Rattle.roskudla.proofs.give_count.Symbol as give-def
 use Rattle.roskudla.proofs.give_count.Symbol.{name as #roskudla·give-count}

@@ -1,7 +1,7 @@
 use borrow.Author.Needs.{needs}
 use mathlib.Core.Path.{_∙_}
 use Rattle.gate.specs.Answers.{ranAnswer}
-use Rattle.roskudla_gate.specs.Exports.{yesNo}
+use Rattle.tables.specs.Exports.{yesNo}
 use Rattle.roskudla_gate.proofs.Answered.{status-is, number-is}
 use Rattle.roskudla_gate.proofs.roskudla_run.Statement.{statement}
 use Rattle.roskudla_gate.proofs.roskudla_run.Tie as tie

@@ -8,8 +8,8 @@ use native.Mathlib.Omega.{arith}
 use Rattle.tables.specs.Refusals.{Refusal, _if_, firstApplying, unless, lend, lendUnless, tablesRefusals, rowRefusal}
 use Rattle.card.specs.Calls.{checkRefusals, gateRefusals, runRefusals, checkCall, runCall, listCall}
 use Rattle.rule.specs.Calls.{readingRefusals, judgeRefusals, readCall, judgeCall}
 use Rattle.translation.specs.Calls.{cardCall}
-use Rattle.roskudla.specs.Claims.{ZeroIsSuccess, StatusClaim}
+use Rattle.translation.specs.Claims.{ZeroIsSuccess, StatusClaim}
 
 -- a refusal that is found has a number above 0
 abbrev Above : Option ℕ → Type 0

@@ -17,3 +17,8 @@ yesNo true = 1
 abbrev pub numberAfter : {A : Type 0} → (A → ℕ) → Answer A → ℕ → ℕ
 numberAfter f (Given x) before = f x
 numberAfter f (Refused n) before = before
+
+-- there is an answer
+abbrev pub isGiven : {A : Type 0} → Answer A → Bool
+isGiven (Given x) = true
+isGiven (Refused n) = false

@@ -6,12 +6,13 @@ use mathlib.Core.Option.{none, some}
 use Prim.Native.Nat.{ℕ, _≤_}
 use native.Mathlib.Omega.{arith}
 use lib.ListN.{length}
-use Rattle.tables.specs.Tables.{columnsOf, sizesFit}
+use Rattle.tables.specs.Tables.{mostRows, columnsOf, sizesFit}
 use Rattle.tables.specs.Refusals.{Lent, firstApplying, tablesRefusals}
+use Rattle.tables.specs.Exports.{isGiven}
+use Rattle.tables.proofs.Tests.{is-so}
 use Rattle.tables.proofs.Refusals.{none-first}
 use Rattle.tables.proofs.Rows.{rows-few}
-use Rattle.tables.proofs.Sizes.{count-at}
-use Rattle.cells.proofs.Cells.{sized-is}
+use Rattle.tables.proofs.Sizes.{tables-few, first-rows}
 use Rattle.card.specs.Calls.{gateRefusals, saysYes, yesRows}
 use Rattle.card.proofs.Claims.{calls-claim as gate-by-cases}
 use Rattle.rule.specs.Condition.{Rule, parts}
@@ -20,19 +21,19 @@ use Rattle.rule.specs.declared.Part.{Part}
 use Rattle.rule.specs.Calls.{ruleOf, Accepted}
 use Rattle.rule.proofs.Accepted.{accepted-allowed, parts-claim}
 use Rattle.rule.proofs.Calls.{calls-claim as rule-by-cases}
 use Rattle.translation.proofs.Demand3.{card-bytes-few, demand-3-claim}
-use Rattle.roskudla.specs.Claims.{isGiven, RoomClaim}
+use Rattle.translation.specs.Claims.{RoomClaim}
 
 not-false : (b : Bool) → not b ≡ false → b ≡ true
 not-false true e = refl
 not-false false e = let z : _≡_ {A = ℕ} 0 1 = cc in absurd (omega arith)
 
 -- tables without a refusal have sizes that fit, so table 1 has at most 1,000 rows
-rows-most : (card file : List ℕ) → firstApplying (gateRefusals card file) ≡ none → length (yesRows card file) ≤ 1000
+rows-most : (card file : List ℕ) → firstApplying (gateRefusals card file) ≡ none → length (yesRows card file) ≤ mostRows
 unfolding gateRefusals tablesRefusals
 rows-most card file e =
-    let sized = sized-is file (not-false (sizesFit file) (none-first 1 (not (sizesFit file)) _ e .0)) in
-    omega (arith, rows-few file (saysYes card file), count-at file 0 (sized .tables-low), sized .each 0 (sized .tables-low) .rows-high)
+    let fits = not-false (sizesFit file) (none-first 1 (not (sizesFit file)) _ e .0) in
+    omega (arith, rows-few file (saysYes card file), first-rows file (is-so (sizesFit file) fits))
 
 -- the rule of an accepted text has few parts, whichever proof says which rule it is
 few : (text file : List ℕ) (a : Accepted text file) (r : Rule) → ruleOf text (columnsOf file) ≡ some r → parts r ≤ mostParts
@@ -49,8 +50,8 @@ room-claim = record {
       ap (λ (l : Lent Part). isGiven (l .result)) (rule-by-cases .read-given text file parts a (p .rule) (p .is-rule) (omega (arith, p .few-parts)));
   making = λ text file card a room.
       let d = demand-3-claim text file a in
-      let sized = sized-is file (accepted-allowed text file a .tables-sized) in
-      let short = card-bytes-few file (d .rule) (sized .tables-high) (few text file a (d .rule) (d .is-rule)) in
+      let fits = is-so (sizesFit file) (accepted-allowed text file a .tables-sized) in
+      let short = card-bytes-few file (d .rule) (tables-few file fits) (few text file a (d .rule) (d .is-rule)) in
       ap (λ (l : Lent ℕ). isGiven (l .result)) (d .cards card .long (omega (arith, short)));
   listing = λ card file rows e room.
       ap (λ (l : Lent ℕ). isGiven (l .result)) (gate-by-cases .list-given card file rows e (omega (arith, rows-most card file e)));

@@ -1,2 +1,0 @@
-pub mod Status
-pub mod Room
