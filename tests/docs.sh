@@ -1,7 +1,8 @@
 #!/usr/bin/env bash
-# docs/ARCHITECTURE.md names what is there: every claim and every must-fail edit that its tables name exists, every claim is named, and so is every edit;
-# its table of crates says what crates.txt says; every definition in its index of document 01's sentences stands in the file that is named, and every
-# test script has its row. Every name in docs/DEMANDS.md is that of a claim, a definition, a function, an edit or a test script that exists.
+# docs/ARCHITECTURE.md names what is there: every claim and every must-fail edit that it names exists, and every claim is named; its table of crates says what
+# crates.txt says; each contract in its table has edits; every definition in its index of document 01's sentences stands in the file that is named, and every
+# test script has its row. Every edit opens with a line that says what is wrong, where it names a claim one that exists, and no two of a crate make the same
+# change. Every name in docs/DEMANDS.md is that of a claim, a definition, a function, an edit or a test script that exists.
 set -u
 cd "$(dirname "$0")/.." || exit 1
 doc=docs/ARCHITECTURE.md
@@ -17,14 +18,22 @@ for claim in $claims; do
   grep -qx "$claim" <<< "$named_claims" || complain "$claim is not named"
 done
 
-named_edits=$(sed -n '/^### Wrong programs/,/^### Recursion/p' "$doc" | cut -d'|' -f3- | grep -oE '`[a-z0-9]+(_[a-z0-9]+)+`' | tr -d '`' | sort -u)
+# an edit is named by its crate and its file; bench/ and tests/ are folders of the repository
+named_edits=$(grep -oE '`[a-z0-9_]+/[a-z0-9_]+`' "$doc" | tr -d '`' | grep -vE '^(bench|tests)/' | sort -u)
 [ -n "$named_edits" ] || complain "no edit is named"
 for edit in $named_edits; do
-  ls crates/*/must-fail/"$edit".edit > /dev/null 2>&1 || complain "the edit $edit is named and is not there"
+  [ -e "crates/${edit%/*}/must-fail/${edit#*/}.edit" ] || complain "the edit $edit is named and is not there"
 done
 for edit in crates/*/must-fail/*.edit; do
-  name=$(basename "$edit" .edit)
-  grep -qx "$name" <<< "$named_edits" || complain "$edit is not named"
+  IFS= read -r first < "$edit"
+  grep -qE '^# [^ ].{19}' <<< "$first" || complain "$edit does not open with a line, '# ..', that says what is wrong with it"
+done
+for claim in $(sed -sn 1p crates/*/must-fail/*.edit | grep -oE '[A-Za-z0-9]+Claim' | sort -u); do
+  grep -qx "$claim" <<< "$claims" || complain "an edit names $claim, which is stated nowhere"
+done
+for folder in crates/*/must-fail; do
+  twice=$(awk '/^file: / { file = $0 } /^old: / { old = $0 } /^new:/ { print file ", " old ", " $0 }' "$folder"/*.edit | sort | uniq -d)
+  [ -z "$twice" ] || complain "two edits of $folder make the same change: $twice"
 done
 
 python3 -B tests/docs/architecture.py || bad=1

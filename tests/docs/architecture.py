@@ -1,5 +1,5 @@
-"""docs/ARCHITECTURE.md against the tree: the table of crates against crates.txt, the index of document 01's sentences against the definitions, and the table of
-test scripts against tests/.
+"""docs/ARCHITECTURE.md against the tree: the table of crates against crates.txt, the table of contracts against the must-fail edits, the index of document 01's
+sentences against the definitions, and the table of test scripts against tests/.
 """
 import pathlib
 import re
@@ -9,6 +9,7 @@ ROOT = pathlib.Path(__file__).resolve().parents[2]
 TEXT = (ROOT / "docs" / "ARCHITECTURE.md").read_text()
 KIT = {"io", "os", "libc"}
 INDEX = "## Where the sentences of document 01 stand"
+EDITS = "### Wrong programs that the contracts rule out"
 faults = []
 
 
@@ -63,6 +64,19 @@ def check_crates():
             faults.append(f"an edit of {name} rechecks {sorted(above - {name})}, not {quoted(cells[4])}")
 
 
+def check_contracts():
+    """The table of contracts: each crate that a contract names has must-fail edits, and together they have at least two."""
+    found = 0
+    for contract, *cells in (cells for cells in rows(section(EDITS), 3) if quoted(cells[1])):
+        found += 1
+        edits = {name: len(list((ROOT / "crates" / name / "must-fail").glob("*.edit"))) for cell in cells for name in quoted(cell)}
+        faults.extend(f"{contract} names {name}, which has no edits" for name in edits if not edits[name])
+        if sum(edits.values()) < 2:
+            faults.append(f"{contract} has fewer than two edits")
+    if not found:
+        faults.append("the table of contracts is empty")
+
+
 def is_defined(name, text):
     """Whether a definition, function, type, constant, constructor or field has this name."""
     word = re.escape(name)
@@ -99,6 +113,7 @@ def check_scripts():
 
 
 check_crates()
+check_contracts()
 check_index()
 check_scripts()
 for fault in faults:

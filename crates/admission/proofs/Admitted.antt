@@ -10,7 +10,7 @@ use lib.Dec.{ltb}
 use lib.ListN.{length, take, drop, length-append}
 use lib.Seq.{take-at}
 use Rattle.tables.specs.Tables.{columnsOf, sameColumns}
-use Rattle.tables.specs.Refusals.{firstApplying, Given, Lent, lend, tablesRefusals}
+use Rattle.tables.specs.Refusals.{firstApplying, Refused, Given, Lent, lend, tablesRefusals}
 use Rattle.tables.proofs.Refusals.{first-nil, first-none, lend-short, lend-long, lend-refused}
 use Rattle.tables.proofs.Sizes.{same-refl}
 use Rattle.tables.proofs.Tests.{is-true}
@@ -25,11 +25,8 @@ use Rattle.translation.specs.Demand3.{Later, publishedLength, Demand3For}
 use Rattle.translation.proofs.Demand3.{card-bytes-few, demand-3-claim}
 use Rattle.cells.specs.Reasons.{reasonNumber}
 use Rattle.cells.specs.declared.Reason.{Reason}
-use Rattle.gate.specs.Answers.{listedAnswer}
-use Rattle.gate.specs.declared.Listed.{Listed}
 use Rattle.translator.specs.Answers.{madeAnswer}
 use Rattle.translator.specs.declared.Made.{Made}
-use Rattle.admission.specs.Code.{passedUp}
 use Rattle.admission.specs.Claims.{AdmitClaim}
 use Rattle.admission.proofs.Lent.{lent-given, lent-refused}
 
@@ -129,10 +126,8 @@ module _ (text file room : List ℕ) (size : length room ≡ mostCardBytes) (mad
     pub lists-rows : (buffer : List ℕ) → listCall (take n card) file buffer ≡ admitCall text file buffer
     lists-rows buffer = ap (λ (c : List ℕ). listCall c file buffer) card-is ∙ lists-admitted text file accepts buffer
 
-  pub passed-refusal : (buffer : List ℕ) (x : Reason) (up : Listed) → made ≡ Made.NotMade x → up ≡ passedUp made
-      → (listedAnswer up ≡ admitCall text file buffer .result) × (buffer ≡ admitCall text file buffer .buffer)
-  passed-refusal buffer x up e u =
-      let is = admit-claim .admit-refused text file buffer (reasonNumber x) (reading-refused x e) in (
-        ap listedAnswer (u ∙ ap passedUp e) ∙ sym (ap (λ (a : Lent ℕ). a .result) is),
-        sym (ap (λ (a : Lent ℕ). a .buffer) is),
-      )
+  pub passed-refusal : (buffer : List ℕ) (x : Reason) → made ≡ Made.NotMade x
+      → (Refused (reasonNumber x) ≡ admitCall text file buffer .result) × (buffer ≡ admitCall text file buffer .buffer)
+  passed-refusal buffer x e =
+      let is = admit-claim .admit-refused text file buffer (reasonNumber x) (reading-refused x e) in
+      (sym (ap (λ (a : Lent ℕ). a .result) is), sym (ap (λ (a : Lent ℕ). a .buffer) is))

@@ -8,7 +8,7 @@ use native.Mathlib.Nat.{le-of-suc-le-suc, not-suc-le-zero}
 use native.Mathlib.Omega.{arith}
 use lib.ListN.{length, getD, take, drop, List·getD-append}
 use lib.Seq.{take-at}
-use Rattle.tables.specs.Tables.{columnsOf, sizeAt, rowCount, rowsWhere}
+use Rattle.tables.specs.Tables.{mostRows, columnsOf, sizeAt, rowCount, rowsWhere}
 use Rattle.tables.specs.Refusals.{Given, Lent}
 use Rattle.tables.proofs.Rows.{rows-few, rows-claim}
 use Rattle.tables.proofs.Sizes.{count-at}
@@ -45,7 +45,7 @@ module _ (text file : List ℕ) (accepted : Accepted text file) where
   total-is : rowCount file 1 ≡ sizeAt file 0 .rows
   total-is = count-at file 0 (sized .tables-low)
 
-  total-few : sizeAt file 0 .rows ≤ 1000
+  total-few : sizeAt file 0 .rows ≤ mostRows
   total-few = sized .each 0 (sized .tables-low) .rows-high
 
   abbrev rule : Rule
@@ -54,7 +54,7 @@ module _ (text file : List ℕ) (accepted : Accepted text file) where
   abbrev rows : List ℕ
   rows = trueRows file rule
 
-  rows-most : length rows ≤ 1000
+  rows-most : length rows ≤ mostRows
   rows-most = omega (arith, rows-few file (trueAt file rule), total-is, total-few)
 
   output-given : rowsText (rowCount file 1) rows ≡ output text file
@@ -64,7 +64,7 @@ module _ (text file : List ℕ) (accepted : Accepted text file) where
       (ap (outputFor text file) accepted
       ∙ ap (λ (o : Option Rule). rowsText (rowCount file 1) (withRule o [] (trueRows file))) (parts-claim text file accepted .is-rule))
 
-  module _ (room : List ℕ) (size : length room ≡ 1000) where
+  module _ (room : List ℕ) (size : length room ≡ mostRows) where
     admits : admitCall text file room ≡ record { result = Given (length rows); buffer = rows ++ drop (length rows) room }
     admits = admit-claim .admit-given text file room accepted rule (parts-claim text file accepted .is-rule) (omega (arith, rows-most))
 
@@ -87,7 +87,7 @@ reason-small Columns = omega arith
 reason-small Row = omega arith
 reason-small Short = omega arith
 
-module _ (text file room : List ℕ) (size : length room ≡ 1000) (listed : Listed) (answer : listedAnswer listed ≡ admitCall text file room .result) where
+module _ (text file room : List ℕ) (size : length room ≡ mostRows) (listed : Listed) (answer : listedAnswer listed ≡ admitCall text file room .result) where
   pub prints-refusal : (x : Reason) → listed ≡ Listed.NotListed x → refusalText (reasonNumber x) ≡ output text file
   unfolding admitCall
   prints-refusal x e =
@@ -103,7 +103,7 @@ module _ (text file room : List ℕ) (size : length room ≡ 1000) (listed : Lis
     pub prints-sized : 3 < length file
     prints-sized = let s = sized text file accepts in omega (arith, s .long, s .tables-low)
 
-    pub prints-total : sizeAt file 0 .rows ≤ 1000
+    pub prints-total : sizeAt file 0 .rows ≤ mostRows
     prints-total = total-few text file accepts
 
     is-count : n ≡ length (rows text file accepts)
@@ -111,7 +111,7 @@ module _ (text file room : List ℕ) (size : length room ≡ 1000) (listed : Lis
         let a : Given n ≡ Given _ = sym (ap listedAnswer e) ∙ answer ∙ ap (λ (a : Lent ℕ). a .result) (admits text file accepts room size) in
         cc
 
-    pub prints-few : n ≤ 1000
+    pub prints-few : n ≤ mostRows
     prints-few = omega (arith, is-count, rows-most text file accepts)
 
     module _ (after : List ℕ) (written : after ≡ admitCall text file room .buffer) where

@@ -8,21 +8,21 @@ use lib.Seq.{length-take-le}
 use Rattle.tables.specs.Lists.{placed}
 use Rattle.tables.proofs.Placed.{placed-length, placed-none, placed-start, placed-next}
 use Rattle.rule.specs.Tokens.{bytes}
-use Rattle.admission.specs.Output.{decimal, lineFeed, rowLines, rowsText, refusalText}
+use Rattle.admission.specs.Output.{mostOutput, decimal, lineFeed, rowLines, rowsText, refusalText}
 
 -- this text was written from the start of an output on; it has at most so many bytes, and the next place is behind it
 pub record Begun (before text : List ℕ) (most : ℕ) (out : List ℕ) (next : ℕ) : Type 0 where
-  pub size : length out ≡ 5018
+  pub size : length out ≡ mostOutput
   pub short : next ≤ most
   pub ends : next ≡ length text
   pub begins : out ≡ placed before 0 text
 
-pub begun-none : (out : List ℕ) → length out ≡ 5018 → Begun out [] 0 out 0
+pub begun-none : (out : List ℕ) → length out ≡ mostOutput → Begun out [] 0 out 0
 begun-none out l = record { size = l; short = omega arith; ends = refl; begins = sym (placed-none out 0) }
 
 -- some bytes more
 pub begun-more : (before text : List ℕ) (most : ℕ) (out : List ℕ) (i : ℕ) → Begun before text most out i
-    → (new after : List ℕ) (next k : ℕ) → after ≡ placed out i new → next ≡ i + length new → length new ≤ k → most + k ≤ 5018
+    → (new after : List ℕ) (next k : ℕ) → after ≡ placed out i new → next ≡ i + length new → length new ≤ k → most + k ≤ mostOutput
     → Begun before (text ++ new) (most + k) after next
 begun-more before text most out i b new after next k e n h room =
     let l = b .size in
@@ -38,7 +38,7 @@ begun-more before text most out i b new after next k e n h room =
 abbrev pub Answered : (before text out : List ℕ) (next : ℕ) → Type 0
 Answered before text out next = (out ≡ placed before 0 text) × ((next ≡ length text) × ((next ≤ length out) × (next ≡ length (take next out))))
 
-pub begun-answered : (before text : List ℕ) (most : ℕ) (out : List ℕ) (next : ℕ) → Begun before text most out next → most ≤ 5018
+pub begun-answered : (before text : List ℕ) (most : ℕ) (out : List ℕ) (next : ℕ) → Begun before text most out next → most ≤ mostOutput
     → (text′ : List ℕ) → text ≡ text′ → Answered before text′ out next
 begun-answered before text most out next b room text′ same =
     let l : next ≤ length out = omega (arith, b .size, b .short) in

@@ -8,7 +8,7 @@ use native.Mathlib.Omega.{arith}
 use borrow.Author.Tests.{lt-ltb, le-ltb}
 use lib.Dec.{ltb}
 use lib.ListN.{length, getD, take, set, length-append}
-use lib.Seq.{length-take-le, take-suc}
+use lib.Seq.{take-suc}
 use Rattle.tables.specs.Lists.{placed}
 use Rattle.tables.proofs.Placed.{placed-length, placed-none, placed-one, placed-next}
 use Rattle.admission.specs.Output.{decimalOf, decimal, lineFeed, rowLines}
@@ -49,13 +49,6 @@ module _ (before : List ℕ) (i : ℕ) where
 
 take-next : (l : List ℕ) (k : ℕ) → k < length l → take (k + 1) l ≡ take k l ++ (getD l k 0 ∷ [])
 take-next l k h = rw (add-one k) (take-suc l k 0 h)
-
-pub word-more : (before word out : List ℕ) (i k : ℕ) → k < length word → i + length word ≤ length before → out ≡ placed before i (take k word)
-    → set out (i + k) (getD word k 0) ≡ placed before i (take (k + 1) word)
-word-more before word out i k h room e =
-    let t : length (take k word) ≡ k = length-take-le k word (omega arith) in
-    let w = written-byte before i (take k word) out (i + k) (record { is = e; behind = omega arith }) (getD word k 0) (omega arith) in
-    w .is ∙ ap (placed before i) (sym (take-next word k h))
 
 -- ---- a number
 

@@ -2,14 +2,6 @@
 use mathlib.Core.List.{List}
 use Prim.Native.Nat.{ℕ, _<_}
 use lib.ListN.{getD}
-use Rattle.gate.specs.declared.Listed.{Listed}
-use Rattle.gate.specs.declared.Listed.the-variants.{Rows, NotListed}
-use Rattle.translator.specs.declared.Made.{Made}
-use Rattle.translator.specs.declared.Made.the-variants.{Bytes, NotMade}
-
-abbrev pub passedUp : Made → Listed
-passedUp (Bytes n) = Rows n
-passedUp (NotMade x) = NotListed x
 
 -- the first n rows have at most four digits each
 abbrev pub RowsShort : List ℕ → ℕ → Type 0

@@ -6,7 +6,7 @@ use mathlib.Core.Option.{Option, none, some}
 use Prim.Native.Nat.{ℕ, zero, suc, _+_, _*_, _/_, _%_}
 use lib.Dec.{ltb}
 use lib.ListN.{length, take, drop}
-use Rattle.tables.specs.Tables.{mostTables, mostCells, columnsOf, rowCount}
+use Rattle.tables.specs.Tables.{mostRows, mostTables, mostCells, columnsOf, rowCount}
 use Rattle.tables.specs.Refusals.{firstApplying}
 use Rattle.rule.specs.Tokens.{bytes}
 use Rattle.rule.specs.Calls.{mostBytes, readingRefusals, ruleOf, withRule, trueRows}
@@ -43,6 +43,11 @@ outputFor text file none = rowsText (rowCount file 1) (withRule (ruleOf text (co
 -- the first refusal of reading that applies, or the rows where the rule is true
 unfoldable pub output : List ℕ → List ℕ → List ℕ
 output text file = outputFor text file (firstApplying (readingRefusals text file))
+
+-- ---- how long its output is at most: a line of 18 bytes, and one of 5 for each row
+
+abbrev pub mostOutput : ℕ
+mostOutput = 18 + 5 * mostRows
 
 -- ---- how much of its files the program reads: a byte more than any that is accepted has
 

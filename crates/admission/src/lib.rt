@@ -4,11 +4,12 @@ ghost use mathlib.Core.List.{_++_};
 ghost use Prim.Native.Nat.{_+_, _*_, _<_, _≤_};
 ghost use lib.ListN.{length, take, drop};
 ghost use Rattle.tables.specs.Lists.{placed};
+ghost use Rattle.tables.specs.Tables.{mostRows};
 ghost use Rattle.rule.specs.Calls.{admitCall};
 ghost use Rattle.io.specs.Counts.{Counts};
 ghost use Rattle.gate.specs.Answers.{listedAnswer};
-ghost use Rattle.admission.specs.Output.{decimal, rowLines, rowsText, refusalText, output, readOfText, readOfTables, WrittenFor};
-ghost use Rattle.admission.specs.Code.{passedUp, RowsShort};
+ghost use Rattle.admission.specs.Output.{mostOutput, decimal, rowLines, rowsText, refusalText, output, readOfText, readOfTables, WrittenFor};
+ghost use Rattle.admission.specs.Code.{RowsShort};
 use card::MOST_ENTRIES;
 use card::RECORD_SIZE;
 use cells::MOST_CELLS;
@@ -29,16 +30,6 @@ const MOST_CARD: usize = 3 + MOST_TABLES + (1 + RECORD_SIZE) * MOST_ENTRIES;
 // Room for the longest output: a line of at most 18 bytes, and one of at most 5 for each of 1,000 rows.
 pub const OUTPUT: usize = 18 + 5 * MOST_ROWS;
 
-// A refusal of CARD, as LIST would answer it; it is asked of refusals alone, so what a card gives here does not matter.
-fn passed_up(made: Made) -> Listed
-    ensures { λ r. ⌜ r ≡ passedUp made ⌝ }
-{
-    match made {
-        Made::Bytes(n) => Listed::Rows(n),
-        Made::NotMade(x) => Listed::NotListed(x),
-    }
-}
-
 // The rows of table 1 on which the rule is true, rising, from the start of out on. The card is made and run; what is promised is the three-valued
 // meaning.
 pub fn admit(text: &[u8], file: &[u8], out: &mut [u32]) -> Listed
@@ -47,29 +38,25 @@ pub fn admit(text: &[u8], file: &[u8], out: &mut [u32]) -> Listed
 {
     let mut card = [0u8; MOST_CARD];
     let made = translator::make_card(text, file, &mut card);
-    let Made::Bytes(n) = made else {
-        return passed_up(made);
-    };
-    gate::list(&card[..n], file, out)
+    match made {
+        Made::Bytes(n) => gate::list(&card[..n], file, out),
+        Made::NotMade(x) => Listed::NotListed(x),
+    }
 }
 
 // The bytes of a word from place i on; the next place.
 fn put_word(out: &mut [u8; OUTPUT], i: usize, word: &[u8]) -> usize
-    requires { ⌜ length (now out) ≡ 5018 ⌝ ∗ ⌜ i + length (now word) ≤ 5018 ⌝ }
+    requires { ⌜ length (now out) ≡ mostOutput ⌝ ∗ ⌜ i + length (now word) ≤ mostOutput ⌝ }
     ensures written { λ r. ⌜ now (out .exit) ≡ placed (now (out .entry)) i (now (word .entry)) ⌝ }
     ensures next { λ r. ⌜ r ≡ i + length (now (word .entry)) ⌝ }
 {
-    let mut k: usize = 0;
-    while k < word.len() {
-        out[i + k] = word[k];
-        k += 1;
-    }
+    cells::put_bytes(out, i, word);
     i + word.len()
 }
 
 // A number of at most four digits from place i on; the next place.
 fn put_decimal(out: &mut [u8; OUTPUT], i: usize, n: usize) -> usize
-    requires { ⌜ length (now out) ≡ 5018 ⌝ ∗ ⌜ n < 10000 ⌝ ∗ ⌜ i + 4 ≤ 5018 ⌝ }
+    requires { ⌜ length (now out) ≡ mostOutput ⌝ ∗ ⌜ n < 10000 ⌝ ∗ ⌜ i + 4 ≤ mostOutput ⌝ }
     ensures written { λ r. ⌜ now (out .exit) ≡ placed (now (out .entry)) i (decimal n) ⌝ }
     ensures next { λ r. ⌜ r ≡ i + length (decimal n) ⌝ }
     ensures short { λ r. ⌜ r ≤ i + 4 ⌝ }
@@ -84,7 +71,7 @@ fn put_decimal(out: &mut [u8; OUTPUT], i: usize, n: usize) -> usize
 
 // A row number and a line feed for each of the first n rows, from place i on; the next place.
 fn put_rows(out: &mut [u8; OUTPUT], i: usize, rows: &[u32; MOST_ROWS], n: usize) -> usize
-    requires { ⌜ length (now out) ≡ 5018 ⌝ ∗ ⌜ length (now rows) ≡ 1000 ⌝ ∗ ⌜ n ≤ 1000 ⌝ ∗ ⌜ RowsShort (now rows) n ⌝ ∗ ⌜ i + 5 * n ≤ 5018 ⌝ }
+    requires { ⌜ length (now out) ≡ mostOutput ⌝ ∗ ⌜ length (now rows) ≡ mostRows ⌝ ∗ ⌜ n ≤ mostRows ⌝ ∗ ⌜ RowsShort (now rows) n ⌝ ∗ ⌜ i + 5 * n ≤ mostOutput ⌝ }
     ensures written { λ r. ⌜ now (out .exit) ≡ placed (now (out .entry)) i (rowLines (take n (now (rows .entry)))) ⌝ }
     ensures next { λ r. ⌜ r ≡ i + length (rowLines (take n (now (rows .entry)))) ⌝ }
     ensures short { λ r. ⌜ r ≤ i + 5 * n ⌝ }
@@ -102,7 +89,7 @@ fn put_rows(out: &mut [u8; OUTPUT], i: usize, rows: &[u32; MOST_ROWS], n: usize)
 
 // The number of admitted rows and that of all rows, then the admitted ones.
 fn print_rows(out: &mut [u8; OUTPUT], rows: &[u32; MOST_ROWS], n: usize, total: usize) -> usize
-    requires { ⌜ length (now out) ≡ 5018 ⌝ ∗ ⌜ length (now rows) ≡ 1000 ⌝ ∗ ⌜ n ≤ 1000 ⌝ ∗ ⌜ RowsShort (now rows) n ⌝ ∗ ⌜ total ≤ 1000 ⌝ }
+    requires { ⌜ length (now out) ≡ mostOutput ⌝ ∗ ⌜ length (now rows) ≡ mostRows ⌝ ∗ ⌜ n ≤ mostRows ⌝ ∗ ⌜ RowsShort (now rows) n ⌝ ∗ ⌜ total ≤ mostRows ⌝ }
     ensures written { λ r. ⌜ now (out .exit) ≡ placed (now (out .entry)) 0 (rowsText total (take n (now (rows .entry)))) ⌝ }
     ensures next { λ r. ⌜ r ≡ length (rowsText total (take n (now (rows .entry)))) ⌝ }
     ensures counted { λ r. ⌜ Counts r (now (out .exit)) ⌝ }
@@ -117,7 +104,7 @@ fn print_rows(out: &mut [u8; OUTPUT], rows: &[u32; MOST_ROWS], n: usize, total: 
 
 // A refusal: its number.
 fn print_refusal(out: &mut [u8; OUTPUT], number: usize) -> usize
-    requires { ⌜ length (now out) ≡ 5018 ⌝ ∗ ⌜ number < 10000 ⌝ }
+    requires { ⌜ length (now out) ≡ mostOutput ⌝ ∗ ⌜ number < 10000 ⌝ }
     ensures written { λ r. ⌜ now (out .exit) ≡ placed (now (out .entry)) 0 (refusalText number) ⌝ }
     ensures next { λ r. ⌜ r ≡ length (refusalText number) ⌝ }
     ensures counted { λ r. ⌜ Counts r (now (out .exit)) ⌝ }
@@ -129,7 +116,7 @@ fn print_refusal(out: &mut [u8; OUTPUT], number: usize) -> usize
 
 // What the program prints for a text and a tables file, at the start of out; how many bytes.
 fn print(text: &[u8], file: &[u8], out: &mut [u8; OUTPUT]) -> usize
-    requires { ⌜ length (now out) ≡ 5018 ⌝ }
+    requires { ⌜ length (now out) ≡ mostOutput ⌝ }
     ensures printed { λ r. ⌜ now (out .exit) ≡ output (now (text .entry)) (now (file .entry)) ++ drop (length (output (now (text .entry)) (now (file .entry)))) (now (out .entry)) ⌝ }
     ensures next { λ r. ⌜ r ≡ length (output (now (text .entry)) (now (file .entry))) ⌝ }
     ensures counted { λ r. ⌜ Counts r (now (out .exit)) ⌝ }
@@ -148,7 +135,7 @@ fn print(text: &[u8], file: &[u8], out: &mut [u8; OUTPUT]) -> usize
 // What the program prints when it has read the first n bytes of text and the first m bytes of tables. The buffers that it reads into have a byte more than
 // any accepted file, so that a longer one is refused as the whole of it is, and never cut.
 pub fn print_files(text: &[u8], n: usize, tables: &[u8], m: usize, out: &mut [u8; OUTPUT]) -> usize
-    requires { ⌜ length (now text) ≡ readOfText ⌝ ∗ ⌜ n ≤ length (now text) ⌝ ∗ ⌜ length (now tables) ≡ readOfTables ⌝ ∗ ⌜ m ≤ length (now tables) ⌝ ∗ ⌜ length (now out) ≡ 5018 ⌝ }
+    requires { ⌜ length (now text) ≡ readOfText ⌝ ∗ ⌜ n ≤ length (now text) ⌝ ∗ ⌜ length (now tables) ≡ readOfTables ⌝ ∗ ⌜ m ≤ length (now tables) ⌝ ∗ ⌜ length (now out) ≡ mostOutput ⌝ }
     ensures written { λ r. ⌜ WrittenFor (take n (now (text .entry))) (take m (now (tables .entry))) (now (out .entry)) (now (out .exit)) r ⌝ }
     ensures counted { λ r. ⌜ Counts r (now (out .exit)) ⌝ }
 {

@@ -15,7 +15,7 @@ use Rattle.tables.specs.Bytes.{between, byteAt, word32, bytes32, bits, inRange}
 use Rattle.tables.specs.Tables.{mostTables, mostColumns}
 use Rattle.tables.specs.Values.{constantTag, judgedLevels, Value, Constant, Column, Comparison, Eq, Ne, Lt, Le, Gt, Ge, comparisonNumber, And, Or, Some, All, valueFits}
 use Rattle.card.specs.Card.{mostRowEntries, AsNo, AsYes, Leaf, CompareLeaf, BlankLeaf, NotBlankLeaf, Card, LeafEntry, PairEntry, RowEntry, entries, leafFits, rowEntryFits, cardFits}
-use Rattle.card.specs.Layout.{Head, LeafHead, PairHead, RowHead, kindOf, valueBytes, noValue, recordBytes, cardBytes, valueOf, valueFrom, zeros, headFrom, inside, entryFrom, cardFrom}
+use Rattle.card.specs.Layout.{recordSize, valueSize, leftPlace, rightPlace, Head, LeafHead, PairHead, RowHead, kindOf, valueBytes, noValue, recordBytes, cardBytes, valueOf, valueFrom, zeros, headFrom, inside, entryFrom, cardFrom}
 use Rattle.card.specs.Sound.{mostEntries, columnsFit, laid, sound, Sound}
 use Rattle.tables.proofs.Values.{comparison-back}
 use Rattle.tables.proofs.Tests.{is-true, both, bounds}
@@ -60,21 +60,21 @@ only-true e p = ap₂ only e p
 
 -- the left value of a record, the right one, and none
 module _ (bs : List ℕ) (l : Value) (short : ValueShort l) where
-  left-back : (r : List ℕ) → drop 4 bs ≡ valueBytes l ++ r → valueFrom bs 4 ≡ l
-  left-back r d = value-back l bs 4 r short d
+  left-back : (r : List ℕ) → drop leftPlace bs ≡ valueBytes l ++ r → valueFrom bs leftPlace ≡ l
+  left-back r d = value-back l bs leftPlace r short d
 
-  behind : (r : List ℕ) → drop 4 bs ≡ valueBytes l ++ r → drop 9 bs ≡ r
-  behind r d = skip-to bs 4 9 (valueBytes l) r d (omega (arith, value-length l))
+  behind : (r : List ℕ) → drop leftPlace bs ≡ valueBytes l ++ r → drop rightPlace bs ≡ r
+  behind r d = skip-to bs leftPlace rightPlace (valueBytes l) r d (omega (arith, value-length l))
 
-  right-back : (r : Value) → ValueShort r → drop 4 bs ≡ valueBytes l ++ valueBytes r → valueFrom bs 9 ≡ r
-  right-back r s d = value-back r bs 9 [] s (behind (valueBytes r) d ∙ sym (append-nil (valueBytes r)))
+  right-back : (r : Value) → ValueShort r → drop leftPlace bs ≡ valueBytes l ++ valueBytes r → valueFrom bs rightPlace ≡ r
+  right-back r s d = value-back r bs rightPlace [] s (behind (valueBytes r) d ∙ sym (append-nil (valueBytes r)))
 
   -- so that the right value's place has zeros
-  no-right : drop 4 bs ≡ valueBytes l ++ noValue → zeros bs 9 14 ≡ true
+  no-right : drop leftPlace bs ≡ valueBytes l ++ noValue → zeros bs rightPlace recordSize ≡ true
   unfolding zeros
   no-right d =
-      let f : (k : ℕ) → eqb (byteAt bs (9 + k)) 0 ≡ eqb (byteAt noValue k) 0 = λ k. ap (λ (x : ℕ). eqb x 0) (at bs 9 k noValue (behind noValue d)) in
-      ap (λ (p : ℕ → Bool). all p (tabulate 5 (λ k. k))) (fun-ext f)
+      let f : (k : ℕ) → eqb (byteAt bs (rightPlace + k)) 0 ≡ eqb (byteAt noValue k) 0 = λ k. ap (λ (x : ℕ). eqb x 0) (at bs rightPlace k noValue (behind noValue d)) in
+      ap (λ (p : ℕ → Bool). all p (tabulate valueSize (λ k. k))) (fun-ext f)
 
 head-back : (h : Head) (e : ℕ) → HeadShort h → headFrom (kindOf h) (recordBytes e h) ≡ some h
 unfolding headFrom zeros

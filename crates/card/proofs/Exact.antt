@@ -13,7 +13,7 @@ use Rattle.tables.specs.Lists.{tabulate, all, only, _>>=_}
 use Rattle.tables.specs.Bytes.{between, byteAt, word16, word32, bytes16, bytes32, signed}
 use Rattle.tables.specs.Values.{constantTag, judgedLevels, Constant, Column, comparisonNumber, comparisonOf, Connective, And, Or, Quantifier, Some, All}
 use Rattle.card.specs.Card.{Interpretation, AsNo, AsYes, Leaf, CompareLeaf, BlankLeaf, NotBlankLeaf, Card, LeafEntry, PairEntry, RowEntry, entries, cardFits}
-use Rattle.card.specs.Layout.{recordSize, Head, LeafHead, PairHead, RowHead, kindOf, valueBytes, noValue, fieldBytes, recordBytes, kindBytes, recordsFrom, cardBytes, cardLength, entryCount, tablesIn, columnsIn, kindAt, recordAt, endAt, valueFrom, zeros, headFrom, Taken, inside, entryFrom, cardFrom}
+use Rattle.card.specs.Layout.{recordSize, tablePlace, comparisonPlace, leftPlace, rightPlace, usesEnd, usesTable, usesComparison, usesLeft, Head, LeafHead, PairHead, RowHead, kindOf, valueBytes, noValue, fieldBytes, recordBytes, kindBytes, recordsFrom, cardBytes, cardLength, entryCount, tablesIn, columnsIn, kindAt, recordAt, endAt, valueFrom, zeros, headFrom, Taken, inside, entryFrom, cardFrom}
 use Rattle.card.specs.Sound.{mostEntries, columnsFit, holdsFitting, laid, sound, Sound}
 use Rattle.tables.proofs.Values.{comparison-number}
 use Rattle.tables.proofs.Tests.{both, bounds}
@@ -83,40 +83,43 @@ module _ (r : List ℕ) (b : Bytes r) where
   unfolding zeros
   zeros-exact i j t = all-zero (j - i) (λ k. byteAt r (i + k)) (λ k. k) t
 
-  says : (h : Head) → fieldBytes h ≡ tabulate 12 (λ k. byteAt r (2 + k)) → Says r (kindOf h) h
+  says : (h : Head) → fieldBytes h ≡ tabulate (recordSize - tablePlace) (λ k. byteAt r (tablePlace + k)) → Says r (kindOf h) h
   says h p = record { kind-is = refl; bytes-are = ap₂ _++_ (to16 (byteAt r 0) (byteAt r 1) (b 0) (b 1)) p }
 
-  both-says : (j : Connective) → T (zeros r 2 14) → Says r (kindOf (PairHead j)) (PairHead j)
-  both-says j t = says (PairHead j) (sym (zeros-exact 2 14 t))
+  both-says : (j : Connective) → T (usesEnd r) → Says r (kindOf (PairHead j)) (PairHead j)
+  both-says j t = says (PairHead j) (sym (zeros-exact tablePlace recordSize t))
 
-  rows-says : (q : Quantifier) → T (zeros r 3 14) → let h = RowHead q (byteAt r 2) in Says r (kindOf h) h
-  rows-says q t = says (RowHead q (byteAt r 2)) (ap (λ (l : List ℕ). byteAt r 2 ∷ l) (sym (zeros-exact 3 14 t)))
+  rows-says : (q : Quantifier) → T (usesTable r) → let h = RowHead q (byteAt r tablePlace) in Says r (kindOf h) h
+  rows-says q t = says (RowHead q (byteAt r tablePlace)) (ap (λ (l : List ℕ). byteAt r tablePlace ∷ l) (sym (zeros-exact comparisonPlace recordSize t)))
 
-  compare-says : (u : Interpretation) → T (zeros r 2 3 && between 1 6 (byteAt r 3))
-      → let h = LeafHead (CompareLeaf u (comparisonOf (byteAt r 3)) (valueFrom r 4) (valueFrom r 9)) in Says r (kindOf h) h
+  compare-says : (u : Interpretation) → T (usesComparison r)
+      → let h = LeafHead (CompareLeaf u (comparisonOf (byteAt r comparisonPlace)) (valueFrom r leftPlace) (valueFrom r rightPlace)) in Says r (kindOf h) h
   compare-says u t =
-      let (z, c) = both (zeros r 2 3) (between 1 6 (byteAt r 3)) t in
-      let first : 0 ∷ comparisonNumber (comparisonOf (byteAt r 3)) ∷ [] ≡ byteAt r 2 ∷ byteAt r 3 ∷ [] =
-      ap₂ _++_ (sym (zeros-exact 2 3 z)) (ap (λ (n : ℕ). n ∷ []) (comparison-exact (byteAt r 3) c)) in
-      says (LeafHead (CompareLeaf u (comparisonOf (byteAt r 3)) (valueFrom r 4) (valueFrom r 9))) (ap₂ _++_ first (ap₂ _++_ (value-exact 4) (value-exact 9)))
+      let (z, c) = both (zeros r tablePlace comparisonPlace) (between 1 6 (byteAt r comparisonPlace)) t in
+      let first : 0 ∷ comparisonNumber (comparisonOf (byteAt r comparisonPlace)) ∷ [] ≡ byteAt r tablePlace ∷ byteAt r comparisonPlace ∷ [] =
+      ap₂ _++_ (sym (zeros-exact tablePlace comparisonPlace z)) (ap (λ (n : ℕ). n ∷ []) (comparison-exact (byteAt r comparisonPlace) c)) in
+      says (LeafHead (CompareLeaf u (comparisonOf (byteAt r comparisonPlace)) (valueFrom r leftPlace) (valueFrom r rightPlace))) (ap₂ _++_ first (ap₂ _++_ (value-exact leftPlace) (value-exact rightPlace)))
 
   -- the fields of a record that has a left value alone
-  left-alone : T (zeros r 2 4 && zeros r 9 14) → 0 ∷ 0 ∷ valueBytes (valueFrom r 4) ++ noValue ≡ tabulate 12 (λ k. byteAt r (2 + k))
+  left-alone : T (usesLeft r) → 0 ∷ 0 ∷ valueBytes (valueFrom r leftPlace) ++ noValue ≡ tabulate (recordSize - tablePlace) (λ k. byteAt r (tablePlace + k))
   left-alone t =
-      let (z, w) = both (zeros r 2 4) (zeros r 9 14) t in
-      ap₂ _++_ (sym (zeros-exact 2 4 z)) (ap₂ _++_ (value-exact 4) (sym (zeros-exact 9 14 w)))
+      let (z, w) = both (zeros r tablePlace leftPlace) (zeros r rightPlace recordSize) t in
+      ap₂ _++_ (sym (zeros-exact tablePlace leftPlace z)) (ap₂ _++_ (value-exact leftPlace) (sym (zeros-exact rightPlace recordSize w)))
+
+  said : (t : Bool) (x h : Head) → (T t → Says r (kindOf x) x) → only t x ≡ some h → Says r (kindOf x) h
+  said t x h f e = let (u, p) = only-some t x h e in subst (Says r (kindOf x)) p (f u)
 
   head-exact : (kind : ℕ) (h : Head) → headFrom kind r ≡ some h → Says r kind h
   unfolding headFrom
   head-exact zero h e = absurd (none-some e)
-  head-exact (suc zero) h e = let (t, p) = only-some (zeros r 2 14) _ h e in subst (Says r 1) p (both-says And t)
-  head-exact (suc (suc zero)) h e = let (t, p) = only-some (zeros r 2 14) _ h e in subst (Says r 2) p (both-says Or t)
-  head-exact (suc (suc (suc zero))) h e = let (t, p) = only-some (zeros r 3 14) _ h e in subst (Says r 3) p (rows-says Some t)
-  head-exact (suc (suc (suc (suc zero)))) h e = let (t, p) = only-some (zeros r 3 14) _ h e in subst (Says r 4) p (rows-says All t)
-  head-exact (suc (suc (suc (suc (suc zero))))) h e = let (t, p) = only-some (zeros r 2 3 && between 1 6 (byteAt r 3)) _ h e in subst (Says r 5) p (compare-says AsNo t)
-  head-exact (suc (suc (suc (suc (suc (suc zero)))))) h e = let (t, p) = only-some (zeros r 2 3 && between 1 6 (byteAt r 3)) _ h e in subst (Says r 6) p (compare-says AsYes t)
-  head-exact (suc (suc (suc (suc (suc (suc (suc zero))))))) h e = let (t, p) = only-some (zeros r 2 4 && zeros r 9 14) _ h e in subst (Says r 7) p (says (LeafHead (BlankLeaf (valueFrom r 4))) (left-alone t))
-  head-exact (suc (suc (suc (suc (suc (suc (suc (suc zero)))))))) h e = let (t, p) = only-some (zeros r 2 4 && zeros r 9 14) _ h e in subst (Says r 8) p (says (LeafHead (NotBlankLeaf (valueFrom r 4))) (left-alone t))
+  head-exact (suc zero) h e = said (usesEnd r) _ h (both-says And) e
+  head-exact (suc (suc zero)) h e = said (usesEnd r) _ h (both-says Or) e
+  head-exact (suc (suc (suc zero))) h e = said (usesTable r) _ h (rows-says Some) e
+  head-exact (suc (suc (suc (suc zero)))) h e = said (usesTable r) _ h (rows-says All) e
+  head-exact (suc (suc (suc (suc (suc zero))))) h e = said (usesComparison r) _ h (compare-says AsNo) e
+  head-exact (suc (suc (suc (suc (suc (suc zero)))))) h e = said (usesComparison r) _ h (compare-says AsYes) e
+  head-exact (suc (suc (suc (suc (suc (suc (suc zero))))))) h e = said (usesLeft r) _ h (λ t. says (LeafHead (BlankLeaf (valueFrom r leftPlace))) (left-alone t)) e
+  head-exact (suc (suc (suc (suc (suc (suc (suc (suc zero)))))))) h e = said (usesLeft r) _ h (λ t. says (LeafHead (NotBlankLeaf (valueFrom r leftPlace))) (left-alone t)) e
   head-exact (suc (suc (suc (suc (suc (suc (suc (suc (suc n))))))))) h e = absurd (none-some e)
 
 -- ---- an entry with its inner ones

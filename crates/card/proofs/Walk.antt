@@ -7,12 +7,12 @@ use lib.ListN.{length, take, drop, length-append}
 use lib.Seq.{take-at}
 use Rattle.tables.specs.Values.{Value, Constant, Column, Connective, Quantifier}
 use Rattle.card.specs.Card.{CompareLeaf, BlankLeaf, NotBlankLeaf, Card, LeafEntry, PairEntry, RowEntry, entries}
-use Rattle.card.specs.Layout.{recordSize, Head, LeafHead, PairHead, RowHead, kindOf, valueBytes, recordBytes, kindBytes, recordsFrom, cardBytes, cardLength, entryCount, tablesIn, columnsIn, kindAt, recordAt}
+use Rattle.card.specs.Layout.{recordSize, valueSize, Head, LeafHead, PairHead, RowHead, kindOf, valueBytes, recordBytes, kindBytes, recordsFrom, cardBytes, cardLength, entryCount, tablesIn, columnsIn, kindAt, recordAt}
 use Rattle.card.proofs.Places.{at, at0, skip-to, tabulated, from16}
 
 -- ---- lengths
 
-pub value-length : (v : Value) → length (valueBytes v) ≡ 5
+pub value-length : (v : Value) → length (valueBytes v) ≡ valueSize
 value-length (Constant k) = refl
 value-length (Column l c) = refl
 

@@ -8,13 +8,17 @@ use lib.ListN.{length, take, drop}
 use Rattle.tables.specs.Lists.{tabulate, numbered, all, only, _>>=_}
 use Rattle.tables.specs.Bytes.{between, byteAt, word16, word32, bytes16, bytes32, signed, bits}
 use Rattle.tables.specs.Values.{constantTag, Value, Constant, Column, comparisonNumber, comparisonOf, Connective, And, Or, Quantifier, Some, All}
-use Rattle.card.specs.Card.{AsNo, AsYes, Leaf, CompareLeaf, BlankLeaf, NotBlankLeaf, Card, LeafEntry, PairEntry, RowEntry, entries}
+use Rattle.card.specs.Card.{Interpretation, AsNo, AsYes, Leaf, CompareLeaf, BlankLeaf, NotBlankLeaf, Card, LeafEntry, PairEntry, RowEntry, entries}
 
 -- the bytes of one record
 abbrev pub recordSize : ℕ
 recordSize = 14
 
--- where a record's fields stand, after the two bytes of its end; a value has a byte for its tag and four for its number
+-- and of one value in it: a byte for its tag and four for its number
+abbrev pub valueSize : ℕ
+valueSize = 5
+
+-- where a record's fields stand, after the two bytes of its end
 abbrev pub tablePlace : ℕ
 tablePlace = 2
 
@@ -34,16 +38,31 @@ pub data Head : Type 0 where
   PairHead : Connective → Head
   RowHead : Quantifier → ℕ → Head
 
--- the numbers of the eight kinds
+-- 'Kinds: 1 and, 2 or, 3 some row, 4 every row, 5 comparison where unknown counts as no, 6 where unknown counts as yes, 7 blank, 8 not blank'
+abbrev pub pairKind : Connective → ℕ
+pairKind And = 1
+pairKind Or = 2
+
+abbrev pub rowKind : Quantifier → ℕ
+rowKind Some = 3
+rowKind All = 4
+
+abbrev pub comparisonKind : Interpretation → ℕ
+comparisonKind AsNo = 5
+comparisonKind AsYes = 6
+
+abbrev pub blankKind : ℕ
+blankKind = 7
+
+abbrev pub notBlankKind : ℕ
+notBlankKind = 8
+
 abbrev pub kindOf : Head → ℕ
-kindOf (PairHead And) = 1
-kindOf (PairHead Or) = 2
-kindOf (RowHead Some t) = 3
-kindOf (RowHead All t) = 4
-kindOf (LeafHead (CompareLeaf AsNo op l r)) = 5
-kindOf (LeafHead (CompareLeaf AsYes op l r)) = 6
-kindOf (LeafHead (BlankLeaf l)) = 7
-kindOf (LeafHead (NotBlankLeaf l)) = 8
+kindOf (PairHead j) = pairKind j
+kindOf (RowHead q t) = rowKind q
+kindOf (LeafHead (CompareLeaf u op l r)) = comparisonKind u
+kindOf (LeafHead (BlankLeaf l)) = blankKind
+kindOf (LeafHead (NotBlankLeaf l)) = notBlankKind
 
 abbrev pub valueBytes : Value → List ℕ
 valueBytes (Constant k) = constantTag ∷ bytes32 (bits k)
@@ -119,29 +138,37 @@ valueFrom r i = valueOf (byteAt r i) (word32 r (i + 1))
 unfoldable pub zeros : List ℕ → ℕ → ℕ → Bool
 zeros r i j = all (λ k. eqb (byteAt r (i + k)) 0) (tabulate (j - i) (λ k. k))
 
--- what an entry of this kind with this record says: none, if there is no such kind, or if the record is not as the kind wants it. usesEnd: nothing but
--- the end is used, and all bytes behind it are 0; usesTable: nothing but end and table; usesComparison: end, a comparison from 1 to 6, and both
--- values; usesLeft: end and left value
+-- whether a record is as a kind wants it, by what the kind uses: nothing but the end, and all bytes behind it are 0; nothing but end and table; end, a
+-- comparison from 1 to 6, and both values; end and left value
+module _ (r : List ℕ) where
+  abbrev pub usesEnd : Bool
+  usesEnd = zeros r tablePlace recordSize
+
+  abbrev pub usesTable : Bool
+  usesTable = zeros r comparisonPlace recordSize
+
+  abbrev pub usesComparison : Bool
+  usesComparison = zeros r tablePlace comparisonPlace && between 1 6 (byteAt r comparisonPlace)
+
+  abbrev pub usesLeft : Bool
+  usesLeft = zeros r tablePlace leftPlace && zeros r rightPlace recordSize
+
+-- what an entry of this kind with this record says: none, if there is no such kind, or if the record is not as the kind wants it
 unfoldable pub headFrom : ℕ → List ℕ → Option Head
 headFrom kind r =
     let table = byteAt r tablePlace in
-    let comparison = byteAt r comparisonPlace in
+    let op = comparisonOf (byteAt r comparisonPlace) in
     let left = valueFrom r leftPlace in
     let right = valueFrom r rightPlace in
-    let usesEnd = zeros r tablePlace recordSize in
-    let usesTable = zeros r comparisonPlace recordSize in
-    let usesComparison = zeros r tablePlace comparisonPlace && between 1 6 comparison in
-    let usesLeft = zeros r tablePlace leftPlace && zeros r rightPlace recordSize in
-    let op = comparisonOf comparison in
     numbered
-    (only usesEnd (PairHead And)
-    ∷ only usesEnd (PairHead Or)
-    ∷ only usesTable (RowHead Some table)
-    ∷ only usesTable (RowHead All table)
-    ∷ only usesComparison (LeafHead (CompareLeaf AsNo op left right))
-    ∷ only usesComparison (LeafHead (CompareLeaf AsYes op left right))
-    ∷ only usesLeft (LeafHead (BlankLeaf left))
-    ∷ only usesLeft (LeafHead (NotBlankLeaf left))
+    (only (usesEnd r) (PairHead And)
+    ∷ only (usesEnd r) (PairHead Or)
+    ∷ only (usesTable r) (RowHead Some table)
+    ∷ only (usesTable r) (RowHead All table)
+    ∷ only (usesComparison r) (LeafHead (CompareLeaf AsNo op left right))
+    ∷ only (usesComparison r) (LeafHead (CompareLeaf AsYes op left right))
+    ∷ only (usesLeft r) (LeafHead (BlankLeaf left))
+    ∷ only (usesLeft r) (LeafHead (NotBlankLeaf left))
     ∷ [])
     kind
     none

@@ -7,10 +7,10 @@ use native.Mathlib.Nat.{eq-or-lt-of-le}
 use native.Mathlib.Omega.{arith}
 use lib.ListN.{length, getD, set}
 use lib.Seq.{getD-set-same, getD-set-other}
-use Rattle.cells.specs.Code.{Holds}
+use Rattle.cells.specs.Code.{words32, Holds}
 
 -- one element more
-pub holds-more : (l : List ℕ) (n v k : ℕ) (g : ℕ → ℕ) → Holds l n g → n < length l → v ≡ g n → v < 4294967296 → k ≡ n + 1 → Holds (set l n v) k g
+pub holds-more : (l : List ℕ) (n v k : ℕ) (g : ℕ → ℕ) → Holds l n g → n < length l → v ≡ g n → v < words32 → k ≡ n + 1 → Holds (set l n v) k g
 holds-more l n v k g h b e s u =
     record { at = λ q m. each q (omega arith) .0; small = λ q m. each q (omega arith) .1 }
   where
@@ -20,7 +20,7 @@ holds-more l n v k g h b e s u =
     old : (q : ℕ) → q < n → getD (set l n v) q 0 ≡ getD l q 0
     old q m = getD-set-other l n q v 0 (λ z. omega arith)
 
-    each : (q : ℕ) → q < n + 1 → (getD (set l n v) q 0 ≡ g q) × (getD (set l n v) q 0 < 4294967296)
+    each : (q : ℕ) → q < n + 1 → (getD (set l n v) q 0 ≡ g q) × (getD (set l n v) q 0 < words32)
     each q m =
         ⊎-elim
         (λ z. (new q z ∙ e ∙ ap g (sym z), omega (arith, new q z)))

@@ -12,24 +12,32 @@ use Rattle.cells.specs.declared.Place.{Place}
 
 -- ---- numbers with a sign
 
+-- how many numbers 32 bits can tell apart
+abbrev pub words32 : ℕ
+words32 = 4294967296
+
+-- what a signed number of 32 bits is kept plus: 2 ^ 31
+abbrev pub excessAdded : ℕ
+excessAdded = 2147483648
+
 -- a number of 32 bits in the order of the signed numbers: the signed number plus 2 ^ 31
 abbrev pub excess : ℕ → ℕ
-excess n = (n + 2147483648) % 4294967296
+excess n = (n + excessAdded) % words32
 
 -- and the signed number back
 abbrev pub fromExcess : ℕ → ℤ
-fromExcess n = subℕ n 2147483648
+fromExcess n = subℕ n excessAdded
 
 abbrev pub toExcess : ℤ → ℕ
-toExcess (pos n) = n + 2147483648
-toExcess (negsuc n) = 2147483647 - n
+toExcess (pos n) = n + excessAdded
+toExcess (negsuc n) = excessAdded - 1 - n
 
 -- ---- arrays
 
 -- the first n elements of a list are those of g, and have 32 bits
 pub record Holds (l : List ℕ) (n : ℕ) (g : ℕ → ℕ) : Type 0 where
   pub at : (q : ℕ) → q < n → getD l q 0 ≡ g q
-  pub small : (q : ℕ) → q < n → getD l q 0 < 4294967296
+  pub small : (q : ℕ) → q < n → getD l q 0 < words32
 
 -- ---- a tables file
 
@@ -51,6 +59,10 @@ pub record Sized (file : List ℕ) : Type 0 where
 abbrev pub placesOf : List ℕ → ℕ → List ℕ
 placesOf file zero = valuesAt file ∷ marksAt file ∷ cellCount file ∷ []
 placesOf file (suc j) = cellsBefore file j ∷ sizeAt file j .columns ∷ sizeAt file j .rows ∷ []
+
+-- how long such an array is: three numbers for each table that there may be, and three more
+abbrev pub placesSize : ℕ
+placesSize = 3 * mostTables + 3
 
 unfoldable pub placeOf : List ℕ → ℕ → ℕ
 placeOf file q = getD (placesOf file (q / 3)) (q % 3) 0

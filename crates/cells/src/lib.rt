@@ -2,11 +2,12 @@
 ghost use mathlib.Core.Path.{_≡_};
 ghost use Prim.Native.Nat.{_+_, _*_, _<_, _≤_};
 ghost use lib.ListN.{length};
+ghost use Rattle.tables.specs.Lists.{placed};
 ghost use Rattle.tables.specs.Bytes.{byteAt, word16, word32};
-ghost use Rattle.tables.specs.Tables.{sizeAt, cellCount, sizesFit, sizeFits, marksFit};
+ghost use Rattle.tables.specs.Tables.{mostTables, sizeAt, cellCount, sizesFit, sizeFits, marksFit};
 ghost use Rattle.tables.specs.Refusals.{tablesCall};
 ghost use Rattle.cells.specs.Reasons.{reasonNumber, validityAnswer};
-ghost use Rattle.cells.specs.Code.{excess, Sized, Places, placeIn};
+ghost use Rattle.cells.specs.Code.{words32, excess, Sized, placesSize, Places, placeIn};
 
 // Limits on a tables file.
 pub const MOST_TABLES: usize = 8;
@@ -83,7 +84,7 @@ pub fn read16(bytes: &[u8], i: usize) -> usize
 pub fn read32(bytes: &[u8], i: usize) -> usize
     requires { ⌜ i + 3 < length (now bytes) ⌝ }
     ensures is { λ r. ⌜ r ≡ word32 (now (bytes .entry)) i ⌝ }
-    ensures small { λ r. ⌜ r < 4294967296 ⌝ }
+    ensures small { λ r. ⌜ r < words32 ⌝ }
 {
     byte(bytes, i)
         + 256 * byte(bytes, i + 1)
@@ -95,10 +96,22 @@ pub fn read32(bytes: &[u8], i: usize) -> usize
 pub fn read_excess(bytes: &[u8], i: usize) -> usize
     requires { ⌜ i + 3 < length (now bytes) ⌝ }
     ensures is { λ r. ⌜ r ≡ excess (word32 (now (bytes .entry)) i) ⌝ }
-    ensures small { λ r. ⌜ r < 4294967296 ⌝ }
-    ensures whole { λ r. ⌜ word32 (now (bytes .entry)) i < 4294967296 ⌝ }
+    ensures small { λ r. ⌜ r < words32 ⌝ }
+    ensures whole { λ r. ⌜ word32 (now (bytes .entry)) i < words32 ⌝ }
 {
     (read32(bytes, i) + EXCESS) % 4294967296
+}
+
+// Other bytes, from place i on.
+pub fn put_bytes(bytes: &mut [u8], i: usize, from: &[u8])
+    requires { ⌜ i + length (now from) ≤ length (now bytes) ⌝ }
+    ensures { λ _. ⌜ now (bytes .exit) ≡ placed (now (bytes .entry)) i (now (from .entry)) ⌝ }
+{
+    let mut k: usize = 0;
+    while k < from.len() {
+        bytes[i + k] = from[k];
+        k += 1;
+    }
 }
 
 // The columns of a table; j counts the tables from 0.
@@ -218,7 +231,7 @@ pub fn check_tables(file: &[u8]) -> Validity
 // Where the tables of a file stand: where its values start, where its marks start, and all cells; then of each table its first cell, columns, rows, so
 // that those of table t are at 3 t.
 pub fn places(file: &[u8], g: &mut [usize; PLACES])
-    requires { ⌜ Sized (now file) ⌝ ∗ ⌜ length (now g) ≡ 27 ⌝ }
+    requires { ⌜ Sized (now file) ⌝ ∗ ⌜ length (now g) ≡ placesSize ⌝ }
     ensures { λ _. ⌜ Places (now (file .entry)) (now (g .exit)) ⌝ }
 {
     let n = byte(file, 0);
@@ -251,7 +264,7 @@ pub struct Place {
 
 // Where table t stands, from the numbers that `places` left; tables are numbered from 1.
 pub fn table_place(g: &[usize; PLACES], t: usize) -> Place
-    requires { ⌜ t ≤ 8 ⌝ }
+    requires { ⌜ t ≤ mostTables ⌝ }
     ensures { λ r. ⌜ r ≡ placeIn (now (g .entry)) t ⌝ }
 {
     Place {

@@ -17,16 +17,16 @@ use lib.Seq.{length-take-le, getD-take, getD-set-same, getD-set-other, take-suc-
 use Rattle.tables.specs.Lists.{numbered}
 use Rattle.tables.specs.Bytes.{between, byteAt, inRange}
 use Rattle.tables.specs.Values.{constantTag, judgedLevels, Connective, And, Or, Quantifier, Some, All, valueFits}
-use Rattle.cells.specs.Code.{fromExcess}
-use Rattle.card.specs.Card.{mostRowEntries, Leaf, Card, LeafEntry, PairEntry, RowEntry, leafFits, rowEntryFits, cardFits}
-use Rattle.card.specs.Layout.{LeafHead, PairHead, RowHead, entryCount, tablesIn, columnsIn, kindAt, recordAt, endAt, headFrom, cardFrom}
+use Rattle.cells.specs.Code.{words32, excessAdded, fromExcess}
+use Rattle.card.specs.Card.{mostRowEntries, AsNo, AsYes, Leaf, Card, LeafEntry, PairEntry, RowEntry, leafFits, rowEntryFits, cardFits}
+use Rattle.card.specs.Layout.{LeafHead, PairHead, RowHead, pairKind, rowKind, comparisonKind, blankKind, notBlankKind, entryCount, tablesIn, columnsIn, kindAt, recordAt, endAt, headFrom, cardFrom}
 use Rattle.card.specs.Sound.{laid, holdsFitting, sound}
-use Rattle.decoder.specs.Code.{Laid, Decoded, kindIn, endIn, tableIn, leftIn, rightIn, headIn, Coded, coded-leaf, coded-pair, coded-row}
+use Rattle.decoder.specs.Code.{Laid, entrySize, entryEnd, entryNextEnd, Decoded, kindIn, endIn, nextEndIn, tableIn, leftIn, rightIn, headIn, Coded, coded-leaf, coded-pair, coded-row}
 use Rattle.checker.specs.Code.{Fitting, Checks, LevelsIn, Checkable}
 use Rattle.values.specs.Code.{valueIn}
 use Rattle.tables.proofs.Tests.{is-true, both, bounds}
 use Rattle.tables.proofs.Tabulated.{tabulate-at}
-use Rattle.decoder.proofs.Coded.{head-1, head-2, head-3, head-4, head-5, head-6, head-7, head-8, kind-pair, kind-row, kind-leaf, coded-less, coded-end, pair-of, row-of, leaf-of, card-coded, coded-card}
+use Rattle.decoder.proofs.Coded.{head-at, kind-pair, kind-row, kind-leaf, coded-less, coded-end, pair-of, row-of, leaf-of, card-coded, coded-card}
 use Rattle.card.proofs.Exact.{sound-passed}
 use Rattle.decoder.proofs.Decoding.{columns-length, head-decoded, end-decoded}
 
@@ -41,18 +41,18 @@ column-at card (suc j) low high =
 
 -- ---- a value
 
-excess-in-range : (n : ℕ) → n < 4294967296 → inRange (fromExcess n) ≡ true
-excess-in-range n small = go (ltb n 2147483648) refl
+excess-in-range : (n : ℕ) → n < words32 → inRange (fromExcess n) ≡ true
+excess-in-range n small = go (ltb n excessAdded) refl
   where
-    go : (t : Bool) → ltb n 2147483648 ≡ t → inRange (cond t (negsuc (2147483648 - suc n)) (pos (n - 2147483648))) ≡ true
-    go true e = lt-ltb (2147483648 - suc n) 2147483648 (omega arith)
-    go false e = let l = ltb-false n 2147483648 e in lt-ltb (n - 2147483648) 2147483648 (omega arith)
+    go : (t : Bool) → ltb n excessAdded ≡ t → inRange (cond t (negsuc (excessAdded - suc n)) (pos (n - excessAdded))) ≡ true
+    go true e = lt-ltb (excessAdded - suc n) excessAdded (omega arith)
+    go false e = let l = ltb-false n excessAdded e in lt-ltb (n - excessAdded) excessAdded (omega arith)
 
 levels-long : (card w : List ℕ) (depth : ℕ) → LevelsIn card w depth → length (take depth w) ≡ depth
 levels-long card w depth h = length-take-le depth w (omega arith)
 
 module _ (columns levels : List ℕ) (tag n : ℕ) where
-  pub constant-fits : tag ≡ constantTag → n < 4294967296 → true ≡ valueFits columns levels (valueIn tag n)
+  pub constant-fits : tag ≡ constantTag → n < words32 → true ≡ valueFits columns levels (valueIn tag n)
   unfolding valueIn
   constant-fits e small = rw (eq-eqb tag constantTag e) (sym (excess-in-range n small))
 
@@ -95,7 +95,7 @@ module _ {d columns levels : List ℕ} {s e : ℕ} where
   wrong-end f = none-fits (λ x. f (coded-end (x .coded)))
 
   -- no other kinds
-  pub wrong-kind : (1 ≤ kindIn d s → kindIn d s ≤ 8 → ⊥) → Checks d columns levels s e false
+  pub wrong-kind : (pairKind And ≤ kindIn d s → kindIn d s ≤ notBlankKind → ⊥) → Checks d columns levels s e false
   wrong-kind f = none-fits (λ x. go (x .coded))
     where
       go : {c : Card} → Coded d s e c → ⊥
@@ -148,26 +148,26 @@ module _ (d columns levels : List ℕ) (s : ℕ) where
   abbrev right : Bool
   right = valueFits columns levels (rightIn d s)
 
-  compare-at : 5 ≤ kindIn d s → kindIn d s ≤ 6 → LeafAt d columns levels s (left && right)
+  compare-at : comparisonKind AsNo ≤ kindIn d s → kindIn d s ≤ comparisonKind AsYes → LeafAt d columns levels s (left && right)
   compare-at low high =
-      one-of-two (kindIn d s) 5 low high
-      (λ k. record { leaf = _; says = head-5 d s k; is = refl })
-      (λ k. record { leaf = _; says = head-6 d s k; is = refl })
+      one-of-two (kindIn d s) (comparisonKind AsNo) low high
+      (λ k. record { leaf = _; says = head-at d s (comparisonKind AsNo) k; is = refl })
+      (λ k. record { leaf = _; says = head-at d s (comparisonKind AsYes) k; is = refl })
 
-  blank-at : 7 ≤ kindIn d s → kindIn d s ≤ 8 → LeafAt d columns levels s left
+  blank-at : blankKind ≤ kindIn d s → kindIn d s ≤ notBlankKind → LeafAt d columns levels s left
   blank-at low high =
-      one-of-two (kindIn d s) 7 low high
-      (λ k. record { leaf = _; says = head-7 d s k; is = refl })
-      (λ k. record { leaf = _; says = head-8 d s k; is = refl })
+      one-of-two (kindIn d s) blankKind low high
+      (λ k. record { leaf = _; says = head-at d s blankKind k; is = refl })
+      (λ k. record { leaf = _; says = head-at d s notBlankKind k; is = refl })
 
-  leaf-at : 5 ≤ kindIn d s → kindIn d s ≤ 8 → LeafAt d columns levels s (cond (ltb 6 (kindIn d s)) left (left && right))
-  leaf-at low high = go (ltb 6 (kindIn d s)) refl
+  leaf-at : comparisonKind AsNo ≤ kindIn d s → kindIn d s ≤ notBlankKind → LeafAt d columns levels s (cond (ltb (comparisonKind AsYes) (kindIn d s)) left (left && right))
+  leaf-at low high = go (ltb (comparisonKind AsYes) (kindIn d s)) refl
     where
-      go : (t : Bool) → ltb 6 (kindIn d s) ≡ t → LeafAt d columns levels s (cond t left (left && right))
-      go true e = blank-at (omega (arith, ltb-true 6 (kindIn d s) e)) high
-      go false e = compare-at low (omega (arith, ltb-false 6 (kindIn d s) e))
+      go : (t : Bool) → ltb (comparisonKind AsYes) (kindIn d s) ≡ t → LeafAt d columns levels s (cond t left (left && right))
+      go true e = blank-at (omega (arith, ltb-true (comparisonKind AsYes) (kindIn d s) e)) high
+      go false e = compare-at low (omega (arith, ltb-false (comparisonKind AsYes) (kindIn d s) e))
 
-  module _ (e : ℕ) (low : 5 ≤ kindIn d s) (high : kindIn d s ≤ 8) where
+  module _ (e : ℕ) (low : comparisonKind AsNo ≤ kindIn d s) (high : kindIn d s ≤ notBlankKind) where
     pub leaf-long : (e ≡ s + 1 → ⊥) → Checks d columns levels s e false
     leaf-long f = let x = leaf-at low high in none-fits (λ y. f (leaf-of (y .coded) (x .leaf) (x .says) .1))
 
@@ -182,28 +182,28 @@ module _ (d columns levels : List ℕ) (s : ℕ) where
 
     module _ (end : endIn d s ≡ e) (one : e ≡ s + 1) where
       pub left-no : {t : Bool} → t ≡ left → t ≡ false → Checks d columns levels s e false
-      left-no l f = go (ltb 6 (kindIn d s)) (leaf-at low high)
+      left-no l f = go (ltb (comparisonKind AsYes) (kindIn d s)) (leaf-at low high)
         where
           go : (t : Bool) → LeafAt d columns levels s (cond t left (left && right)) → Checks d columns levels s e false
           go true x = leaf-checks false (subst (LeafAt d columns levels s) (sym l ∙ f) x) end one
           go false x = leaf-checks false (subst (λ (t : Bool). LeafAt d columns levels s (t && right)) (sym l ∙ f) x) end one
 
-      pub left-alone : {t : Bool} → t ≡ left → t ≡ true → 6 < kindIn d s → Checks d columns levels s e true
+      pub left-alone : {t : Bool} → t ≡ left → t ≡ true → comparisonKind AsYes < kindIn d s → Checks d columns levels s e true
       left-alone l f k = leaf-checks true (subst (LeafAt d columns levels s) (sym l ∙ f) (blank-at k high)) end one
 
-      pub right-last : {t u : Bool} → t ≡ left → t ≡ true → kindIn d s ≤ 6 → u ≡ right → Checks d columns levels s e u
+      pub right-last : {t u : Bool} → t ≡ left → t ≡ true → kindIn d s ≤ comparisonKind AsYes → u ≡ right → Checks d columns levels s e u
       right-last {t} {u} l f k r =
           leaf-checks u (rw r (subst (λ (t : Bool). LeafAt d columns levels s (t && right)) (sym l ∙ f) (compare-at low k))) end one
 
 -- ---- an entry with two inner ones
 
-module _ (d columns levels : List ℕ) (s e : ℕ) (low : 1 ≤ kindIn d s) (high : kindIn d s ≤ 2) where
+module _ (d columns levels : List ℕ) (s e : ℕ) (low : pairKind And ≤ kindIn d s) (high : kindIn d s ≤ pairKind Or) where
   pair-at : (j : Connective) × (headIn d s ≡ some (PairHead j))
-  pair-at = one-of-two (kindIn d s) 1 low high (λ k. (And, head-1 d s k)) (λ k. (Or, head-2 d s k))
+  pair-at = one-of-two (kindIn d s) (pairKind And) low high (λ k. (And, head-at d s (pairKind And) k)) (λ k. (Or, head-at d s (pairKind Or) k))
 
   -- the end of the first inner entry, as the code reads it
   abbrev middle : ℕ
-  middle = getD d (8 * s + 9) 0
+  middle = nextEndIn d s
 
   pair-parts : Fitting d columns levels s e → Fitting d columns levels (s + 1) middle × Fitting d columns levels middle e
   unfolding cardFits
@@ -212,7 +212,7 @@ module _ (d columns levels : List ℕ) (s e : ℕ) (low : 1 ≤ kindIn d s) (hig
       let p = pair-of (x .coded) j h in
       let f : T (cardFits columns levels (PairEntry j (p .left) (p .right))) = subst (λ (c : Card). T (cardFits columns levels c)) (p .is) (x .fits) in
       let (l, r) = both (cardFits columns levels (p .left)) (cardFits columns levels (p .right)) f in
-      let next : 8 * (s + 1) + 1 ≡ 8 * s + 9 = omega arith in
+      let next : entrySize * (s + 1) + entryEnd ≡ entrySize * s + entryNextEnd = omega arith in
       let m : p .middle ≡ middle = sym (coded-end (p .left-coded)) ∙ ap (λ (q : ℕ). getD d q 0) next in (
         record { card = p .left; coded = subst (λ (k : ℕ). Coded d (s + 1) k (p .left)) m (p .left-coded); fits = l },
         record { card = p .right; coded = subst (λ (k : ℕ). Coded d k e (p .right)) m (p .right-coded); fits = r },
@@ -243,12 +243,12 @@ module _ (d columns levels : List ℕ) (s e : ℕ) (low : 1 ≤ kindIn d s) (hig
 
 -- ---- an entry over the rows of a table
 
-module _ (card d w : List ℕ) (s e depth : ℕ) (low : 3 ≤ kindIn d s) (high : kindIn d s ≤ 4) (h : LevelsIn card w depth) where
+module _ (card d w : List ℕ) (s e depth : ℕ) (low : rowKind Some ≤ kindIn d s) (high : kindIn d s ≤ rowKind All) (h : LevelsIn card w depth) where
   abbrev table : ℕ
   table = tableIn d s
 
   row-at : (q : Quantifier) × (headIn d s ≡ some (RowHead q table))
-  row-at = one-of-two (kindIn d s) 3 low high (λ k. (Some, head-3 d s k)) (λ k. (All, head-4 d s k))
+  row-at = one-of-two (kindIn d s) (rowKind Some) low high (λ k. (Some, head-at d s (rowKind Some) k)) (λ k. (All, head-at d s (rowKind All) k))
 
   -- what a row entry asks of its own
   pub record Rows : Type 0 where

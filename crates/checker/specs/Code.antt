@@ -6,6 +6,7 @@ use mathlib.Core.List.{List}
 use Prim.Native.Nat.{ℕ, _<_, _≤_}
 use lib.Dec.{T}
 use lib.ListN.{length, getD}
+use Rattle.tables.specs.Values.{mostLevels}
 use Rattle.card.specs.Card.{Card, cardFits}
 use Rattle.card.specs.Layout.{entryCount, tablesIn}
 use Rattle.decoder.specs.Code.{Laid, Decoded, Coded}
@@ -26,8 +27,8 @@ pub record Checks (d columns levels : List ℕ) (s e : ℕ) (r : Bool) : Type 0 
 -- w has the tables of the levels
 pub record LevelsIn (card w : List ℕ) (depth : ℕ) : Type 0 where
   pub laid-out : Laid card
-  pub size : length w ≡ 4
-  pub few : depth ≤ 4
+  pub size : length w ≡ mostLevels
+  pub few : depth ≤ mostLevels
   pub table-low : (l : ℕ) → l < depth → 1 ≤ getD w l 0
   pub table-high : (l : ℕ) → l < depth → getD w l 0 ≤ tablesIn card
 

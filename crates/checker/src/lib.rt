@@ -5,11 +5,13 @@ ghost use mathlib.Core.Path.{_≡_};
 ghost use mathlib.Core.Bool.{true};
 ghost use Prim.Native.Nat.{_+_, _*_, _<_, _≤_};
 ghost use lib.ListN.{take};
-ghost use Rattle.tables.specs.Values.{valueFits};
-ghost use Rattle.card.specs.Layout.{columnsIn};
+ghost use Rattle.tables.specs.Values.{And, Or, Some, All, valueFits};
+ghost use Rattle.cells.specs.Code.{words32};
+ghost use Rattle.card.specs.Card.{AsNo};
+ghost use Rattle.card.specs.Layout.{pairKind, rowKind, comparisonKind, notBlankKind, columnsIn};
 ghost use Rattle.card.specs.Sound.{sound};
 ghost use Rattle.card.specs.Calls.{checkCall};
-ghost use Rattle.decoder.specs.Code.{Roomy, Decoded, kindIn};
+ghost use Rattle.decoder.specs.Code.{Roomy, Decoded, kindIn, endIn};
 ghost use Rattle.checker.specs.Answers.{checkedAnswer};
 ghost use Rattle.checker.specs.Code.{Checks, LevelsIn, Checkable};
 ghost use Rattle.values.specs.Code.{valueIn};
@@ -45,7 +47,7 @@ use values::LEVELS;
 
 // Whether a value's level and column exist; w has the table of each level.
 fn value_fits(card: &[u8], w: &[usize; LEVELS], depth: usize, tag: usize, n: usize) -> bool
-    requires { ⌜ LevelsIn (now card) (now w) depth ⌝ ∗ ⌜ n < 4294967296 ⌝ }
+    requires { ⌜ LevelsIn (now card) (now w) depth ⌝ ∗ ⌜ n < words32 ⌝ }
     ensures { λ r. ⌜ r ≡ valueFits (columnsIn (now (card .entry))) (take depth (now (w .entry))) (valueIn tag n) ⌝ }
 {
     if tag == CONSTANT {
@@ -61,7 +63,7 @@ fn value_fits(card: &[u8], w: &[usize; LEVELS], depth: usize, tag: usize, n: usi
     n <= byte(card, 2 + t)
 }
 
-// The entry s, up to e, where it has no inner entries: whether it fits.
+// The entry s, up to e, which is its end, where it has no inner entries: whether it fits.
 fn check_leaf(
     card: &[u8],
     d: &[usize],
@@ -70,12 +72,9 @@ fn check_leaf(
     w: &[usize; LEVELS],
     depth: usize,
 ) -> bool
-    requires { ⌜ Checkable (now card) (now d) (now w) s e depth ⌝ ∗ ⌜ (5 ≤ kindIn (now d) s) × (kindIn (now d) s ≤ 8) ⌝ }
+    requires { ⌜ Checkable (now card) (now d) (now w) s e depth ⌝ ∗ ⌜ (comparisonKind AsNo ≤ kindIn (now d) s) × (kindIn (now d) s ≤ notBlankKind) ⌝ ∗ ⌜ endIn (now d) s ≡ e ⌝ }
     ensures { λ r. ⌜ Checks (now (d .entry)) (columnsIn (now (card .entry))) (take depth (now (w .entry))) s e r ⌝ }
 {
-    if d[FIELDS * s + END] != e {
-        return false;
-    }
     if e != s + 1 {
         return false;
     }
@@ -113,6 +112,9 @@ fn check_entry(
     requires { ⌜ Checkable (now card) (now d) (now w) s e depth ⌝ }
     ensures { λ r. ⌜ Checks (now (d .entry)) (columnsIn (now (card .entry))) (take depth (now (w .entry))) s e r ⌝ }
 {
+    if d[FIELDS * s + END] != e {
+        return false;
+    }
     let k = d[FIELDS * s];
     match k {
         AND_ENTRY | OR_ENTRY => check_pair(card, d, s, e, w, depth),
@@ -133,12 +135,9 @@ fn check_pair(
     w: &[usize; LEVELS],
     depth: usize,
 ) -> bool
-    requires { ⌜ Checkable (now card) (now d) (now w) s e depth ⌝ ∗ ⌜ (1 ≤ kindIn (now d) s) × (kindIn (now d) s ≤ 2) ⌝ }
+    requires { ⌜ Checkable (now card) (now d) (now w) s e depth ⌝ ∗ ⌜ (pairKind And ≤ kindIn (now d) s) × (kindIn (now d) s ≤ pairKind Or) ⌝ ∗ ⌜ endIn (now d) s ≡ e ⌝ }
     ensures { λ r. ⌜ Checks (now (d .entry)) (columnsIn (now (card .entry))) (take depth (now (w .entry))) s e r ⌝ }
 {
-    if d[FIELDS * s + END] != e {
-        return false;
-    }
     if e <= s + 1 {
         return false;
     }
@@ -165,12 +164,9 @@ fn check_rows(
     w: &[usize; LEVELS],
     depth: usize,
 ) -> bool
-    requires { ⌜ Checkable (now card) (now d) (now w) s e depth ⌝ ∗ ⌜ (3 ≤ kindIn (now d) s) × (kindIn (now d) s ≤ 4) ⌝ }
+    requires { ⌜ Checkable (now card) (now d) (now w) s e depth ⌝ ∗ ⌜ (rowKind Some ≤ kindIn (now d) s) × (kindIn (now d) s ≤ rowKind All) ⌝ ∗ ⌜ endIn (now d) s ≡ e ⌝ }
     ensures { λ r. ⌜ Checks (now (d .entry)) (columnsIn (now (card .entry))) (take depth (now (w .entry))) s e r ⌝ }
 {
-    if d[FIELDS * s + END] != e {
-        return false;
-    }
     if e <= s + 1 {
         return false;
     }

@@ -1,91 +1,56 @@
 -- A card in an array of numbers: the entries from one number up to another, taken apart, and as the bytes have them.
 use mathlib.Core.Path.{_≡_, refl, sym, ap, subst, _∙_}
 use mathlib.Core.Bool.{Bool}
-use mathlib.Core.List.{List, [], _∷_}
+use mathlib.Core.List.{List}
 use mathlib.Core.Option.{Option, none, some}
 use Prim.Native.Nat.{ℕ, zero, suc, _+_, _≤_, _<_}
 use native.Mathlib.Omega.{arith}
 use borrow.Author.Tests.{eq-eqb}
 use lib.Dec.{eqb, eqb→eq}
 use Rattle.tables.specs.Lists.{numbered, only}
-use Rattle.tables.specs.Values.{comparisonOf, Connective, And, Or, Quantifier, Some, All}
+use Rattle.tables.specs.Values.{Connective, And, Or, Quantifier, Some, All}
 use Rattle.card.specs.Card.{AsNo, AsYes, Leaf, CompareLeaf, BlankLeaf, NotBlankLeaf, Card, LeafEntry, PairEntry, RowEntry}
-use Rattle.card.specs.Layout.{Head, LeafHead, PairHead, RowHead, kindOf, entryCount, kindAt, recordAt, endAt, headFrom, Taken, inside, entryFrom, cardFrom}
-use Rattle.decoder.specs.Code.{kindIn, endIn, tableIn, comparisonIn, leftIn, rightIn, headIn, Coded, coded-leaf, coded-pair, coded-row}
+use Rattle.card.specs.Layout.{Head, LeafHead, PairHead, RowHead, pairKind, rowKind, comparisonKind, notBlankKind, kindOf, entryCount, kindAt, recordAt, endAt, headFrom, Taken, inside, entryFrom, cardFrom}
+use Rattle.decoder.specs.Code.{kindIn, endIn, headsIn, headIn, Coded, coded-leaf, coded-pair, coded-row}
 use Rattle.card.proofs.Exact.{none-some, only-some, bind-some}
 
 -- ---- what an entry says by itself, by its kind
 
--- for each kind, from 1 on
-abbrev headList : List ℕ → ℕ → List (Option Head)
-headList d i =
-    some (PairHead And)
-    ∷ some (PairHead Or)
-    ∷ some (RowHead Some (tableIn d i))
-    ∷ some (RowHead All (tableIn d i))
-    ∷ some (LeafHead (CompareLeaf AsNo (comparisonOf (comparisonIn d i)) (leftIn d i) (rightIn d i)))
-    ∷ some (LeafHead (CompareLeaf AsYes (comparisonOf (comparisonIn d i)) (leftIn d i) (rightIn d i)))
-    ∷ some (LeafHead (BlankLeaf (leftIn d i)))
-    ∷ some (LeafHead (NotBlankLeaf (leftIn d i)))
-    ∷ []
-
 module _ (d : List ℕ) (s : ℕ) where
-  head-at : (k : ℕ) → kindIn d s ≡ k → headIn d s ≡ numbered (headList d s) k none
+  pub head-at : (k : ℕ) → kindIn d s ≡ k → headIn d s ≡ numbered (headsIn d s) k none
   unfolding headIn
-  head-at k e = ap (λ (k : ℕ). numbered (headList d s) k none) e
-
-  pub head-1 : kindIn d s ≡ 1 → headIn d s ≡ some (PairHead And)
-  head-1 e = head-at 1 e
-
-  pub head-2 : kindIn d s ≡ 2 → headIn d s ≡ some (PairHead Or)
-  head-2 e = head-at 2 e
-
-  pub head-3 : kindIn d s ≡ 3 → headIn d s ≡ some (RowHead Some (tableIn d s))
-  head-3 e = head-at 3 e
-
-  pub head-4 : kindIn d s ≡ 4 → headIn d s ≡ some (RowHead All (tableIn d s))
-  head-4 e = head-at 4 e
-
-  pub head-5 : kindIn d s ≡ 5 → headIn d s ≡ some (LeafHead (CompareLeaf AsNo (comparisonOf (comparisonIn d s)) (leftIn d s) (rightIn d s)))
-  head-5 e = head-at 5 e
-
-  pub head-6 : kindIn d s ≡ 6 → headIn d s ≡ some (LeafHead (CompareLeaf AsYes (comparisonOf (comparisonIn d s)) (leftIn d s) (rightIn d s)))
-  head-6 e = head-at 6 e
-
-  pub head-7 : kindIn d s ≡ 7 → headIn d s ≡ some (LeafHead (BlankLeaf (leftIn d s)))
-  head-7 e = head-at 7 e
-
-  pub head-8 : kindIn d s ≡ 8 → headIn d s ≡ some (LeafHead (NotBlankLeaf (leftIn d s)))
-  head-8 e = head-at 8 e
+  head-at k e = ap (λ (k : ℕ). numbered (headsIn d s) k none) e
 
 -- and back: the kind of an entry that says h
-kind-listed : (d : List ℕ) (s k : ℕ) (h : Head) → numbered (headList d s) k none ≡ some h → kindOf h ≡ k
+abbrev kindSaid : Option Head → ℕ
+kindSaid none = 0
+kindSaid (some h) = kindOf h
+
+kind-listed : (d : List ℕ) (s k : ℕ) (h : Head) → numbered (headsIn d s) k none ≡ some h → kindOf h ≡ k
 kind-listed d s zero h e = absurd (none-some e)
-kind-listed d s (suc zero) h e = let p : h ≡ PairHead And = cc in ap kindOf p
-kind-listed d s (suc (suc zero)) h e = let p : h ≡ PairHead Or = cc in ap kindOf p
-kind-listed d s (suc (suc (suc zero))) h e = let p : h ≡ RowHead Some (tableIn d s) = cc in ap kindOf p
-kind-listed d s (suc (suc (suc (suc zero)))) h e = let p : h ≡ RowHead All (tableIn d s) = cc in ap kindOf p
-kind-listed d s (suc (suc (suc (suc (suc zero))))) h e =
-    let p : h ≡ LeafHead (CompareLeaf AsNo (comparisonOf (comparisonIn d s)) (leftIn d s) (rightIn d s)) = cc in ap kindOf p
-kind-listed d s (suc (suc (suc (suc (suc (suc zero)))))) h e =
-    let p : h ≡ LeafHead (CompareLeaf AsYes (comparisonOf (comparisonIn d s)) (leftIn d s) (rightIn d s)) = cc in ap kindOf p
-kind-listed d s (suc (suc (suc (suc (suc (suc (suc zero))))))) h e = let p : h ≡ LeafHead (BlankLeaf (leftIn d s)) = cc in ap kindOf p
-kind-listed d s (suc (suc (suc (suc (suc (suc (suc (suc zero)))))))) h e = let p : h ≡ LeafHead (NotBlankLeaf (leftIn d s)) = cc in ap kindOf p
+kind-listed d s (suc zero) h e = sym (ap kindSaid e)
+kind-listed d s (suc (suc zero)) h e = sym (ap kindSaid e)
+kind-listed d s (suc (suc (suc zero))) h e = sym (ap kindSaid e)
+kind-listed d s (suc (suc (suc (suc zero)))) h e = sym (ap kindSaid e)
+kind-listed d s (suc (suc (suc (suc (suc zero))))) h e = sym (ap kindSaid e)
+kind-listed d s (suc (suc (suc (suc (suc (suc zero)))))) h e = sym (ap kindSaid e)
+kind-listed d s (suc (suc (suc (suc (suc (suc (suc zero))))))) h e = sym (ap kindSaid e)
+kind-listed d s (suc (suc (suc (suc (suc (suc (suc (suc zero)))))))) h e = sym (ap kindSaid e)
 kind-listed d s (suc (suc (suc (suc (suc (suc (suc (suc (suc k))))))))) h e = absurd (none-some e)
 
 module _ (d : List ℕ) (s : ℕ) where
   pub kind-is : (h : Head) → headIn d s ≡ some h → kindOf h ≡ kindIn d s
   kind-is h e = kind-listed d s (kindIn d s) h (sym (head-at d s (kindIn d s) refl) ∙ e)
 
-  pub kind-pair : (j : Connective) → headIn d s ≡ some (PairHead j) → (1 ≤ kindIn d s) × (kindIn d s ≤ 2)
+  pub kind-pair : (j : Connective) → headIn d s ≡ some (PairHead j) → (pairKind And ≤ kindIn d s) × (kindIn d s ≤ pairKind Or)
   kind-pair And e = let k = kind-is (PairHead And) e in (omega arith, omega arith)
   kind-pair Or e = let k = kind-is (PairHead Or) e in (omega arith, omega arith)
 
-  pub kind-row : (q : Quantifier) (t : ℕ) → headIn d s ≡ some (RowHead q t) → (3 ≤ kindIn d s) × (kindIn d s ≤ 4)
+  pub kind-row : (q : Quantifier) (t : ℕ) → headIn d s ≡ some (RowHead q t) → (rowKind Some ≤ kindIn d s) × (kindIn d s ≤ rowKind All)
   kind-row Some t e = let k = kind-is (RowHead Some t) e in (omega arith, omega arith)
   kind-row All t e = let k = kind-is (RowHead All t) e in (omega arith, omega arith)
 
-  pub kind-leaf : (x : Leaf) → headIn d s ≡ some (LeafHead x) → (5 ≤ kindIn d s) × (kindIn d s ≤ 8)
+  pub kind-leaf : (x : Leaf) → headIn d s ≡ some (LeafHead x) → (comparisonKind AsNo ≤ kindIn d s) × (kindIn d s ≤ notBlankKind)
   kind-leaf (CompareLeaf AsNo op l r) e = let k = kind-is (LeafHead (CompareLeaf AsNo op l r)) e in (omega arith, omega arith)
   kind-leaf (CompareLeaf AsYes op l r) e = let k = kind-is (LeafHead (CompareLeaf AsYes op l r)) e in (omega arith, omega arith)
   kind-leaf (BlankLeaf l) e = let k = kind-is (LeafHead (BlankLeaf l)) e in (omega arith, omega arith)

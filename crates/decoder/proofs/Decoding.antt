@@ -1,7 +1,7 @@
 -- A card's entries as numbers: when a card is laid out, where a record's bytes stand, and what the decoded numbers say.
 use mathlib.Core.Path.{_≡_, refl, sym, ap, ap₂, subst, _∙_}
-use mathlib.Core.Bool.{Bool, true, false, cond, _&&_, and-true, and-false}
-use mathlib.Core.List.{List, [], _∷_}
+use mathlib.Core.Bool.{Bool, true, false, cond, and-true, and-false}
+use mathlib.Core.List.{List}
 use mathlib.Core.Option.{Option, none, some}
 use mathlib.Core.Logic.{⊎-elim}
 use Prim.Native.Nat.{ℕ, zero, suc, _+_, _-_, _*_, _/_, _%_, _<_, _≤_}
@@ -14,16 +14,16 @@ use lib.Seq.{getD-take, getD-drop}
 use Rattle.tables.specs.Lists.{numbered, all, only}
 use Rattle.tables.specs.Bytes.{between, byteAt, word16, word32, signed, bits}
 use Rattle.tables.specs.Tables.{mostTables, mostColumns}
-use Rattle.tables.specs.Values.{constantTag, Value, Constant, Column, comparisonOf, And, Or, Some, All}
-use Rattle.cells.specs.Code.{excess, fromExcess, Holds}
+use Rattle.tables.specs.Values.{constantTag, Constant, Column, And, Or, Some, All}
+use Rattle.cells.specs.Code.{words32, excess, fromExcess, Holds}
 use Rattle.cells.proofs.Holding.{holds-more, holds-same}
 use Rattle.cells.proofs.Signed.{signed-excess, signed-in}
 use Rattle.tables.proofs.Tests.{is-true, is-so, refuted, both, bounds, between-yes, between-no}
 use Rattle.tables.proofs.Tabulated.{tabulate-length, all-each, all-of, all-no}
-use Rattle.card.specs.Card.{AsNo, AsYes, CompareLeaf, BlankLeaf, NotBlankLeaf}
-use Rattle.card.specs.Layout.{recordSize, tablePlace, comparisonPlace, leftPlace, rightPlace, Head, LeafHead, PairHead, RowHead, cardLength, entryCount, tablesIn, columnsIn, kindAt, recordAt, endAt, valueOf, valueFrom, zeros, headFrom}
+use Rattle.card.specs.Card.{AsNo, AsYes}
+use Rattle.card.specs.Layout.{recordSize, valueSize, tablePlace, comparisonPlace, leftPlace, rightPlace, usesEnd, usesTable, usesComparison, usesLeft, Head, pairKind, rowKind, comparisonKind, blankKind, notBlankKind, cardLength, entryCount, tablesIn, columnsIn, kindAt, recordAt, endAt, valueOf, valueFrom, zeros, headFrom}
 use Rattle.card.specs.Sound.{laid, mostEntries, columnsFit, sound}
-use Rattle.decoder.specs.Code.{Laid, recordFrom, fieldsFit, knownKind, numberIn, numberFrom, fieldsOf, fieldOf, Decoded, kindIn, endIn, headIn}
+use Rattle.decoder.specs.Code.{Laid, recordFrom, entrySize, entryEnd, entryTable, entryComparison, entryLeftTag, entryLeftNumber, entryRightTag, entryRightNumber, fieldsFit, knownKind, numberIn, numberFrom, fieldsOf, fieldOf, Decoded, kindIn, endIn, heads, headIn}
 use Rattle.values.specs.Code.{valueIn}
 use Rattle.card.proofs.Places.{in-range, bits-small, signed-bits}
 
@@ -138,14 +138,14 @@ module _ (card : List ℕ) (place : ℕ) where
 
 -- ---- a value's number
 
-module _ (card : List ℕ) (place i k tag : ℕ) (within : i + 5 ≤ recordSize) (tag-is : tag ≡ byteAt card (place + i)) (at : k ≡ place + i + 1) where
+module _ (card : List ℕ) (place i k tag : ℕ) (within : i + valueSize ≤ recordSize) (tag-is : tag ≡ byteAt card (place + i)) (at : k ≡ place + i + 1) where
   tag-in : tag ≡ byteAt (recordFrom card place) i
   tag-in = byte-in card place i tag (omega arith) tag-is
 
   raw-in : word32 (recordFrom card place) (i + 1) ≡ word32 card k
   raw-in = record-word32 card place (i + 1) k (omega arith) (omega arith)
 
-  pub number-constant : (x : ℕ) → tag ≡ constantTag → word32 card k < 4294967296 → x ≡ excess (word32 card k) → x ≡ numberFrom (recordFrom card place) i
+  pub number-constant : (x : ℕ) → tag ≡ constantTag → word32 card k < words32 → x ≡ excess (word32 card k) → x ≡ numberFrom (recordFrom card place) i
   unfolding numberIn
   number-constant x c small e =
       let back = in-range (word32 card k) small .0 in
@@ -165,48 +165,48 @@ kind-either n kind r x l h p q =
     (λ m. let e : n + 1 ≡ kind = omega arith in q ∙ ap (λ (k : ℕ). fieldsFit k r) e)
     (eq-or-lt-of-le l)
 
-pub fits-none : (kind : ℕ) (r : List ℕ) → kind < 1 → false ≡ fieldsFit kind r
+pub fits-none : (kind : ℕ) (r : List ℕ) → kind < pairKind And → false ≡ fieldsFit kind r
 unfolding fieldsFit
 fits-none kind r h = let e : 0 ≡ kind = omega arith in ap (λ (k : ℕ). fieldsFit k r) e
 
-pub fits-past : (kind : ℕ) (r : List ℕ) → 9 ≤ kind → false ≡ fieldsFit kind r
+pub fits-past : (kind : ℕ) (r : List ℕ) → notBlankKind < kind → false ≡ fieldsFit kind r
 unfolding fieldsFit
 fits-past kind r h =
-    let e : suc (suc (suc (suc (suc (suc (suc (suc (suc (kind - 9))))))))) ≡ kind = omega arith in
+    let e : suc (suc (suc (suc (suc (suc (suc (suc (suc (kind - suc notBlankKind))))))))) ≡ kind = omega arith in
     ap (λ (k : ℕ). fieldsFit k r) e
 
 module _ (r : List ℕ) (kind : ℕ) where
-  pub fits-end : (x : Bool) → 1 ≤ kind → kind < 3 → x ≡ zeros r 2 14 → x ≡ fieldsFit kind r
+  pub fits-end : (x : Bool) → pairKind And ≤ kind → kind < rowKind Some → x ≡ usesEnd r → x ≡ fieldsFit kind r
   unfolding fieldsFit
-  fits-end x l h e = kind-either 1 kind r x l (omega arith) e e
+  fits-end x l h e = kind-either (pairKind And) kind r x l (omega arith) e e
 
-  pub fits-table : (x : Bool) → 3 ≤ kind → kind < 5 → x ≡ zeros r 3 14 → x ≡ fieldsFit kind r
+  pub fits-table : (x : Bool) → rowKind Some ≤ kind → kind < comparisonKind AsNo → x ≡ usesTable r → x ≡ fieldsFit kind r
   unfolding fieldsFit
-  fits-table x l h e = kind-either 3 kind r x l (omega arith) e e
+  fits-table x l h e = kind-either (rowKind Some) kind r x l (omega arith) e e
 
-  module _ (low : 5 ≤ kind) (high : kind < 7) (op : ℕ) (op-is : op ≡ byteAt r 3) where
-    fits-both : (x : Bool) → x ≡ zeros r 2 3 && between 1 6 (byteAt r 3) → x ≡ fieldsFit kind r
+  module _ (low : comparisonKind AsNo ≤ kind) (high : kind < blankKind) (op : ℕ) (op-is : op ≡ byteAt r comparisonPlace) where
+    fits-both : (x : Bool) → x ≡ usesComparison r → x ≡ fieldsFit kind r
     unfolding fieldsFit
-    fits-both x e = kind-either 5 kind r x low (omega arith) e e
+    fits-both x e = kind-either (comparisonKind AsNo) kind r x low (omega arith) e e
 
-    pub fits-comparison : (x : Bool) → 1 ≤ op → op ≤ 6 → x ≡ zeros r 2 3 → x ≡ fieldsFit kind r
-    fits-comparison x l h e = fits-both x (rw (← op-is, between-yes 1 6 op l h) (e ∙ sym (and-true (zeros r 2 3))))
+    pub fits-comparison : (x : Bool) → 1 ≤ op → op ≤ 6 → x ≡ zeros r tablePlace comparisonPlace → x ≡ fieldsFit kind r
+    fits-comparison x l h e = fits-both x (rw (← op-is, between-yes 1 6 op l h) (e ∙ sym (and-true (zeros r tablePlace comparisonPlace))))
 
     pub comparison-unknown : (1 ≤ op → op ≤ 6 → ⊥) → false ≡ fieldsFit kind r
-    comparison-unknown f = fits-both false (rw (← op-is, between-no 1 6 op f) (sym (and-false (zeros r 2 3))))
+    comparison-unknown f = fits-both false (rw (← op-is, between-no 1 6 op f) (sym (and-false (zeros r tablePlace comparisonPlace))))
 
-  module _ (low : 7 ≤ kind) (high : kind < 9) (before : Bool) (before-is : before ≡ zeros r 2 4) where
-    pub fits-left : (x : Bool) → before ≡ true → x ≡ zeros r 9 14 → x ≡ fieldsFit kind r
+  module _ (low : blankKind ≤ kind) (high : kind ≤ notBlankKind) (before : Bool) (before-is : before ≡ zeros r tablePlace leftPlace) where
+    pub fits-left : (x : Bool) → before ≡ true → x ≡ zeros r rightPlace recordSize → x ≡ fieldsFit kind r
     unfolding fieldsFit
     fits-left x t e =
-        let here : x ≡ zeros r 2 4 && zeros r 9 14 = rw (← before-is, t) e in
-        kind-either 7 kind r x low (omega arith) here here
+        let here : x ≡ usesLeft r = rw (← before-is, t) e in
+        kind-either blankKind kind r x low (omega arith) here here
 
     pub left-not : before ≡ false → false ≡ fieldsFit kind r
     unfolding fieldsFit
     left-not t =
-        let here : false ≡ zeros r 2 4 && zeros r 9 14 = rw (← before-is, t) refl in
-        kind-either 7 kind r false low (omega arith) here here
+        let here : false ≡ usesLeft r = rw (← before-is, t) refl in
+        kind-either blankKind kind r false low (omega arith) here here
 
 pub known-by : (kind : ℕ) (r : List ℕ) (t : Bool) (x : ℕ) → t ≡ fieldsFit kind r → x ≡ cond t kind 0 → x ≡ knownKind kind r
 unfolding knownKind
@@ -214,17 +214,17 @@ known-by kind r t x e p = p ∙ ap (λ (b : Bool). cond b kind 0) e
 
 -- ---- the fields of an entry
 
-field-at : (card : List ℕ) (i k : ℕ) → k < 8 → fieldOf card (8 * i + k) ≡ getD (fieldsOf card i) k 0
+field-at : (card : List ℕ) (i k : ℕ) → k < entrySize → fieldOf card (entrySize * i + k) ≡ getD (fieldsOf card i) k 0
 unfolding fieldOf
 field-at card i k h =
-    let x : (8 * i + k) / 8 ≡ i = omega arith in
-    let y : (8 * i + k) % 8 ≡ k = omega arith in
+    let x : (entrySize * i + k) / entrySize ≡ i = omega arith in
+    let y : (entrySize * i + k) % entrySize ≡ k = omega arith in
     rw (x, y)
 
-field-first : (card : List ℕ) (i : ℕ) → fieldOf card (8 * i) ≡ getD (fieldsOf card i) 0 0
-field-first card i = let e : 8 * i ≡ 8 * i + 0 = omega arith in ap (fieldOf card) e ∙ field-at card i 0 (omega arith)
+field-first : (card : List ℕ) (i : ℕ) → fieldOf card (entrySize * i) ≡ getD (fieldsOf card i) 0 0
+field-first card i = let e : entrySize * i ≡ entrySize * i + 0 = omega arith in ap (fieldOf card) e ∙ field-at card i 0 (omega arith)
 
--- one entry more: its eight numbers, from t tables and n entries
+-- one entry more: its numbers, from t tables and n entries
 abbrev place : ℕ → ℕ → ℕ → ℕ
 place t n i = 3 + t + n + recordSize * i
 
@@ -235,41 +235,41 @@ module _ (card : List ℕ) (i t n : ℕ) (tables : t ≡ tablesIn card) (entries
   byte-here : (k v : ℕ) → k < recordSize → v ≡ byteAt card (place t n i + k) → v ≡ byteAt (recordAt card i) k
   byte-here k v h e = byte-in card (place t n i) k v h e ∙ ap (λ (r : List ℕ). byteAt r k) record-here
 
-  module _ (m : ℕ) (room : 8 * (i + 1) ≤ m) where
-    next : (d : List ℕ) (k v : ℕ) → length d ≡ m → k < 8 → Holds d (8 * i + k) (fieldOf card) → v ≡ getD (fieldsOf card i) k 0 → v < 4294967296
-        → Holds (set d (8 * i + k) v) (8 * i + (k + 1)) (fieldOf card)
+  module _ (m : ℕ) (room : entrySize * (i + 1) ≤ m) where
+    next : (d : List ℕ) (k v : ℕ) → length d ≡ m → k < entrySize → Holds d (entrySize * i + k) (fieldOf card) → v ≡ getD (fieldsOf card i) k 0 → v < words32
+        → Holds (set d (entrySize * i + k) v) (entrySize * i + (k + 1)) (fieldOf card)
     next d k v l h holds e s =
-        holds-more d (8 * i + k) v (8 * i + (k + 1)) (fieldOf card) holds (omega arith) (e ∙ sym (field-at card i k h)) s (omega arith)
+        holds-more d (entrySize * i + k) v (entrySize * i + (k + 1)) (fieldOf card) holds (omega arith) (e ∙ sym (field-at card i k h)) s (omega arith)
 
-    pub entry-more : (d : List ℕ) (kind a0 a1 a2 a3 a4 a5 a6 a7 : ℕ) → length d ≡ m → Holds d (8 * i) (fieldOf card)
+    pub entry-more : (d : List ℕ) (kind a0 a1 a2 a3 a4 a5 a6 a7 : ℕ) → length d ≡ m → Holds d (entrySize * i) (fieldOf card)
         → kind ≡ byteAt card (3 + t + i)
         → (a0 ≡ knownKind kind (recordFrom card (place t n i))) × (a0 < 256)
         → (a1 ≡ word16 card (place t n i)) × (a1 < 65536)
-        → (a2 ≡ byteAt card (place t n i + 2)) × (a2 < 256)
-        → (a3 ≡ byteAt card (place t n i + 3)) × (a3 < 256)
-        → (a4 ≡ byteAt card (place t n i + 4)) × (a4 < 256)
-        → (a5 ≡ numberFrom (recordFrom card (place t n i)) 4) × (a5 < 4294967296)
-        → (a6 ≡ byteAt card (place t n i + 9)) × (a6 < 256)
-        → (a7 ≡ numberFrom (recordFrom card (place t n i)) 9) × (a7 < 4294967296)
-        → let d4 = set (set (set (set d (8 * i) a0) (8 * i + 1) a1) (8 * i + 2) a2) (8 * i + 3) a3 in
-        Holds (set (set (set (set d4 (8 * i + 4) a4) (8 * i + 5) a5) (8 * i + 6) a6) (8 * i + 7) a7) (8 * (i + 1)) (fieldOf card)
+        → (a2 ≡ byteAt card (place t n i + tablePlace)) × (a2 < 256)
+        → (a3 ≡ byteAt card (place t n i + comparisonPlace)) × (a3 < 256)
+        → (a4 ≡ byteAt card (place t n i + leftPlace)) × (a4 < 256)
+        → (a5 ≡ numberFrom (recordFrom card (place t n i)) leftPlace) × (a5 < words32)
+        → (a6 ≡ byteAt card (place t n i + rightPlace)) × (a6 < 256)
+        → (a7 ≡ numberFrom (recordFrom card (place t n i)) rightPlace) × (a7 < words32)
+        → let d4 = set (set (set (set d (entrySize * i) a0) (entrySize * i + entryEnd) a1) (entrySize * i + entryTable) a2) (entrySize * i + entryComparison) a3 in
+        Holds (set (set (set (set d4 (entrySize * i + entryLeftTag) a4) (entrySize * i + entryLeftNumber) a5) (entrySize * i + entryRightTag) a6) (entrySize * i + entryRightNumber) a7) (entrySize * (i + 1)) (fieldOf card)
     unfolding fieldsOf
     entry-more d kind a0 a1 a2 a3 a4 a5 a6 a7 l h k e0 e1 e2 e3 e4 e5 e6 e7 =
         let kind-is = k ∙ ap (λ (x : ℕ). byteAt card (3 + x + i)) tables in
         let known = e0 .0 ∙ ap₂ knownKind kind-is record-here in
         let two = record-word16 card (place t n i) 0 (place t n i) (omega arith) (omega arith) in
         let end = e1 .0 ∙ sym two ∙ ap (λ (r : List ℕ). word16 r 0) record-here in
-        let left = e5 .0 ∙ ap (λ (r : List ℕ). numberFrom r 4) record-here in
-        let right = e7 .0 ∙ ap (λ (r : List ℕ). numberFrom r 9) record-here in
-        let h1 = holds-more d (8 * i) a0 (8 * i + 1) (fieldOf card) h (omega arith) (known ∙ sym (field-first card i)) (omega arith) refl in
-        let h2 = next _ 1 a1 (simp length-set l) (omega arith) h1 end (omega arith) in
-        let h3 = next _ 2 a2 (simp length-set l) (omega arith) h2 (byte-here 2 a2 (omega arith) (e2 .0)) (omega arith) in
-        let h4 = next _ 3 a3 (simp length-set l) (omega arith) h3 (byte-here 3 a3 (omega arith) (e3 .0)) (omega arith) in
-        let h5 = next _ 4 a4 (simp length-set l) (omega arith) h4 (byte-here 4 a4 (omega arith) (e4 .0)) (omega arith) in
-        let h6 = next _ 5 a5 (simp length-set l) (omega arith) h5 left (omega arith) in
-        let h7 = next _ 6 a6 (simp length-set l) (omega arith) h6 (byte-here 9 a6 (omega arith) (e6 .0)) (omega arith) in
-        let h8 = next _ 7 a7 (simp length-set l) (omega arith) h7 right (omega arith) in
-        holds-same _ (8 * i + 8) (8 * (i + 1)) (fieldOf card) h8 (omega arith)
+        let left = e5 .0 ∙ ap (λ (r : List ℕ). numberFrom r leftPlace) record-here in
+        let right = e7 .0 ∙ ap (λ (r : List ℕ). numberFrom r rightPlace) record-here in
+        let h1 = holds-more d (entrySize * i) a0 (entrySize * i + entryEnd) (fieldOf card) h (omega arith) (known ∙ sym (field-first card i)) (omega arith) refl in
+        let h2 = next _ entryEnd a1 (simp length-set l) (omega arith) h1 end (omega arith) in
+        let h3 = next _ entryTable a2 (simp length-set l) (omega arith) h2 (byte-here tablePlace a2 (omega arith) (e2 .0)) (omega arith) in
+        let h4 = next _ entryComparison a3 (simp length-set l) (omega arith) h3 (byte-here comparisonPlace a3 (omega arith) (e3 .0)) (omega arith) in
+        let h5 = next _ entryLeftTag a4 (simp length-set l) (omega arith) h4 (byte-here leftPlace a4 (omega arith) (e4 .0)) (omega arith) in
+        let h6 = next _ entryLeftNumber a5 (simp length-set l) (omega arith) h5 left (omega arith) in
+        let h7 = next _ entryRightTag a6 (simp length-set l) (omega arith) h6 (byte-here rightPlace a6 (omega arith) (e6 .0)) (omega arith) in
+        let h8 = next _ entryRightNumber a7 (simp length-set l) (omega arith) h7 right (omega arith) in
+        holds-same _ (entrySize * i + entrySize) (entrySize * (i + 1)) (fieldOf card) h8 (omega arith)
 
 -- ---- what the numbers say
 
@@ -288,58 +288,45 @@ value-back tag raw = go (eqb tag constantTag)
     go true = ap Constant (constant-back raw)
     go false = refl
 
--- the heads of the eight kinds
-abbrev heads : ℕ → ℕ → Value → Value → List (Option Head)
-heads table comparison left right =
-    some (PairHead And)
-    ∷ some (PairHead Or)
-    ∷ some (RowHead Some table)
-    ∷ some (RowHead All table)
-    ∷ some (LeafHead (CompareLeaf AsNo (comparisonOf comparison) left right))
-    ∷ some (LeafHead (CompareLeaf AsYes (comparisonOf comparison) left right))
-    ∷ some (LeafHead (BlankLeaf left))
-    ∷ some (LeafHead (NotBlankLeaf left))
-    ∷ []
-
 -- of a kind whose fields do not fit there is none
 only-known : (t : Bool) (hs : List (Option Head)) (k : ℕ) (x : Head) → numbered hs k none ≡ some x → numbered hs (cond t k 0) none ≡ only t x
 only-known true hs k x e = e
 only-known false hs k x e = refl
 
 module _ (r : List ℕ) where
-  abbrev headsIn : List (Option Head)
-  headsIn = heads (byteAt r tablePlace) (byteAt r comparisonPlace) (valueFrom r leftPlace) (valueFrom r rightPlace)
+  abbrev headsOf : List (Option Head)
+  headsOf = heads (byteAt r tablePlace) (byteAt r comparisonPlace) (valueFrom r leftPlace) (valueFrom r rightPlace)
 
-  head-known : (kind : ℕ) → numbered headsIn (knownKind kind r) none ≡ headFrom kind r
+  head-known : (kind : ℕ) → numbered headsOf (knownKind kind r) none ≡ headFrom kind r
   unfolding knownKind fieldsFit headFrom
   head-known zero = refl
-  head-known (suc zero) = only-known (fieldsFit 1 r) headsIn 1 _ refl
-  head-known (suc (suc zero)) = only-known (fieldsFit 2 r) headsIn 2 _ refl
-  head-known (suc (suc (suc zero))) = only-known (fieldsFit 3 r) headsIn 3 _ refl
-  head-known (suc (suc (suc (suc zero)))) = only-known (fieldsFit 4 r) headsIn 4 _ refl
-  head-known (suc (suc (suc (suc (suc zero))))) = only-known (fieldsFit 5 r) headsIn 5 _ refl
-  head-known (suc (suc (suc (suc (suc (suc zero)))))) = only-known (fieldsFit 6 r) headsIn 6 _ refl
-  head-known (suc (suc (suc (suc (suc (suc (suc zero))))))) = only-known (fieldsFit 7 r) headsIn 7 _ refl
-  head-known (suc (suc (suc (suc (suc (suc (suc (suc zero)))))))) = only-known (fieldsFit 8 r) headsIn 8 _ refl
+  head-known (suc zero) = only-known (fieldsFit (pairKind And) r) headsOf (pairKind And) _ refl
+  head-known (suc (suc zero)) = only-known (fieldsFit (pairKind Or) r) headsOf (pairKind Or) _ refl
+  head-known (suc (suc (suc zero))) = only-known (fieldsFit (rowKind Some) r) headsOf (rowKind Some) _ refl
+  head-known (suc (suc (suc (suc zero)))) = only-known (fieldsFit (rowKind All) r) headsOf (rowKind All) _ refl
+  head-known (suc (suc (suc (suc (suc zero))))) = only-known (fieldsFit (comparisonKind AsNo) r) headsOf (comparisonKind AsNo) _ refl
+  head-known (suc (suc (suc (suc (suc (suc zero)))))) = only-known (fieldsFit (comparisonKind AsYes) r) headsOf (comparisonKind AsYes) _ refl
+  head-known (suc (suc (suc (suc (suc (suc (suc zero))))))) = only-known (fieldsFit blankKind r) headsOf blankKind _ refl
+  head-known (suc (suc (suc (suc (suc (suc (suc (suc zero)))))))) = only-known (fieldsFit notBlankKind r) headsOf notBlankKind _ refl
   head-known (suc (suc (suc (suc (suc (suc (suc (suc (suc n))))))))) = refl
 
 module _ (card d : List ℕ) (decoded : Decoded card d) (i : ℕ) (within : i < entryCount card) where
-  field-in : (k : ℕ) → k < 8 → getD d (8 * i + k) 0 ≡ getD (fieldsOf card i) k 0
-  field-in k h = decoded .fields .at (8 * i + k) (omega arith) ∙ field-at card i k h
+  field-in : (k : ℕ) → k < entrySize → getD d (entrySize * i + k) 0 ≡ getD (fieldsOf card i) k 0
+  field-in k h = decoded .fields .at (entrySize * i + k) (omega arith) ∙ field-at card i k h
 
   pub end-decoded : endIn d i ≡ endAt card i
   unfolding fieldsOf
-  end-decoded = field-in 1 (omega arith)
+  end-decoded = field-in entryEnd (omega arith)
 
   pub head-decoded : headIn d i ≡ headFrom (kindAt card i) (recordAt card i)
   unfolding fieldsOf headIn
   head-decoded =
       let r : List ℕ = recordAt card i in
-      let kind : kindIn d i ≡ knownKind (kindAt card i) r = decoded .fields .at (8 * i) (omega arith) ∙ field-first card i in
-      let table : getD d (8 * i + 2) 0 ≡ byteAt r 2 = field-in 2 (omega arith) in
-      let comparison : getD d (8 * i + 3) 0 ≡ byteAt r 3 = field-in 3 (omega arith) in
-      let left : valueIn (getD d (8 * i + 4) 0) (getD d (8 * i + 5) 0) ≡ valueFrom r 4 =
-      ap₂ valueIn (field-in 4 (omega arith)) (field-in 5 (omega arith)) ∙ value-back (byteAt r 4) (word32 r 5) in
-      let right : valueIn (getD d (8 * i + 6) 0) (getD d (8 * i + 7) 0) ≡ valueFrom r 9 =
-      ap₂ valueIn (field-in 6 (omega arith)) (field-in 7 (omega arith)) ∙ value-back (byteAt r 9) (word32 r 10) in
+      let kind : kindIn d i ≡ knownKind (kindAt card i) r = decoded .fields .at (entrySize * i) (omega arith) ∙ field-first card i in
+      let table : getD d (entrySize * i + entryTable) 0 ≡ byteAt r tablePlace = field-in entryTable (omega arith) in
+      let comparison : getD d (entrySize * i + entryComparison) 0 ≡ byteAt r comparisonPlace = field-in entryComparison (omega arith) in
+      let left : valueIn (getD d (entrySize * i + entryLeftTag) 0) (getD d (entrySize * i + entryLeftNumber) 0) ≡ valueFrom r leftPlace =
+      ap₂ valueIn (field-in entryLeftTag (omega arith)) (field-in entryLeftNumber (omega arith)) ∙ value-back (byteAt r leftPlace) (word32 r (leftPlace + 1)) in
+      let right : valueIn (getD d (entrySize * i + entryRightTag) 0) (getD d (entrySize * i + entryRightNumber) 0) ≡ valueFrom r rightPlace =
+      ap₂ valueIn (field-in entryRightTag (omega arith)) (field-in entryRightNumber (omega arith)) ∙ value-back (byteAt r rightPlace) (word32 r (rightPlace + 1)) in
       rw (kind, table, comparison, left, right) (head-known r (kindAt card i))

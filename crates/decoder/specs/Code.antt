@@ -1,20 +1,20 @@
 -- What the functions of src/ promise their callers, in the terms of the code: a card's entries as numbers in an array. The contract of a public call
 -- cites nothing of this file.
 use mathlib.Core.Path.{_≡_}
-use mathlib.Core.Bool.{Bool, false, cond, _&&_}
+use mathlib.Core.Bool.{Bool, false, cond}
 use mathlib.Core.List.{List, [], _∷_}
 use mathlib.Core.Option.{Option, none, some}
 use Prim.Native.Nat.{ℕ, _+_, _*_, _/_, _%_, _<_, _≤_}
 use lib.Dec.{eqb}
 use lib.ListN.{length, getD, take, drop}
 use Rattle.tables.specs.Lists.{numbered}
-use Rattle.tables.specs.Bytes.{between, byteAt, word16, word32, signed, bits}
+use Rattle.tables.specs.Bytes.{byteAt, word16, word32, signed, bits}
 use Rattle.tables.specs.Tables.{mostTables, mostColumns}
 use Rattle.tables.specs.Values.{constantTag, Value, comparisonOf, Connective, And, Or, Quantifier, Some, All}
 use Rattle.cells.specs.Code.{excess, Holds}
 use Rattle.values.specs.Code.{valueIn}
 use Rattle.card.specs.Card.{AsNo, AsYes, Leaf, CompareLeaf, BlankLeaf, NotBlankLeaf, Card, LeafEntry, PairEntry, RowEntry}
-use Rattle.card.specs.Layout.{recordSize, tablePlace, comparisonPlace, leftPlace, rightPlace, Head, LeafHead, PairHead, RowHead, cardLength, entryCount, tablesIn, kindAt, recordAt, zeros}
+use Rattle.card.specs.Layout.{recordSize, tablePlace, comparisonPlace, leftPlace, rightPlace, usesEnd, usesTable, usesComparison, usesLeft, Head, LeafHead, PairHead, RowHead, cardLength, entryCount, tablesIn, kindAt, recordAt}
 use Rattle.card.specs.Sound.{mostEntries}
 
 -- ---- the layout
@@ -36,21 +36,45 @@ recordFrom card place = take recordSize (drop place card)
 abbrev pub RecordIn : List ℕ → ℕ → Type 0
 RecordIn card place = place + recordSize ≤ length card
 
--- ---- how many numbers an entry is decoded to
+-- ---- how many numbers an entry is decoded to, and their order: its kind first, then these
 
 abbrev pub entrySize : ℕ
 entrySize = 8
+
+abbrev pub entryEnd : ℕ
+entryEnd = 1
+
+abbrev pub entryTable : ℕ
+entryTable = 2
+
+abbrev pub entryComparison : ℕ
+entryComparison = 3
+
+abbrev pub entryLeftTag : ℕ
+entryLeftTag = 4
+
+abbrev pub entryLeftNumber : ℕ
+entryLeftNumber = 5
+
+abbrev pub entryRightTag : ℕ
+entryRightTag = 6
+
+abbrev pub entryRightNumber : ℕ
+entryRightNumber = 7
+
+-- where the next entry's end stands
+abbrev pub entryNextEnd : ℕ
+entryNextEnd = entrySize + entryEnd
 
 -- ---- an entry as eight numbers
 
 -- whether the fields of a record are as its kind wants them: a known comparison where one is used, and 0 in what is not used
 unfoldable pub fieldsFit : ℕ → List ℕ → Bool
 fieldsFit kind r =
-    let usesEnd = zeros r tablePlace recordSize in
-    let usesTable = zeros r comparisonPlace recordSize in
-    let usesComparison = zeros r tablePlace comparisonPlace && between 1 6 (byteAt r comparisonPlace) in
-    let usesLeft = zeros r tablePlace leftPlace && zeros r rightPlace recordSize in
-    numbered (usesEnd ∷ usesEnd ∷ usesTable ∷ usesTable ∷ usesComparison ∷ usesComparison ∷ usesLeft ∷ usesLeft ∷ []) kind false
+    numbered
+    (usesEnd r ∷ usesEnd r ∷ usesTable r ∷ usesTable r ∷ usesComparison r ∷ usesComparison r ∷ usesLeft r ∷ usesLeft r ∷ [])
+    kind
+    false
 
 -- its kind, and 0 where they are not
 unfoldable pub knownKind : ℕ → List ℕ → ℕ
@@ -91,40 +115,48 @@ pub record Decoded (card d : List ℕ) : Type 0 where
 
 -- ---- the entries of an array
 
+-- what an entry with these fields says by itself, for each kind from 1 on
+abbrev pub heads : ℕ → ℕ → Value → Value → List (Option Head)
+heads table comparison left right =
+    some (PairHead And)
+    ∷ some (PairHead Or)
+    ∷ some (RowHead Some table)
+    ∷ some (RowHead All table)
+    ∷ some (LeafHead (CompareLeaf AsNo (comparisonOf comparison) left right))
+    ∷ some (LeafHead (CompareLeaf AsYes (comparisonOf comparison) left right))
+    ∷ some (LeafHead (BlankLeaf left))
+    ∷ some (LeafHead (NotBlankLeaf left))
+    ∷ []
+
 module _ (d : List ℕ) (i : ℕ) where
   abbrev pub kindIn : ℕ
   kindIn = getD d (entrySize * i) 0
 
   abbrev pub endIn : ℕ
-  endIn = getD d (entrySize * i + 1) 0
+  endIn = getD d (entrySize * i + entryEnd) 0
+
+  -- the end of the entry after entry i
+  abbrev pub nextEndIn : ℕ
+  nextEndIn = getD d (entrySize * i + entryNextEnd) 0
 
   abbrev pub tableIn : ℕ
-  tableIn = getD d (entrySize * i + 2) 0
+  tableIn = getD d (entrySize * i + entryTable) 0
 
   abbrev pub comparisonIn : ℕ
-  comparisonIn = getD d (entrySize * i + 3) 0
+  comparisonIn = getD d (entrySize * i + entryComparison) 0
 
   abbrev pub leftIn : Value
-  leftIn = valueIn (getD d (entrySize * i + 4) 0) (getD d (entrySize * i + 5) 0)
+  leftIn = valueIn (getD d (entrySize * i + entryLeftTag) 0) (getD d (entrySize * i + entryLeftNumber) 0)
 
   abbrev pub rightIn : Value
-  rightIn = valueIn (getD d (entrySize * i + 6) 0) (getD d (entrySize * i + 7) 0)
+  rightIn = valueIn (getD d (entrySize * i + entryRightTag) 0) (getD d (entrySize * i + entryRightNumber) 0)
 
-  -- what entry i says by itself
+  -- what entry i would say under each kind, and what it says
+  abbrev pub headsIn : List (Option Head)
+  headsIn = heads tableIn comparisonIn leftIn rightIn
+
   unfoldable pub headIn : Option Head
-  headIn =
-      numbered
-      (some (PairHead And)
-      ∷ some (PairHead Or)
-      ∷ some (RowHead Some tableIn)
-      ∷ some (RowHead All tableIn)
-      ∷ some (LeafHead (CompareLeaf AsNo (comparisonOf comparisonIn) leftIn rightIn))
-      ∷ some (LeafHead (CompareLeaf AsYes (comparisonOf comparisonIn) leftIn rightIn))
-      ∷ some (LeafHead (BlankLeaf leftIn))
-      ∷ some (LeafHead (NotBlankLeaf leftIn))
-      ∷ [])
-      kindIn
-      none
+  headIn = numbered headsIn kindIn none
 
 -- the entries from number i up to e are a card: one entry with its inner ones
 pub data Coded (d : List ℕ) : ℕ → ℕ → Card → Type 0 where

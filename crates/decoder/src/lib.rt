@@ -6,8 +6,9 @@ ghost use lib.ListN.{length};
 ghost use Rattle.tables.specs.Lists.{all};
 ghost use Rattle.tables.specs.Bytes.{between};
 ghost use Rattle.tables.specs.Tables.{mostColumns};
-ghost use Rattle.card.specs.Layout.{recordSize, tablesIn, columnsIn, zeros};
+ghost use Rattle.card.specs.Layout.{recordSize, valueSize, tablesIn, columnsIn, zeros};
 ghost use Rattle.card.specs.Sound.{laid};
+ghost use Rattle.cells.specs.Code.{words32};
 ghost use Rattle.decoder.specs.Code.{Laid, recordFrom, RecordIn, fieldsFit, knownKind, numberFrom, Roomy, Decoded};
 use card::AND_ENTRY;
 use card::BLANK;
@@ -172,9 +173,9 @@ fn known_kind(card: &[u8], r: usize, kind: usize) -> usize
 
 // The number of the value at place i of the record at r: a constant plus 2 ^ 31, or a column.
 fn number_at(card: &[u8], r: usize, i: usize) -> usize
-    requires { ⌜ RecordIn (now card) r ⌝ ∗ ⌜ i + 5 ≤ recordSize ⌝ }
+    requires { ⌜ RecordIn (now card) r ⌝ ∗ ⌜ i + valueSize ≤ recordSize ⌝ }
     ensures is { λ x. ⌜ x ≡ numberFrom (recordFrom (now (card .entry)) r) i ⌝ }
-    ensures small { λ x. ⌜ x < 4294967296 ⌝ }
+    ensures small { λ x. ⌜ x < words32 ⌝ }
 {
     let tag = byte(card, r + i);
     if tag == CONSTANT {

@@ -104,7 +104,7 @@ pair-kind-is false Or = refl
 pair-kind-is true And = refl
 pair-kind-is true Or = refl
 
-pub list-kind-is : (every : Bool) → pairKindAs every 1 ≡ kindOf (PairHead (listConnective every))
+pub list-kind-is : (every : Bool) → pairKindAs every (joinKind And) ≡ kindOf (PairHead (listConnective every))
 list-kind-is false = refl
 list-kind-is true = refl
 

@@ -9,7 +9,9 @@ use Rattle.tables.specs.Lists.{placed}
 use Rattle.tables.specs.Bytes.{bytes16, bytes32}
 use Rattle.tables.specs.Values.{Value, Comparison, Eq, Ne, Lt, Le, Gt, Ge, comparisonNumber}
 use Rattle.card.specs.Card.{Interpretation, Leaf, CompareLeaf, LeafEntry, entries}
-use Rattle.card.specs.Layout.{LeafHead, kindOf, valueBytes, noValue, fieldBytes, kindBytes, recordsFrom}
+use Rattle.card.specs.Layout.{recordSize, LeafHead, kindOf, valueBytes, noValue, fieldBytes, kindBytes, recordsFrom}
+use Rattle.rule.specs.Parts.{nullKind, notNullKind}
+use Rattle.names.specs.Code.{partSize, partComparison, partLeftTag, partLeftNumber, partRightTag, partRightNumber}
 use Rattle.translation.specs.Translation.{otherComparison}
 use Rattle.parser.proofs.Small.{comparison-small}
 use Rattle.records.specs.declared.LeafNumbers.{LeafNumbers}
@@ -30,7 +32,7 @@ compare-kind-is false true op l r = refl
 compare-kind-is true false op l r = refl
 compare-kind-is true true op l r = refl
 
-null-kind-is : (negate blank : Bool) (l : Value) → nullKindAs negate (cond blank 5 6) ≡ kindOf (LeafHead (leafAs negate (nullLeaf blank l)))
+null-kind-is : (negate blank : Bool) (l : Value) → nullKindAs negate (cond blank nullKind notNullKind) ≡ kindOf (LeafHead (leafAs negate (nullLeaf blank l)))
 null-kind-is false false l = refl
 null-kind-is false true l = refl
 null-kind-is true false l = refl
@@ -69,20 +71,20 @@ unfolding entries kindBytes recordsFrom
 leaf-written {kinds} {records} {kinds′} {records′} {k} {x} y w p q = record {
   next = refl;
   kinds-are = w .kinds-are ∙ ap (λ (n : ℕ). placed kinds k (n ∷ [])) p;
-  records-are = w .records-are ∙ ap (λ (l : List ℕ). placed records (14 * k) (bytes16 (k + 1) ++ l)) q;
+  records-are = w .records-are ∙ ap (λ (l : List ℕ). placed records (recordSize * k) (bytes16 (k + 1) ++ l)) q;
 }
 
 module _ {p : List ℕ} {s : ℕ} {kinds records : List ℕ} {k : ℕ} where
   -- a comparison
-  module _ (h : CompareReady p s kinds records k) (negate unknown : Bool) (kind op : ℕ) (is-kind : kind ≡ compareKindAs negate unknown) (is-op : op ≡ comparisonAs negate (getD p (8 * s + 1) 0)) where
+  module _ (h : CompareReady p s kinds records k) (negate unknown : Bool) (kind op : ℕ) (is-kind : kind ≡ compareKindAs negate unknown) (is-op : op ≡ comparisonAs negate (getD p (partSize * s + partComparison) 0)) where
     abbrev pub compareNumbers : LeafNumbers
     compareNumbers = record {
       kind = kind;
       comparison = op;
-      «left_tag» = getD p (8 * s + 4) 0;
-      «left_number» = getD p (8 * s + 5) 0;
-      «right_tag» = getD p (8 * s + 6) 0;
-      «right_number» = getD p (8 * s + 7) 0;
+      «left_tag» = getD p (partSize * s + partLeftTag) 0;
+      «left_number» = getD p (partSize * s + partLeftNumber) 0;
+      «right_tag» = getD p (partSize * s + partRightTag) 0;
+      «right_number» = getD p (partSize * s + partRightNumber) 0;
     }
 
     op-is : op ≡ comparisonNumber (cond negate (otherComparison (h .comparison)) (h .comparison))
@@ -111,22 +113,22 @@ module _ {p : List ℕ} {s : ℕ} {kinds records : List ℕ} {k : ℕ} where
         leaf-written _ w
         (is-kind ∙ compare-kind-is negate unknown (h .comparison) (h .left) (h .right))
         (ap₂ (λ (n : ℕ) (v : List ℕ). 0 ∷ n ∷ v) op-is
-        (ap₂ _++_ (value-at p (8 * s + 4) (8 * s + 5) (omega arith) ∙ h .left-is) (value-at p (8 * s + 6) (8 * s + 7) (omega arith) ∙ h .right-is))
+        (ap₂ _++_ (value-at p (partSize * s + partLeftTag) (partSize * s + partLeftNumber) (omega arith) ∙ h .left-is) (value-at p (partSize * s + partRightTag) (partSize * s + partRightNumber) (omega arith) ∙ h .right-is))
         ∙ compare-bytes negate (interpretationOf unknown) (h .comparison) (h .left) (h .right))
 
   -- a test for a blank
-  module _ (h : NullReady p s kinds records k) (negate : Bool) (kind : ℕ) (is-kind : kind ≡ nullKindAs negate (getD p (8 * s) 0)) where
+  module _ (h : NullReady p s kinds records k) (negate : Bool) (kind : ℕ) (is-kind : kind ≡ nullKindAs negate (getD p (partSize * s) 0)) where
     abbrev pub nullNumbers : LeafNumbers
     nullNumbers = record {
       kind = kind;
       comparison = 0;
-      «left_tag» = getD p (8 * s + 4) 0;
-      «left_number» = getD p (8 * s + 5) 0;
+      «left_tag» = getD p (partSize * s + partLeftTag) 0;
+      «left_number» = getD p (partSize * s + partLeftNumber) 0;
       «right_tag» = 0;
       «right_number» = 0;
     }
 
-    kind-told : kind ≡ nullKindAs negate (cond (h .blank) 5 6)
+    kind-told : kind ≡ nullKindAs negate (cond (h .blank) nullKind notNullKind)
     kind-told = is-kind ∙ ap (nullKindAs negate) (h .kind-is)
 
     pub null-at : LeafAt kinds records k nullNumbers
@@ -151,5 +153,5 @@ module _ {p : List ℕ} {s : ℕ} {kinds records : List ℕ} {k : ℕ} where
     null-written w =
         leaf-written _ w
         (kind-told ∙ null-kind-is negate (h .blank) (h .left))
-        (ap (λ (v : List ℕ). 0 ∷ 0 ∷ v ++ noValue) (value-at p (8 * s + 4) (8 * s + 5) (omega arith) ∙ h .left-is)
+        (ap (λ (v : List ℕ). 0 ∷ 0 ∷ v ++ noValue) (value-at p (partSize * s + partLeftTag) (partSize * s + partLeftNumber) (omega arith) ∙ h .left-is)
         ∙ null-bytes negate (h .blank) (h .left))

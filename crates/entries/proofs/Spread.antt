@@ -8,7 +8,8 @@ use Rattle.tables.specs.Lists.{placed}
 use Rattle.tables.specs.Bytes.{bytes16}
 use Rattle.tables.specs.Values.{Connective, Quantifier}
 use Rattle.card.specs.Card.{Card, PairEntry, RowEntry, entries}
-use Rattle.card.specs.Layout.{PairHead, RowHead, kindOf, kindBytes, recordsFrom}
+use Rattle.card.specs.Layout.{recordSize, PairHead, RowHead, kindOf, kindBytes, recordsFrom}
+use Rattle.card.specs.Sound.{mostEntries}
 use Rattle.tables.proofs.Placed.{placed-length, placed-next, placed-over}
 use Rattle.card.proofs.Walk.{kinds-length, records-length}
 use Rattle.records.specs.Code.{plainRecord}
@@ -17,7 +18,7 @@ use Rattle.entries.specs.Code.{Room, Wrote}
 -- an entry's kind and record, without its end
 pub record Plain (k kind table : ℕ) (kinds records kinds′ records′ : List ℕ) : Type 0 where
   pub kinds-are : kinds′ ≡ placed kinds k (kind ∷ [])
-  pub records-are : records′ ≡ placed records (14 * k) (plainRecord 0 table)
+  pub records-are : records′ ≡ placed records (recordSize * k) (plainRecord 0 table)
 
 -- ---- the room that is left
 
@@ -35,7 +36,7 @@ module _ {kinds records : List ℕ} {k n : ℕ} (room : Room kinds records k n) 
       let b = room .records-fit in
       let s = room .kinds-size in
       let p = ap length (x .kinds-are) ∙ placed-length kinds k (kind ∷ []) (omega arith) in
-      let q = ap length (x .records-are) ∙ placed-length records (14 * k) (plainRecord 0 table) (omega arith) in
+      let q = ap length (x .records-are) ∙ placed-length records (recordSize * k) (plainRecord 0 table) (omega arith) in
       record { kinds-size = p ∙ s; kinds-fit = omega arith; records-fit = omega arith }
 
   pub room-wrote : {c : Card} {kinds′ records′ : List ℕ} {r : ℕ} → Wrote k c kinds records kinds′ records′ r → entries c ≤ n
@@ -45,18 +46,18 @@ module _ {kinds records : List ℕ} {k n : ℕ} (room : Room kinds records k n) 
       let b = room .records-fit in
       let s = room .kinds-size in
       let p = ap length (x .kinds-are) ∙ placed-length kinds k (kindBytes c) (omega (arith, kinds-length c)) in
-      let q = ap length (x .records-are) ∙ placed-length records (14 * k) (recordsFrom k c) (omega (arith, records-length c k)) in
+      let q = ap length (x .records-are) ∙ placed-length records (recordSize * k) (recordsFrom k c) (omega (arith, records-length c k)) in
       record { kinds-size = p ∙ s; kinds-fit = omega arith; records-fit = omega arith }
 
   -- what the functions that put one entry, and an end, ask
   pub plain-asked : (kind table : ℕ) → 1 ≤ n → kind < 256 → table < 256
-      → (length kinds ≡ 192) × ((k < 192) × ((kind < 256) × ((table < 256) × (14 * k + 14 ≤ length records))))
+      → (length kinds ≡ mostEntries) × ((k < mostEntries) × ((kind < 256) × ((table < 256) × (recordSize * k + recordSize ≤ length records))))
   plain-asked kind table low a b =
       let f = room .kinds-fit in
       let g = room .records-fit in
       (room .kinds-size, (omega arith, (a, (b, omega arith))))
 
-  pub end-asked : (i : ℕ) → i < k → (k < 65536) × (14 * i + 2 ≤ length records)
+  pub end-asked : (i : ℕ) → i < k → (k < 65536) × (recordSize * i + 2 ≤ length records)
   end-asked i l =
       let f = room .kinds-fit in
       let g = room .records-fit in
@@ -64,12 +65,12 @@ module _ {kinds records : List ℕ} {k n : ℕ} (room : Room kinds records k n) 
 
 -- ---- an entry and its inner ones
 
-module _ {k kind table : ℕ} {kinds records kinds1 records1 : List ℕ} (low : k ≤ length kinds) (long : 14 * k ≤ length records)
+module _ {k kind table : ℕ} {kinds records kinds1 records1 : List ℕ} (low : k ≤ length kinds) (long : recordSize * k ≤ length records)
     (x : Plain k kind table kinds records kinds1 records1) where
   -- the kinds and the records of those that are written
   record Inner (ks rs kinds′ records′ : List ℕ) : Type 0 where
     kinds-are : kinds′ ≡ placed kinds k (kind ∷ ks)
-    records-are : records′ ≡ placed records (14 * k) (plainRecord 0 table ++ rs)
+    records-are : records′ ≡ placed records (recordSize * k) (plainRecord 0 table ++ rs)
 
   first : {c : Card} {i r : ℕ} {kinds2 records2 : List ℕ} → i ≡ k + 1 → Wrote i c kinds1 records1 kinds2 records2 r
       → Inner (kindBytes c) (recordsFrom i c) kinds2 records2
@@ -80,15 +81,15 @@ module _ {k kind table : ℕ} {kinds records kinds1 records1 : List ℕ} (low : 
         ∙ placed-next kinds k (kind ∷ []) i (kindBytes c) low e;
     records-are =
         w .records-are
-        ∙ ap (λ (l : List ℕ). placed l (14 * i) (recordsFrom i c)) (x .records-are)
-        ∙ placed-next records (14 * k) (plainRecord 0 table) (14 * i) (recordsFrom i c) long (omega arith);
+        ∙ ap (λ (l : List ℕ). placed l (recordSize * i) (recordsFrom i c)) (x .records-are)
+        ∙ placed-next records (recordSize * k) (plainRecord 0 table) (recordSize * i) (recordsFrom i c) long (omega arith);
   }
 
   more : {ks rs kinds2 records2 : List ℕ} {c : Card} {i r : ℕ} {kinds3 records3 : List ℕ} → Inner ks rs kinds2 records2
-      → i ≡ k + 1 + length ks → 14 * i ≡ 14 * k + 14 + length rs → Wrote i c kinds2 records2 kinds3 records3 r
+      → i ≡ k + 1 + length ks → recordSize * i ≡ recordSize * k + recordSize + length rs → Wrote i c kinds2 records2 kinds3 records3 r
       → Inner (ks ++ kindBytes c) (rs ++ recordsFrom i c) kinds3 records3
   more {ks} {rs} {c = c} {i = i} h e f w =
-      let size : length (plainRecord 0 table ++ rs) ≡ 14 + length rs = length-append (plainRecord 0 table) rs in
+      let size : length (plainRecord 0 table ++ rs) ≡ recordSize + length rs = length-append (plainRecord 0 table) rs in
       record {
         kinds-are =
             w .kinds-are
@@ -96,22 +97,22 @@ module _ {k kind table : ℕ} {kinds records kinds1 records1 : List ℕ} (low : 
             ∙ placed-next kinds k (kind ∷ ks) i (kindBytes c) low (omega arith);
         records-are =
             w .records-are
-            ∙ ap (λ (l : List ℕ). placed l (14 * i) (recordsFrom i c)) (h .records-are)
-            ∙ placed-next records (14 * k) (plainRecord 0 table ++ rs) (14 * i) (recordsFrom i c) long (omega arith)
-            ∙ ap (placed records (14 * k)) (append-assoc (plainRecord 0 table) rs (recordsFrom i c));
+            ∙ ap (λ (l : List ℕ). placed l (recordSize * i) (recordsFrom i c)) (h .records-are)
+            ∙ placed-next records (recordSize * k) (plainRecord 0 table ++ rs) (recordSize * i) (recordsFrom i c) long (omega arith)
+            ∙ ap (placed records (recordSize * k)) (append-assoc (plainRecord 0 table) rs (recordsFrom i c));
       }
 
   -- its end is put
-  ended : {ks rs kinds2 records2 records3 : List ℕ} (end : ℕ) → Inner ks rs kinds2 records2 → records3 ≡ placed records2 (14 * k) (bytes16 end)
-      → records3 ≡ placed records (14 * k) (plainRecord end table ++ rs)
+  ended : {ks rs kinds2 records2 records3 : List ℕ} (end : ℕ) → Inner ks rs kinds2 records2 → records3 ≡ placed records2 (recordSize * k) (bytes16 end)
+      → records3 ≡ placed records (recordSize * k) (plainRecord end table ++ rs)
   ended {rs = rs} end h e =
       e
-      ∙ ap (λ (l : List ℕ). placed l (14 * k) (bytes16 end)) (h .records-are)
-      ∙ placed-over records (14 * k) (bytes16 0) _ (bytes16 end) long refl
+      ∙ ap (λ (l : List ℕ). placed l (recordSize * k) (bytes16 end)) (h .records-are)
+      ∙ placed-over records (recordSize * k) (bytes16 0) _ (bytes16 end) long refl
 
   -- a row entry
   pub row-written : (q : Quantifier) {c : Card} {i r : ℕ} {kinds2 records2 records3 : List ℕ} → kind ≡ kindOf (RowHead q table) → i ≡ k + 1
-      → Wrote i c kinds1 records1 kinds2 records2 r → records3 ≡ placed records2 (14 * k) (bytes16 r)
+      → Wrote i c kinds1 records1 kinds2 records2 r → records3 ≡ placed records2 (recordSize * k) (bytes16 r)
       → Wrote k (RowEntry q table c) kinds records kinds2 records3 r
   unfolding entries kindBytes recordsFrom
   row-written q {c} {i} {r} p e w f =
@@ -122,12 +123,12 @@ module _ {k kind table : ℕ} {kinds records kinds1 records1 : List ℕ} (low : 
         kinds-are = inner .kinds-are ∙ ap (λ (y : ℕ). placed kinds k (y ∷ kindBytes c)) p;
         records-are =
             ended r inner f
-            ∙ ap₂ (λ (y z : ℕ). placed records (14 * k) (plainRecord y table ++ recordsFrom z c)) n e;
+            ∙ ap₂ (λ (y z : ℕ). placed records (recordSize * k) (plainRecord y table ++ recordsFrom z c)) n e;
       }
 
   -- a pair
   pub pair-written : (j : Connective) {a b : Card} {i m r : ℕ} {kinds2 records2 kinds3 records3 records4 : List ℕ} → table ≡ 0 → kind ≡ kindOf (PairHead j) → i ≡ k + 1
-      → Wrote i a kinds1 records1 kinds2 records2 m → Wrote m b kinds2 records2 kinds3 records3 r → records4 ≡ placed records3 (14 * k) (bytes16 r)
+      → Wrote i a kinds1 records1 kinds2 records2 m → Wrote m b kinds2 records2 kinds3 records3 r → records4 ≡ placed records3 (recordSize * k) (bytes16 r)
       → Wrote k (PairEntry j a b) kinds records kinds3 records4 r
   unfolding entries kindBytes recordsFrom
   pair-written j {a} {b} {i} {m} {r} t p e w v f =
@@ -141,6 +142,6 @@ module _ {k kind table : ℕ} {kinds records kinds1 records1 : List ℕ} (low : 
         kinds-are = inner .kinds-are ∙ ap (λ (y : ℕ). placed kinds k (y ∷ (kindBytes a ++ kindBytes b))) p;
         records-are =
             ended r inner f
-            ∙ ap₂ (λ (y z : ℕ). placed records (14 * k) (plainRecord y z ++ (recordsFrom i a ++ recordsFrom m b))) n t
-            ∙ ap₂ (λ (y z : ℕ). placed records (14 * k) (plainRecord (k + (1 + entries a + entries b)) 0 ++ (recordsFrom y a ++ recordsFrom z b))) e before;
+            ∙ ap₂ (λ (y z : ℕ). placed records (recordSize * k) (plainRecord y z ++ (recordsFrom i a ++ recordsFrom m b))) n t
+            ∙ ap₂ (λ (y z : ℕ). placed records (recordSize * k) (plainRecord (k + (1 + entries a + entries b)) 0 ++ (recordsFrom y a ++ recordsFrom z b))) e before;
       }

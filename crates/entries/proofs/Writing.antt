@@ -10,15 +10,21 @@ use lib.IntN.{ℤ, pos, negsuc}
 use lib.ListN.{length, getD, length-append}
 use Rattle.tables.specs.Lists.{placed}
 use Rattle.tables.specs.Bytes.{bytes16, bytes32, bits, inRange}
-use Rattle.tables.specs.Values.{Value, Constant, Column, Connective, And, Or, Quantifier, Some, All}
+use Rattle.tables.specs.Values.{constantTag, Value, Constant, Column, Connective, And, Or, Quantifier, Some, All}
 use Rattle.cells.specs.Code.{excess, toExcess}
 use Rattle.card.specs.Card.{CompareLeaf, Card, LeafEntry, PairEntry, RowEntry, entries}
-use Rattle.card.specs.Layout.{PairHead, kindOf as cardKind, valueBytes}
-use Rattle.rule.specs.Condition.{Compare, IsNull, IsNotNull, parts, fromsDeep}
-use Rattle.rule.specs.Names.{ValueFits, Fits}
-use Rattle.rule.specs.Parts.{listKind, taggedOf}
-use Rattle.parser.specs.Parts.{SmallPart}
-use Rattle.parser.proofs.Small.{heldNumber}
+use Rattle.card.specs.Layout.{PairHead, kindOf as cardKind, valueBytes, recordSize}
+use Rattle.rule.specs.Condition.{Compare, IsNull, IsNotNull, parts, fromsDeep, Rule}
+use Rattle.rule.specs.Names.{ValueFits, Fits, mostParts}
+use Rattle.rule.specs.Parts.{listKind, taggedOf, joinKind, notKind, compareKind, nullKind, notNullKind, existsKind}
+use Rattle.parser.specs.Parts.{SmallPart, Stands}
+use Rattle.parser.proofs.Parts.{heldNumber, parts-low, part-comparison, part-table, part-left-tag, part-left-number, part-right-tag, part-right-number, IsJoin, IsNot, IsCompare, IsExists, IsListed, is-join, is-not, is-compare, is-blank, is-present, is-exists, is-listed}
+use Rattle.card.specs.Sound.{mostEntries}
+use Rattle.names.specs.Code.{partSize, partTable, partEnd, partLeftTag, partLeftNumber, partRightTag, partRightNumber}
+use Rattle.rule.specs.Condition.{Compare, IsNull, IsNotNull, Rule, parts, fromsDeep}
+use Rattle.rule.specs.Names.{mostParts, ValueFits, Fits}
+use Rattle.rule.specs.Parts.{joinKind, listKind, notKind, compareKind, nullKind, notNullKind, existsKind, taggedOf}
+use Rattle.parser.specs.Parts.{Stands, SmallPart}
 use Rattle.parser.proofs.Parts.{parts-low, part-comparison, part-table, part-left-tag, part-left-number, part-right-tag, part-right-number, IsJoin, IsNot, IsCompare, IsExists, IsListed, is-join, is-not, is-compare, is-blank, is-present, is-exists, is-listed}
 use Rattle.records.specs.Code.{byteNumber, plainRecord, pairKindAs, rowKindAs}
 use Rattle.records.proofs.Flags.{row-small}
@@ -36,8 +42,8 @@ excess-bits (negsuc n) h = omega (arith, ltb→lt n 2147483648 h)
 
 value-numbers : (columns levels : List ℕ) (v : Value) → length levels ≤ 4 → ValueFits columns levels v
     → taggedOf v .tag ∷ bytes32 (byteNumber (taggedOf v .tag) (heldNumber (taggedOf v))) ≡ valueBytes v
-value-numbers columns levels (Constant k) few f = ap (λ (n : ℕ). 255 ∷ bytes32 n) (excess-bits k f)
-value-numbers columns levels (Column l c) few f = let level = f .0 in rw (ne-eqb l 255 (λ e. omega arith))
+value-numbers columns levels (Constant k) few f = ap (λ (n : ℕ). constantTag ∷ bytes32 n) (excess-bits k f)
+value-numbers columns levels (Column l c) few f = let level = f .0 in rw (ne-eqb l constantTag (λ e. omega arith))
 
 value-in : (p : List ℕ) (i j : ℕ) (columns levels : List ℕ) (v : Value) → length levels ≤ 4 → ValueFits columns levels v → j ≡ i + 1
     → getD p i 0 ≡ taggedOf v .tag → getD p j 0 ≡ heldNumber (taggedOf v) → valueBytesIn p i ≡ valueBytes v
@@ -49,33 +55,25 @@ value-in p i j columns levels v few f e tag number =
 -- ---- a part
 
 -- the kind of a test for a blank
-null-kind : (n : ℕ) → 5 ≤ n → n ≤ 6 → n ≡ cond (eqb n 5) 5 6
-null-kind n a b = go (eqb n 5) refl
+null-kind : (n : ℕ) → nullKind ≤ n → n ≤ notNullKind → n ≡ cond (eqb n nullKind) nullKind notNullKind
+null-kind n a b = go (eqb n nullKind) refl
   where
-    go : (t : Bool) → eqb n 5 ≡ t → n ≡ cond t 5 6
-    go true e = eqb-true n 5 e
-    go false e = let f = eqb-false n 5 e in omega arith
+    go : (t : Bool) → eqb n nullKind ≡ t → n ≡ cond t nullKind notNullKind
+    go true e = eqb-true n nullKind e
+    go false e = let f = eqb-false n nullKind e in omega arith
 
 -- the kind of a pair fits a byte
 pair-small : (j : Connective) → cardKind (PairHead j) < 256
 pair-small And = omega arith
 pair-small Or = omega arith
 
--- ALL is kind 9
-every-row : (q : Quantifier) (negate : Bool) → not (Bool·beq (eqb (listKind q) 9) negate) ≡ everyRow q negate
+every-row : (q : Quantifier) (negate : Bool) → not (Bool·beq (eqb (listKind q) (listKind All)) negate) ≡ everyRow q negate
 every-row Some false = refl
 every-row Some true = refl
 every-row All false = refl
 every-row All true = refl
 
 module _ {p : List ℕ} {s : ℕ} {negate unknown : Bool} {kinds records : List ℕ} {k : ℕ} (h : Writable p s negate unknown kinds records k) where
-  -- there are few parts and few entries
-  pub part-few : s < 64
-  part-few = omega (arith, h .within, h .few, parts-low (h .rule))
-
-  pub entry-few : k < 192
-  entry-few = omega (arith, h .room .kinds-fit, some-entries (cardAs negate unknown (h .rule)))
-
   pub part-small : SmallPart p s
   part-small = h .small s (omega (arith, h .within, parts-low (h .rule)))
 
@@ -90,9 +88,31 @@ module _ {p : List ℕ} {s : ℕ} {negate unknown : Bool} {kinds records : List 
   levels-few : length (h .levels) ≤ 4
   levels-few = omega (arith, h .deep)
 
+  -- an inner part can be written, too
+  abbrev inner-ready : {s′ : ℕ} {negate′ unknown′ : Bool} {kinds′ records′ : List ℕ} {k′ : ℕ} (rule : Rule) (levels : List ℕ) → Stands p s′ rule
+      → s′ + parts rule ≤ s + parts (h .rule) → length levels + fromsDeep rule ≤ 4 → Fits (h .columns) levels rule
+      → Room kinds′ records′ k′ (entries (cardAs negate′ unknown′ rule)) → Writable p s′ negate′ unknown′ kinds′ records′ k′
+  inner-ready {negate′ = negate′} {unknown′ = unknown′} rule levels stands within deep fits room =
+      record {
+        rule = rule;
+        size = h .size;
+        stands = stands;
+        count = h .count;
+        few = h .few;
+        within = omega (arith, h .within);
+        part-few = omega (arith, h .within, h .few, parts-low rule);
+        entry-few = omega (arith, room .kinds-fit, some-entries (cardAs negate′ unknown′ rule));
+        small = h .small;
+        columns = h .columns;
+        levels = levels;
+        deep = deep;
+        fits = fits;
+        room = room;
+      }
+
   -- ---- a comparison, and a test for a blank
 
-  module _ (kind : getD p (8 * s) 0 ≡ 4) where
+  module _ (kind : getD p (partSize * s) 0 ≡ compareKind) where
     compared : IsCompare p s (h .rule)
     compared = is-compare p s (h .rule) (h .stands) kind
 
@@ -106,15 +126,15 @@ module _ {p : List ℕ} {s : ℕ} {negate unknown : Bool} {kinds records : List 
         let f = subst (Fits (h .columns) (h .levels)) (x .is) (h .fits) in
         record {
           size = h .size;
-          few = part-few;
+          few = h .part-few;
           small = part-small;
           room = room-for compare-card;
           comparison = x .op;
           left = x .left;
           right = x .right;
           comparison-is = part-comparison (x .here);
-          left-is = value-in p (8 * s + 4) (8 * s + 5) (h .columns) (h .levels) (x .left) levels-few (f .0) (omega arith) (part-left-tag (x .here)) (part-left-number (x .here));
-          right-is = value-in p (8 * s + 6) (8 * s + 7) (h .columns) (h .levels) (x .right) levels-few (f .1) (omega arith) (part-right-tag (x .here)) (part-right-number (x .here));
+          left-is = value-in p (partSize * s + partLeftTag) (partSize * s + partLeftNumber) (h .columns) (h .levels) (x .left) levels-few (f .0) (omega arith) (part-left-tag (x .here)) (part-left-number (x .here));
+          right-is = value-in p (partSize * s + partRightTag) (partSize * s + partRightNumber) (h .columns) (h .levels) (x .right) levels-few (f .1) (omega arith) (part-right-tag (x .here)) (part-right-number (x .here));
         }
 
     pub compare-wrote : {kinds′ records′ : List ℕ} {r : ℕ} → ComparedTo p s negate unknown kinds records kinds′ records′ k r → Wrote k card kinds records kinds′ records′ r
@@ -125,9 +145,9 @@ module _ {p : List ℕ} {s : ℕ} {negate unknown : Bool} {kinds records : List 
   record Nulled (blank : Bool) : Type 0 where
     left : Value
     card-is : card ≡ LeafEntry (leafAs negate (nullLeaf blank left))
-    left-is : valueBytesIn p (8 * s + 4) ≡ valueBytes left
+    left-is : valueBytesIn p (partSize * s + partLeftTag) ≡ valueBytes left
 
-  nulled : (blank : Bool) → getD p (8 * s) 0 ≡ cond blank 5 6 → Nulled blank
+  nulled : (blank : Bool) → getD p (partSize * s) 0 ≡ cond blank nullKind notNullKind → Nulled blank
   unfolding Fits
   nulled true kind =
       let x = is-blank p s (h .rule) (h .stands) kind in
@@ -135,7 +155,7 @@ module _ {p : List ℕ} {s : ℕ} {negate unknown : Bool} {kinds records : List 
       record {
         left = x .left;
         card-is = ap (cardAs negate unknown) (x .is) ∙ card-atom negate unknown (IsNull (x .left));
-        left-is = value-in p (8 * s + 4) (8 * s + 5) (h .columns) (h .levels) (x .left) levels-few f (omega arith) (part-left-tag (x .here)) (part-left-number (x .here));
+        left-is = value-in p (partSize * s + partLeftTag) (partSize * s + partLeftNumber) (h .columns) (h .levels) (x .left) levels-few f (omega arith) (part-left-tag (x .here)) (part-left-number (x .here));
       }
   nulled false kind =
       let x = is-present p s (h .rule) (h .stands) kind in
@@ -143,25 +163,25 @@ module _ {p : List ℕ} {s : ℕ} {negate unknown : Bool} {kinds records : List 
       record {
         left = x .left;
         card-is = ap (cardAs negate unknown) (x .is) ∙ card-atom negate unknown (IsNotNull (x .left));
-        left-is = value-in p (8 * s + 4) (8 * s + 5) (h .columns) (h .levels) (x .left) levels-few f (omega arith) (part-left-tag (x .here)) (part-left-number (x .here));
+        left-is = value-in p (partSize * s + partLeftTag) (partSize * s + partLeftNumber) (h .columns) (h .levels) (x .left) levels-few f (omega arith) (part-left-tag (x .here)) (part-left-number (x .here));
       }
 
-  module _ (low : 5 ≤ getD p (8 * s) 0) (high : getD p (8 * s) 0 ≤ 6) where
-    null-told : getD p (8 * s) 0 ≡ cond (eqb (getD p (8 * s) 0) 5) 5 6
-    null-told = null-kind (getD p (8 * s) 0) low high
+  module _ (low : nullKind ≤ getD p (partSize * s) 0) (high : getD p (partSize * s) 0 ≤ notNullKind) where
+    null-told : getD p (partSize * s) 0 ≡ cond (eqb (getD p (partSize * s) 0) nullKind) nullKind notNullKind
+    null-told = null-kind (getD p (partSize * s) 0) low high
 
-    null-test : Nulled (eqb (getD p (8 * s) 0) 5)
-    null-test = nulled (eqb (getD p (8 * s) 0) 5) null-told
+    null-test : Nulled (eqb (getD p (partSize * s) 0) nullKind)
+    null-test = nulled (eqb (getD p (partSize * s) 0) nullKind) null-told
 
     pub null-ready : NullReady p s kinds records k
     unfolding entries
     null-ready =
         record {
           size = h .size;
-          few = part-few;
+          few = h .part-few;
           small = part-small;
           room = room-for (null-test .card-is);
-          blank = eqb (getD p (8 * s) 0) 5;
+          blank = eqb (getD p (partSize * s) 0) nullKind;
           left = null-test .left;
           kind-is = null-told;
           left-is = null-test .left-is;
@@ -173,7 +193,7 @@ module _ {p : List ℕ} {s : ℕ} {negate unknown : Bool} {kinds records : List 
 
   -- ---- NOT
 
-  module _ (kind : getD p (8 * s) 0 ≡ 3) where
+  module _ (kind : getD p (partSize * s) 0 ≡ notKind) where
     inverted : IsNot p s (h .rule)
     inverted = is-not p s (h .rule) (h .stands) kind
 
@@ -184,22 +204,8 @@ module _ {p : List ℕ} {s : ℕ} {negate unknown : Bool} {kinds records : List 
     unfolding parts fromsDeep Fits
     not-ready =
         let x = inverted in
-        let size = ap parts (x .is) in
-        let deep = ap fromsDeep (x .is) in
-        record {
-          rule = x .inner;
-          size = h .size;
-          stands = x .inner-stands;
-          count = h .count;
-          few = h .few;
-          within = omega (arith, size, h .within);
-          small = h .small;
-          columns = h .columns;
-          levels = h .levels;
-          deep = omega (arith, deep, h .deep);
-          fits = subst (Fits (h .columns) (h .levels)) (x .is) (h .fits);
-          room = room-for not-card;
-        }
+        inner-ready (x .inner) (h .levels) (x .inner-stands) (omega (arith, ap parts (x .is))) (omega (arith, ap fromsDeep (x .is), h .deep))
+        (subst (Fits (h .columns) (h .levels)) (x .is) (h .fits)) (room-for not-card)
 
     pub not-wrote : {kinds′ records′ : List ℕ} {r : ℕ} → WroteTo p (s + 1) (not negate) (not unknown) kinds records kinds′ records′ k r → Wrote k card kinds records kinds′ records′ r
     unfolding not-ready
@@ -207,7 +213,7 @@ module _ {p : List ℕ} {s : ℕ} {negate unknown : Bool} {kinds records : List 
 
   -- ---- AND and OR
 
-  module _ (bounds : (1 ≤ getD p (8 * s) 0) × (getD p (8 * s) 0 ≤ 2)) (kind : ℕ) (is-kind : kind ≡ pairKindAs negate (getD p (8 * s) 0)) where
+  module _ (bounds : (joinKind And ≤ getD p (partSize * s) 0) × (getD p (partSize * s) 0 ≤ joinKind Or)) {kind : ℕ} (is-kind : kind ≡ pairKindAs negate (getD p (partSize * s) 0)) where
     join : IsJoin p s (h .rule)
     join = is-join p s (h .rule) (h .stands) (bounds .0) (bounds .1)
 
@@ -239,16 +245,13 @@ module _ {p : List ℕ} {s : ℕ} {negate unknown : Bool} {kinds records : List 
     unfolding Fits
     join-fits = subst (Fits (h .columns) (h .levels)) (join .is) (h .fits)
 
-    pub pair-plain-asked : (length kinds ≡ 192) × ((k < 192) × ((kind < 256) × ((0 < 256) × (14 * k + 14 ≤ length records))))
+    pub pair-plain-asked : (length kinds ≡ mostEntries) × ((k < mostEntries) × ((kind < 256) × ((0 < 256) × (recordSize * k + recordSize ≤ length records))))
     pair-plain-asked = plain-asked join-room kind 0 (omega arith) (omega (arith, join-kind, pair-small (connectiveAs negate (join .connective)))) (omega arith)
 
-    pub join-few : s + 1 < 64
+    pub join-few : s + 1 < mostParts
     join-few = omega (arith, join-parts, parts-low (join .left), parts-low (join .right), h .within, h .few)
 
-    pub next-above : s + 1 ≤ getD p (8 * (s + 1) + 3) 0
-    next-above = omega (arith, join .next)
-
-    module _ {kinds1 records1 : List ℕ} (put : (kinds1 ≡ placed kinds k (kind ∷ [])) × (records1 ≡ placed records (14 * k) (plainRecord 0 0))) where
+    module _ {kinds1 records1 : List ℕ} (put : (kinds1 ≡ placed kinds k (kind ∷ [])) × (records1 ≡ placed records (recordSize * k) (plainRecord 0 0))) where
       put-pair : Plain k kind 0 kinds records kinds1 records1
       put-pair = record { kinds-are = put .0; records-are = put .1 }
 
@@ -256,43 +259,26 @@ module _ {p : List ℕ} {s : ℕ} {negate unknown : Bool} {kinds records : List 
       inner-room = room-plain join-room (omega arith) put-pair (k + 1) (entries leftCard + entries rightCard) (omega arith)
 
       pub left-ready : Writable p (s + 1) negate unknown kinds1 records1 (k + 1)
-      left-ready = record {
-        rule = join .left;
-        size = h .size;
-        stands = join .left-stands;
-        count = h .count;
-        few = h .few;
-        within = omega (arith, join-parts, h .within);
-        small = h .small;
-        columns = h .columns;
-        levels = h .levels;
-        deep = omega (arith, join-deep, h .deep);
-        fits = join-fits .0;
-        room = room-less inner-room (entries leftCard) (omega arith);
-      }
+      left-ready =
+          inner-ready (join .left) (h .levels) (join .left-stands) (omega (arith, join-parts)) (omega (arith, join-deep, h .deep)) (join-fits .0)
+          (room-less inner-room (entries leftCard) (omega arith))
 
-      module _ {kinds2 records2 : List ℕ} {middle : ℕ} (wa : WroteTo p (s + 1) negate unknown kinds1 records1 kinds2 records2 (k + 1) middle) where
+      module _ {kinds2 records2 : List ℕ} {middle next : ℕ} (is-next : next ≡ getD p (partSize * (s + 1) + partEnd) 0)
+          (wa : WroteTo p (s + 1) negate unknown kinds1 records1 kinds2 records2 (k + 1) middle) where
+        pub next-above : s + 1 ≤ next
+        next-above = omega (arith, is-next, join .next)
+
         left-wrote : Wrote (k + 1) leftCard kinds1 records1 kinds2 records2 middle
         unfolding left-ready
         left-wrote = wa left-ready
 
-        pub right-ready : Writable p (getD p (8 * (s + 1) + 3) 0) negate unknown kinds2 records2 middle
-        right-ready = record {
-          rule = join .right;
-          size = h .size;
-          stands = rw (join .next) (join .right-stands);
-          count = h .count;
-          few = h .few;
-          within = omega (arith, join .next, join-parts, h .within);
-          small = h .small;
-          columns = h .columns;
-          levels = h .levels;
-          deep = omega (arith, join-deep, h .deep);
-          fits = join-fits .1;
-          room = room-wrote inner-room left-wrote (omega arith) middle (entries rightCard) (omega (arith, left-wrote .next));
-        }
+        pub right-ready : Writable p next negate unknown kinds2 records2 middle
+        right-ready =
+            inner-ready (join .right) (h .levels) (rw (is-next ∙ join .next) (join .right-stands)) (omega (arith, is-next, join .next, join-parts))
+            (omega (arith, join-deep, h .deep)) (join-fits .1)
+            (room-wrote inner-room left-wrote (omega arith) middle (entries rightCard) (omega (arith, left-wrote .next)))
 
-        module _ {kinds3 records3 : List ℕ} {r : ℕ} (wb : WroteTo p (getD p (8 * (s + 1) + 3) 0) negate unknown kinds2 records2 kinds3 records3 middle r) where
+        module _ {kinds3 records3 : List ℕ} {r : ℕ} (wb : WroteTo p next negate unknown kinds2 records2 kinds3 records3 middle r) where
           right-wrote : Wrote middle rightCard kinds2 records2 kinds3 records3 r
           unfolding right-ready
           right-wrote = wb right-ready
@@ -301,10 +287,10 @@ module _ {p : List ℕ} {s : ℕ} {negate unknown : Bool} {kinds records : List 
           unfolding right-ready
           both-room = room-wrote (right-ready .room) right-wrote (omega arith) r 0 (omega (arith, right-wrote .next))
 
-          pub pair-end-asked : (r < 65536) × (14 * k + 2 ≤ length records3)
+          pub pair-end-asked : (r < 65536) × (recordSize * k + 2 ≤ length records3)
           pair-end-asked = end-asked both-room k (omega (arith, right-wrote .next, left-wrote .next))
 
-          pub pair-wrote : {records4 : List ℕ} → records4 ≡ placed records3 (14 * k) (bytes16 r) → Wrote k card kinds records kinds3 records4 r
+          pub pair-wrote : {records4 : List ℕ} → records4 ≡ placed records3 (recordSize * k) (bytes16 r) → Wrote k card kinds records kinds3 records4 r
           pair-wrote e =
               let low = join-room .kinds-fit in
               let long = join-room .records-fit in
@@ -312,18 +298,18 @@ module _ {p : List ℕ} {s : ℕ} {negate unknown : Bool} {kinds records : List 
 
   -- ---- EXISTS
 
-  module _ (seven : getD p (8 * s) 0 ≡ 7) (kind : ℕ) (is-kind : kind ≡ rowKindAs negate) where
+  module _ (is-exists-kind : getD p (partSize * s) 0 ≡ existsKind) {kind table : ℕ} (is-kind : kind ≡ rowKindAs negate) (is-table : table ≡ getD p (partSize * s + partTable) 0) where
     exists : IsExists p s (h .rule)
-    exists = is-exists p s (h .rule) (h .stands) seven
+    exists = is-exists p s (h .rule) (h .stands) is-exists-kind
 
     abbrev whereCard : Card
     whereCard = cardAs negate false (exists .inner)
 
-    exists-card : card ≡ RowEntry (quantifierOf negate) (getD p (8 * s + 2) 0) whereCard
+    exists-card : card ≡ RowEntry (quantifierOf negate) table whereCard
     exists-card =
         ap (cardAs negate unknown) (exists .is)
         ∙ card-exists negate unknown (exists .table) (exists .inner)
-        ∙ ap (λ (t : ℕ). RowEntry (quantifierOf negate) t whereCard) (sym (part-table (exists .here)))
+        ∙ ap (λ (t : ℕ). RowEntry (quantifierOf negate) t whereCard) (sym (is-table ∙ part-table (exists .here)))
 
     exists-room : Room kinds records k (1 + entries whereCard)
     unfolding entries
@@ -341,58 +327,49 @@ module _ {p : List ℕ} {s : ℕ} {negate unknown : Bool} {kinds records : List 
     unfolding Fits
     exists-fits = subst (Fits (h .columns) (h .levels)) (exists .is) (h .fits) .1
 
-    pub exists-plain-asked : (length kinds ≡ 192) × ((k < 192) × ((kind < 256) × ((getD p (8 * s + 2) 0 < 256) × (14 * k + 14 ≤ length records))))
-    exists-plain-asked = plain-asked exists-room kind (getD p (8 * s + 2) 0) (omega arith) (omega (arith, is-kind, row-small negate)) (part-small .table)
+    pub exists-plain-asked : (length kinds ≡ mostEntries) × ((k < mostEntries) × ((kind < 256) × ((table < 256) × (recordSize * k + recordSize ≤ length records))))
+    exists-plain-asked = plain-asked exists-room kind table (omega arith) (omega (arith, is-kind, row-small negate)) (omega (arith, is-table, part-small .table))
 
-    module _ {kinds1 records1 : List ℕ} (put : (kinds1 ≡ placed kinds k (kind ∷ [])) × (records1 ≡ placed records (14 * k) (plainRecord 0 (getD p (8 * s + 2) 0)))) where
-      put-exists : Plain k kind (getD p (8 * s + 2) 0) kinds records kinds1 records1
+    module _ {kinds1 records1 : List ℕ} (put : (kinds1 ≡ placed kinds k (kind ∷ [])) × (records1 ≡ placed records (recordSize * k) (plainRecord 0 table))) where
+      put-exists : Plain k kind table kinds records kinds1 records1
       put-exists = record { kinds-are = put .0; records-are = put .1 }
 
+      where-room : Room kinds1 records1 (k + 1) (entries whereCard)
+      where-room = room-plain exists-room (omega arith) put-exists (k + 1) (entries whereCard) (omega arith)
+
       pub exists-ready : Writable p (s + 1) negate false kinds1 records1 (k + 1)
-      exists-ready = record {
-        rule = exists .inner;
-        size = h .size;
-        stands = exists .inner-stands;
-        count = h .count;
-        few = h .few;
-        within = omega (arith, exists-parts, h .within);
-        small = h .small;
-        columns = h .columns;
-        levels = h .levels ++ (exists .table ∷ []);
-        deep = omega (arith, exists-deep, h .deep, length-append (h .levels) (exists .table ∷ []));
-        fits = exists-fits;
-        room = room-plain exists-room (omega arith) put-exists (k + 1) (entries whereCard) (omega arith);
-      }
+      exists-ready =
+          inner-ready (exists .inner) (h .levels ++ (exists .table ∷ [])) (exists .inner-stands) (omega (arith, exists-parts))
+          (omega (arith, exists-deep, h .deep, length-append (h .levels) (exists .table ∷ []))) exists-fits where-room
 
       module _ {kinds2 records2 : List ℕ} {r : ℕ} (w : WroteTo p (s + 1) negate false kinds1 records1 kinds2 records2 (k + 1) r) where
         where-wrote : Wrote (k + 1) whereCard kinds1 records1 kinds2 records2 r
         unfolding exists-ready
         where-wrote = w exists-ready
 
-        pub exists-end-asked : (r < 65536) × (14 * k + 2 ≤ length records2)
+        pub exists-end-asked : (r < 65536) × (recordSize * k + 2 ≤ length records2)
         exists-end-asked =
-            let room = room-plain exists-room (omega arith) put-exists (k + 1) (entries whereCard) (omega arith) in
-            end-asked (room-wrote room where-wrote (omega arith) r 0 (omega (arith, where-wrote .next))) k (omega (arith, where-wrote .next))
+            end-asked (room-wrote where-room where-wrote (omega arith) r 0 (omega (arith, where-wrote .next))) k (omega (arith, where-wrote .next))
 
-        pub exists-wrote : {records3 : List ℕ} → records3 ≡ placed records2 (14 * k) (bytes16 r) → Wrote k card kinds records kinds2 records3 r
+        pub exists-wrote : {records3 : List ℕ} → records3 ≡ placed records2 (recordSize * k) (bytes16 r) → Wrote k card kinds records kinds2 records3 r
         exists-wrote e =
             let low = exists-room .kinds-fit in
             let long = exists-room .records-fit in
             rw exists-card
-            (row-written (omega (arith, h .room .kinds-size)) (omega arith) put-exists (quantifierOf negate) (is-kind ∙ row-kind-is negate (getD p (8 * s + 2) 0)) refl where-wrote e)
+            (row-written (omega (arith, h .room .kinds-size)) (omega arith) put-exists (quantifierOf negate) (is-kind ∙ row-kind-is negate table) refl where-wrote e)
 
   -- ---- a list
 
   -- the code's test
   abbrev every : Bool
-  every = not (Bool·beq (eqb (getD p (8 * s) 0) 9) negate)
+  every = not (Bool·beq (eqb (getD p (partSize * s) 0) (listKind All)) negate)
 
-  module _ (eight : 8 ≤ getD p (8 * s) 0) (row : ℕ) (is-row : row ≡ rowKindAs every) where
+  module _ (is-list : listKind Some ≤ getD p (partSize * s) 0) {row table : ℕ} (is-row : row ≡ rowKindAs every) (is-table : table ≡ getD p (partSize * s + partTable) 0) where
     listed : IsListed p s (h .rule)
-    listed = is-listed p s (h .rule) (h .stands) eight
+    listed = is-listed p s (h .rule) (h .stands) is-list
 
     every-is : every ≡ everyRow (listed .quantifier) negate
-    every-is = ap (λ (n : ℕ). not (Bool·beq (eqb n 9) negate)) (listed .kind-is) ∙ every-row (listed .quantifier) negate
+    every-is = ap (λ (n : ℕ). not (Bool·beq (eqb n (listKind All)) negate)) (listed .kind-is) ∙ every-row (listed .quantifier) negate
 
     abbrev innerCard : Card
     innerCard = cardAs every false (listed .inner)
@@ -403,11 +380,11 @@ module _ {p : List ℕ} {s : ℕ} {negate unknown : Bool} {kinds records : List 
     abbrev pairCard : Card
     pairCard = PairEntry (listConnective every) innerCard lastCard
 
-    list-card : card ≡ RowEntry (quantifierOf every) (getD p (8 * s + 2) 0) pairCard
+    list-card : card ≡ RowEntry (quantifierOf every) table pairCard
     list-card =
         ap (cardAs negate unknown) (listed .is)
         ∙ card-listed negate unknown (listed .quantifier) (listed .op) (listed .left) (listed .selected) (listed .table) (listed .inner)
-        ∙ ap₂ (λ (e : Bool) (t : ℕ). RowEntry (quantifierOf e) t (PairEntry (listConnective e) (cardAs e false (listed .inner)) lastCard)) (sym every-is) (sym (part-table (listed .here)))
+        ∙ ap₂ (λ (e : Bool) (t : ℕ). RowEntry (quantifierOf e) t (PairEntry (listConnective e) (cardAs e false (listed .inner)) lastCard)) (sym every-is) (sym (is-table ∙ part-table (listed .here)))
 
     list-room : Room kinds records k (1 + (1 + entries innerCard + 1))
     unfolding entries
@@ -431,12 +408,12 @@ module _ {p : List ℕ} {s : ℕ} {negate unknown : Bool} {kinds records : List 
     inner-levels : length innerLevels + fromsDeep (listed .inner) ≤ 4
     inner-levels = omega (arith, list-deep, h .deep, length-append (h .levels) (listed .table ∷ []))
 
-    pub list-plain-asked : (length kinds ≡ 192) × ((k < 192) × ((row < 256) × ((getD p (8 * s + 2) 0 < 256) × (14 * k + 14 ≤ length records))))
-    list-plain-asked = plain-asked list-room row (getD p (8 * s + 2) 0) (omega arith) (omega (arith, is-row, row-small every)) (part-small .table)
+    pub list-plain-asked : (length kinds ≡ mostEntries) × ((k < mostEntries) × ((row < 256) × ((table < 256) × (recordSize * k + recordSize ≤ length records))))
+    list-plain-asked = plain-asked list-room row table (omega arith) (omega (arith, is-row, row-small every)) (omega (arith, is-table, part-small .table))
 
-    module _ {kinds1 records1 : List ℕ} (put : (kinds1 ≡ placed kinds k (row ∷ [])) × (records1 ≡ placed records (14 * k) (plainRecord 0 (getD p (8 * s + 2) 0))))
-        (kind : ℕ) (is-kind : kind ≡ pairKindAs every 1) where
-      put-row : Plain k row (getD p (8 * s + 2) 0) kinds records kinds1 records1
+    module _ {kinds1 records1 : List ℕ} (put : (kinds1 ≡ placed kinds k (row ∷ [])) × (records1 ≡ placed records (recordSize * k) (plainRecord 0 table)))
+        {kind : ℕ} (is-kind : kind ≡ pairKindAs every (joinKind And)) where
+      put-row : Plain k row table kinds records kinds1 records1
       put-row = record { kinds-are = put .0; records-are = put .1 }
 
       row-room : Room kinds1 records1 (k + 1) (1 + entries innerCard + 1)
@@ -445,10 +422,10 @@ module _ {p : List ℕ} {s : ℕ} {negate unknown : Bool} {kinds records : List 
       list-kind : kind ≡ cardKind (PairHead (listConnective every))
       list-kind = is-kind ∙ list-kind-is every
 
-      pub list-plain-asked-2 : (length kinds1 ≡ 192) × ((k + 1 < 192) × ((kind < 256) × ((0 < 256) × (14 * (k + 1) + 14 ≤ length records1))))
+      pub list-plain-asked-2 : (length kinds1 ≡ mostEntries) × ((k + 1 < mostEntries) × ((kind < 256) × ((0 < 256) × (recordSize * (k + 1) + recordSize ≤ length records1))))
       list-plain-asked-2 = plain-asked row-room kind 0 (omega arith) (omega (arith, list-kind, pair-small (listConnective every))) (omega arith)
 
-      module _ {kinds2 records2 : List ℕ} (put2 : (kinds2 ≡ placed kinds1 (k + 1) (kind ∷ [])) × (records2 ≡ placed records1 (14 * (k + 1)) (plainRecord 0 0))) where
+      module _ {kinds2 records2 : List ℕ} (put2 : (kinds2 ≡ placed kinds1 (k + 1) (kind ∷ [])) × (records2 ≡ placed records1 (recordSize * (k + 1)) (plainRecord 0 0))) where
         put-both : Plain (k + 1) kind 0 kinds1 records1 kinds2 records2
         put-both = record { kinds-are = put2 .0; records-are = put2 .1 }
 
@@ -456,20 +433,9 @@ module _ {p : List ℕ} {s : ℕ} {negate unknown : Bool} {kinds records : List 
         list-inner-room = room-plain row-room (omega arith) put-both (k + 2) (entries innerCard + 1) (omega arith)
 
         pub list-ready : Writable p (s + 1) every false kinds2 records2 (k + 2)
-        list-ready = record {
-          rule = listed .inner;
-          size = h .size;
-          stands = listed .inner-stands;
-          count = h .count;
-          few = h .few;
-          within = omega (arith, list-parts, h .within);
-          small = h .small;
-          columns = h .columns;
-          levels = innerLevels;
-          deep = inner-levels;
-          fits = list-fits .2;
-          room = room-less list-inner-room (entries innerCard) (omega arith);
-        }
+        list-ready =
+            inner-ready (listed .inner) innerLevels (listed .inner-stands) (omega (arith, list-parts)) inner-levels (list-fits .2)
+            (room-less list-inner-room (entries innerCard) (omega arith))
 
         module _ {kinds3 records3 : List ℕ} {last : ℕ} (w : WroteTo p (s + 1) every false kinds2 records2 kinds3 records3 (k + 2) last) where
           inner-wrote : Wrote (k + 2) innerCard kinds2 records2 kinds3 records3 last
@@ -482,16 +448,16 @@ module _ {p : List ℕ} {s : ℕ} {negate unknown : Bool} {kinds records : List 
           pub list-compare-ready : CompareReady p s kinds3 records3 last
           list-compare-ready = let x = listed in record {
             size = h .size;
-            few = part-few;
+            few = h .part-few;
             small = part-small;
             room = last-room;
             comparison = x .op;
             left = x .left;
             right = x .selected;
             comparison-is = part-comparison (x .here);
-            left-is = value-in p (8 * s + 4) (8 * s + 5) (h .columns) (h .levels) (x .left) levels-few (list-fits .0) (omega arith) (part-left-tag (x .here)) (part-left-number (x .here));
+            left-is = value-in p (partSize * s + partLeftTag) (partSize * s + partLeftNumber) (h .columns) (h .levels) (x .left) levels-few (list-fits .0) (omega arith) (part-left-tag (x .here)) (part-left-number (x .here));
             right-is =
-                value-in p (8 * s + 6) (8 * s + 7) (h .columns) innerLevels (x .selected) (omega (arith, inner-levels)) (list-fits .1) (omega arith)
+                value-in p (partSize * s + partRightTag) (partSize * s + partRightNumber) (h .columns) innerLevels (x .selected) (omega (arith, inner-levels)) (list-fits .1) (omega arith)
                 (part-right-tag (x .here))
                 (part-right-number (x .here));
           }
@@ -505,27 +471,27 @@ module _ {p : List ℕ} {s : ℕ} {negate unknown : Bool} {kinds records : List 
             unfolding entries
             last-next = last-wrote .next
 
-            pub list-end-asked : (r < 65536) × (14 * (k + 1) + 2 ≤ length records4)
+            pub list-end-asked : (r < 65536) × (recordSize * (k + 1) + 2 ≤ length records4)
             unfolding entries
             list-end-asked = end-asked (room-wrote last-room last-wrote (omega arith) r 0 (omega (arith, last-next))) (k + 1) (omega (arith, last-next, inner-wrote .next))
 
-            module _ {records5 : List ℕ} (end : records5 ≡ placed records4 (14 * (k + 1)) (bytes16 r)) where
+            module _ {records5 : List ℕ} (end : records5 ≡ placed records4 (recordSize * (k + 1)) (bytes16 r)) where
               pair-done : Wrote (k + 1) pairCard kinds1 records1 kinds4 records5 r
               pair-done =
                   let low = row-room .kinds-fit in
                   let long = row-room .records-fit in
                   pair-written (omega (arith, row-room .kinds-size)) (omega arith) put-both (listConnective every) refl list-kind (omega arith) inner-wrote last-wrote end
 
-              pub list-end-asked-2 : (r < 65536) × (14 * k + 2 ≤ length records5)
+              pub list-end-asked-2 : (r < 65536) × (recordSize * k + 2 ≤ length records5)
               unfolding entries
               list-end-asked-2 = end-asked (room-wrote row-room pair-done (omega arith) r 0 (omega (arith, pair-done .next))) k (omega (arith, pair-done .next))
 
-              pub list-wrote : {records6 : List ℕ} → records6 ≡ placed records5 (14 * k) (bytes16 r) → Wrote k card kinds records kinds4 records6 r
+              pub list-wrote : {records6 : List ℕ} → records6 ≡ placed records5 (recordSize * k) (bytes16 r) → Wrote k card kinds records kinds4 records6 r
               list-wrote e =
                   let low = list-room .kinds-fit in
                   let long = list-room .records-fit in
                   rw list-card
-                  (row-written (omega (arith, h .room .kinds-size)) (omega arith) put-row (quantifierOf every) (is-row ∙ row-kind-is every (getD p (8 * s + 2) 0)) refl pair-done e)
+                  (row-written (omega (arith, h .room .kinds-size)) (omega arith) put-row (quantifierOf every) (is-row ∙ row-kind-is every table) refl pair-done e)
 
 -- ---- under NOTs
 
@@ -533,7 +499,7 @@ module _ {p : List ℕ} {s : ℕ} {negate unknown : Bool} where
   pub under-none : StandsUnder p s negate unknown (record { part = s; negate = negate; unknown = unknown })
   under-none = record { behind = omega arith; ready = λ h. h; wrote = λ f. f }
 
-  pub under-more : {t : ℕ} {a b : Bool} → StandsUnder p s negate unknown (record { part = t; negate = a; unknown = b }) → getD p (8 * t) 0 ≡ 3
+  pub under-more : {t : ℕ} {a b : Bool} → StandsUnder p s negate unknown (record { part = t; negate = a; unknown = b }) → getD p (partSize * t) 0 ≡ notKind
       → StandsUnder p s negate unknown (record { part = t + 1; negate = not a; unknown = not b })
   under-more u kind =
       record {

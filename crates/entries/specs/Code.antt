@@ -7,14 +7,14 @@ use Prim.Native.Nat.{ℕ, _+_, _*_, _<_, _≤_}
 use lib.ListN.{length, getD}
 use Rattle.tables.specs.Lists.{placed}
 use Rattle.tables.specs.Bytes.{bytes32}
-use Rattle.tables.specs.Values.{Value, Comparison, comparisonNumber}
+use Rattle.tables.specs.Values.{mostLevels, Value, Comparison, comparisonNumber}
 use Rattle.card.specs.Card.{Interpretation, AsNo, AsYes, Leaf, CompareLeaf, BlankLeaf, NotBlankLeaf, Card, LeafEntry, entries}
 use Rattle.card.specs.Layout.{recordSize, valueBytes, kindBytes, recordsFrom}
 use Rattle.card.specs.Sound.{mostEntries}
 use Rattle.rule.specs.Condition.{Rule, parts, fromsDeep}
 use Rattle.rule.specs.Names.{mostParts, Fits}
 use Rattle.rule.specs.Parts.{nullKind, notNullKind}
-use Rattle.names.specs.Code.{partSize, partsSize}
+use Rattle.names.specs.Code.{partSize, partsSize, partComparison, partLeftTag, partRightTag}
 use Rattle.translation.specs.Translation.{otherLeaf, negated, cardOf}
 use Rattle.parser.specs.Parts.{Stands, SmallPart, SmallParts}
 use Rattle.records.specs.Code.{byteNumber}
@@ -61,9 +61,9 @@ pub record CompareReady (p : List ℕ) (s : ℕ) (kinds records : List ℕ) (k :
   pub comparison : Comparison
   pub left : Value
   pub right : Value
-  pub comparison-is : getD p (partSize * s + 1) 0 ≡ comparisonNumber comparison
-  pub left-is : valueBytesIn p (partSize * s + 4) ≡ valueBytes left
-  pub right-is : valueBytesIn p (partSize * s + 6) ≡ valueBytes right
+  pub comparison-is : getD p (partSize * s + partComparison) 0 ≡ comparisonNumber comparison
+  pub left-is : valueBytesIn p (partSize * s + partLeftTag) ≡ valueBytes left
+  pub right-is : valueBytesIn p (partSize * s + partRightTag) ≡ valueBytes right
 
 abbrev pub ComparedTo : (p : List ℕ) (s : ℕ) (negate unknown : Bool) (kinds records kinds′ records′ : List ℕ) (k : ℕ) → ℕ → Type 0
 ComparedTo p s negate unknown kinds records kinds′ records′ k r =
@@ -84,7 +84,7 @@ pub record NullReady (p : List ℕ) (s : ℕ) (kinds records : List ℕ) (k : �
   pub blank : Bool
   pub left : Value
   pub kind-is : getD p (partSize * s) 0 ≡ cond blank nullKind notNullKind
-  pub left-is : valueBytesIn p (partSize * s + 4) ≡ valueBytes left
+  pub left-is : valueBytesIn p (partSize * s + partLeftTag) ≡ valueBytes left
 
 abbrev pub NulledTo : (p : List ℕ) (s : ℕ) (negate : Bool) (kinds records kinds′ records′ : List ℕ) (k : ℕ) → ℕ → Type 0
 NulledTo p s negate kinds records kinds′ records′ k r =
@@ -98,10 +98,12 @@ pub record Writable (p : List ℕ) (s : ℕ) (negate unknown : Bool) (kinds reco
   pub count : ℕ
   pub few : count ≤ mostParts
   pub within : s + parts rule ≤ count
+  pub part-few : s < mostParts
+  pub entry-few : k < mostEntries
   pub small : SmallParts p count
   pub columns : List ℕ
   pub levels : List ℕ
-  pub deep : length levels + fromsDeep rule ≤ 4
+  pub deep : length levels + fromsDeep rule ≤ mostLevels
   pub fits : Fits columns levels rule
   pub room : Room kinds records k (entries (cardAs negate unknown rule))
 

@@ -3,9 +3,10 @@
 // Short names: p, the parts as numbers; s, the number of a part; k, the number of an entry; unknown, what unknown counts as: no (false-interpreted) or yes;
 // negate, whether the part is negated.
 ghost use mathlib.Core.Path.{_≡_};
-ghost use Prim.Native.Nat.{_*_, _≤_};
+ghost use Prim.Native.Nat.{_+_, _*_, _<_, _≤_};
 ghost use lib.ListN.{length, getD};
 ghost use Rattle.tables.specs.Values.{And, Or, Some};
+ghost use Rattle.rule.specs.Names.{mostParts};
 ghost use Rattle.rule.specs.Parts.{joinKind, listKind, existsKind};
 ghost use Rattle.names.specs.Code.{partSize, partsSize};
 ghost use Rattle.entries.specs.Code.{CompareReady, ComparedTo, NullReady, NulledTo, StandsUnder, Writable, WroteTo};
@@ -31,6 +32,14 @@ use rule::NOT_PART;
 use rule::NULL_PART;
 use rule::OR_PART;
 
+// Number i of part s.
+fn field(p: &[usize; PART_NUMBERS], s: usize, i: usize) -> usize
+    requires { ⌜ length (now p) ≡ partsSize ⌝ ∗ ⌜ s < mostParts ⌝ ∗ ⌜ i < partSize ⌝ }
+    ensures { λ r. ⌜ r ≡ getD (now (p .entry)) (partSize * s + i) 0 ⌝ }
+{
+    p[PART_FIELDS * s + i]
+}
+
 // The comparison of part s, a list's too, as entry k.
 fn write_comparison(
     p: &[usize; PART_NUMBERS],
@@ -46,11 +55,11 @@ fn write_comparison(
 {
     let leaf = LeafNumbers {
         kind: records::compare_kind(negate, unknown),
-        comparison: records::comparison_as(p[PART_FIELDS * s + PART_COMPARISON], negate),
-        left_tag: p[PART_FIELDS * s + PART_LEFT_TAG],
-        left_number: p[PART_FIELDS * s + PART_LEFT_NUMBER],
-        right_tag: p[PART_FIELDS * s + PART_RIGHT_TAG],
-        right_number: p[PART_FIELDS * s + PART_RIGHT_NUMBER],
+        comparison: records::comparison_as(field(p, s, PART_COMPARISON), negate),
+        left_tag: field(p, s, PART_LEFT_TAG),
+        left_number: field(p, s, PART_LEFT_NUMBER),
+        right_tag: field(p, s, PART_RIGHT_TAG),
+        right_number: field(p, s, PART_RIGHT_NUMBER),
     };
     records::put_leaf(kinds, records, k, leaf);
     k + 1
@@ -71,8 +80,8 @@ fn write_null(
     let leaf = LeafNumbers {
         kind: records::null_kind(p[PART_FIELDS * s], negate),
         comparison: 0,
-        left_tag: p[PART_FIELDS * s + PART_LEFT_TAG],
-        left_number: p[PART_FIELDS * s + PART_LEFT_NUMBER],
+        left_tag: field(p, s, PART_LEFT_TAG),
+        left_number: field(p, s, PART_LEFT_NUMBER),
         right_tag: 0,
         right_number: 0,
     };
@@ -164,7 +173,7 @@ fn write_pair(
     ensures { λ r. ⌜ WroteTo (now (p .entry)) s negate unknown (now (kinds .entry)) (now (records .entry)) (now (kinds .exit)) (now (records .exit)) k r ⌝ }
 {
     let kind = records::pair_kind(p[PART_FIELDS * s], negate);
-    let next = p[PART_FIELDS * (s + 1) + PART_END];
+    let next = field(p, s + 1, PART_END);
     records::put_plain(kinds, records, k, kind, 0);
     let middle = write_part(p, s + 1, negate, unknown, kinds, records, k + 1);
     let end = write_part(p, next, negate, unknown, kinds, records, middle);
@@ -186,7 +195,7 @@ fn write_exists(
     ensures { λ r. ⌜ WroteTo (now (p .entry)) s negate unknown (now (kinds .entry)) (now (records .entry)) (now (kinds .exit)) (now (records .exit)) k r ⌝ }
 {
     let kind = records::row_kind(negate);
-    let table = p[PART_FIELDS * s + PART_TABLE];
+    let table = field(p, s, PART_TABLE);
     records::put_plain(kinds, records, k, kind, table);
     let end = write_part(p, s + 1, negate, false, kinds, records, k + 1);
     records::put16(records, RECORD_SIZE * k, end);
@@ -208,7 +217,7 @@ fn write_list(
     ensures { λ r. ⌜ WroteTo (now (p .entry)) s negate unknown (now (kinds .entry)) (now (records .entry)) (now (kinds .exit)) (now (records .exit)) k r ⌝ }
 {
     let every = (p[PART_FIELDS * s] == ALL_PART) != negate;
-    let table = p[PART_FIELDS * s + PART_TABLE];
+    let table = field(p, s, PART_TABLE);
     records::put_plain(kinds, records, k, records::row_kind(every), table);
     records::put_plain(
         kinds,

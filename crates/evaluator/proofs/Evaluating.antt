@@ -2,13 +2,13 @@
 use mathlib.Core.Path.{_≡_, refl, sym, ap, ap₂, subst, _∙_}
 use mathlib.Core.Bool.{Bool, true, false, cond}
 use mathlib.Core.List.{List, [], _∷_, _++_, map}
-use Prim.Native.Nat.{ℕ, suc, _+_, _-_, _*_, _<_, _≤_, min, max}
+use Prim.Native.Nat.{ℕ, suc, _+_, _-_, _*_, _<_, _≤_}
 use native.Mathlib.Numerals.{add-one}
 use native.Mathlib.Omega.{arith}
 use lib.ListN.{length, getD, set}
-use Rattle.tables.specs.Lists.{tabulate, any, keep}
+use Rattle.tables.specs.Lists.{tabulate}
 use Rattle.tables.specs.Tables.{mostTables, mostCells, Row, columnsOf, tablesOf, rowsOf}
-use Rattle.tables.specs.Values.{comparisonOf, Connective, And, Or, Quantifier, Some, All, Env, _▸_, cellOf}
+use Rattle.tables.specs.Values.{mostLevels, comparisonOf, Connective, And, Or, Quantifier, Some, All, Env, _▸_, cellOf}
 use Rattle.tables.proofs.Values.{comparison-back}
 use Rattle.tables.proofs.Tabulated.{tabulate-map}
 use Rattle.cells.specs.Code.{seenCell, placeIn}
@@ -18,105 +18,74 @@ use Rattle.values.specs.Code.{rowFrom, Readable, ValueReady, Sees}
 use Rattle.values.proofs.Rows.{TableAt}
 use Rattle.values.proofs.Ranging.{NextRow, next-none, next-more, table-bounds, table-here, row-deep, row-room as room-at, row-readable}
 use Rattle.rule.specs.Condition.{Atom, Join, Not, Exists, Listed, Rule, parts, fromsDeep}
-use Rattle.rule.specs.Names.{ValueFits, TestFits, TableFits, Fits}
-use Rattle.rule.specs.Meaning.{Truth, False, truth, isTrue, compare3, join3, over3, meaning, truthNumber}
-use Rattle.rule.specs.Parts.{joinKind, listKind}
+use Rattle.rule.specs.Names.{mostParts, ValueFits, TestFits, TableFits, Fits}
+use Rattle.rule.specs.Meaning.{Truth, False, True, truth, isTrue, compare3, over3, meaning, truthNumber}
+use Rattle.rule.specs.Parts.{joinKind, notKind, compareKind, notNullKind, existsKind, listKind}
+use Rattle.names.specs.Code.{partSize, partComparison, partTable, partEnd, partLeftTag, partLeftNumber, partRightTag, partRightNumber}
 use Rattle.parser.specs.Parts.{Stands}
 use Rattle.tables.proofs.Rows.{any-kept}
 use Rattle.parser.proofs.Parts.{parts-low, kind-low, kind-high, part-comparison, part-table, part-left-tag, part-left-number, part-right-tag, part-right-number, IsTest, IsJoin, IsNot, IsExists, IsListed, is-test, is-join, is-not, is-exists, is-listed}
-use Rattle.evaluator.specs.Code.{unlessUnknown, emptyOver, OverNone, TestReady, TestEvaluated, Evaluable, Evaluates, RowReady, RowEvaluated}
-use Rattle.evaluator.proofs.Truths.{rank-high, and-rank, or-rank, not-rank, and-stop, or-stop, is-kept, not-kept, emptyTruth, empty-rank, over-kept, exists-some, over-more, over-stop, over-on, quantifierBy, none-rank, none-open, more-open, none-of, none-is}
+use Rattle.evaluator.specs.Code.{decidedBy, taken, Decides, unlessUnknown, emptyTruth, emptyOver, quantifierOf, OverNone, TestReady, TestEvaluated, Evaluable, Evaluates, RowReady, RowEvaluated}
+use Rattle.evaluator.proofs.Truths.{rank-high, not-rank, decidesOf, join-rank, left-stop, is-kept, not-kept, overRows, over-none, over-kept, exists-some, over-more, over-stop, over-on, none-open, more-open, quantifier-back, none-decides}
 use Rattle.evaluator.proofs.Testing.{value-ready, value-seen}
 
--- ---- what a connective takes of two values, and what decides for both
+-- ---- connectives, by their kinds
 
-abbrev pub taken : Connective → ℕ → ℕ → ℕ
-taken And a b = min a b
-taken Or a b = max a b
-
-abbrev pub decides : Connective → ℕ
-decides And = 0
-decides Or = 2
-
-join-rank : (j : Connective) (a b : Truth) → taken j (truthNumber a) (truthNumber b) ≡ truthNumber (join3 j a b)
-join-rank And a b = and-rank a b
-join-rank Or a b = or-rank a b
-
-join-stop : (j : Connective) (a b : Truth) → truthNumber a ≡ decides j → decides j ≡ truthNumber (join3 j a b)
-join-stop And a b e = and-stop a b e
-join-stop Or a b e = or-stop a b e
-
-same-connective : (i j : Connective) → joinKind i ≡ joinKind j → i ≡ j
-same-connective And And e = refl
-same-connective And Or e = absurd (omega arith)
-same-connective Or And e = absurd (omega arith)
-same-connective Or Or e = refl
-
-join-kinds : (j : Connective) → (1 ≤ joinKind j) × (joinKind j ≤ 2)
-join-kinds And = (omega arith, omega arith)
-join-kinds Or = (omega arith, omega arith)
-
-same-quantifier : (i j : Quantifier) → listKind i ≡ listKind j → i ≡ j
-same-quantifier Some Some e = refl
-same-quantifier Some All e = absurd (omega arith)
-same-quantifier All Some e = absurd (omega arith)
-same-quantifier All All e = refl
-
-list-kind-low : (q : Quantifier) → 8 ≤ listKind q
-list-kind-low Some = omega arith
-list-kind-low All = omega arith
+pub decides-join : {kind : ℕ} (j : Connective) → kind ≡ joinKind j → Decides kind (decidesOf j)
+decides-join And e = record { low = omega arith; high = omega arith; decides-is = ap decidedBy (sym e) }
+decides-join Or e = record { low = omega arith; high = omega arith; decides-is = ap decidedBy (sym e) }
 
 -- ---- rows
 
--- what EXISTS or a list makes of the row from cell k on; a row that a list does not retain counts as the value over no rows
-unfoldable pub rowValue : List ℕ → Env → Rule → ℕ → ℕ → Truth
-rowValue file env (Atom x) k columns = False
-rowValue file env (Join j a b) k columns = False
-rowValue file env (Not a) k columns = False
-rowValue file env (Exists t w) k columns = truth (isTrue (meaning (tablesOf file) (env ▸ rowFrom file k columns) w))
-rowValue file env (Listed q op l s t w) k columns =
-    cond (isTrue (meaning (tablesOf file) (env ▸ rowFrom file k columns) w))
-    (compare3 op (cellOf env l) (cellOf (env ▸ rowFrom file k columns) s))
-    (emptyTruth q)
+-- what EXISTS or a list makes of a row; one that a list does not retain counts as the value over no rows
+unfoldable pub rowValue : List ℕ → Env → Rule → Row → Truth
+rowValue file env (Atom x) row = False
+rowValue file env (Join j a b) row = False
+rowValue file env (Not a) row = False
+rowValue file env (Exists t w) row = truth (isTrue (meaning (tablesOf file) (env ▸ row) w))
+rowValue file env (Listed q op l s t w) row =
+    cond (isTrue (meaning (tablesOf file) (env ▸ row) w)) (compare3 op (cellOf env l) (cellOf (env ▸ row) s)) (emptyTruth q)
+
+-- row k of the table at a place
+abbrev rowOf : List ℕ → Place → ℕ → Row
+rowOf file at k = rowFrom file (at .first + k * at .columns) (at .columns)
 
 -- the first r rows of the table at a place have passed and none decided; value is what they come to
-pub record RowsPassed (p g file w : List ℕ) (s depth empty : ℕ) (at : Place) (r first value : ℕ) (v : List ℕ) : Type 0 where
+pub record RowsPassed (p g file w : List ℕ) (s depth : ℕ) (q : Quantifier) (at : Place) (r first value : ℕ) (v : List ℕ) : Type 0 where
   pub within : r ≤ at .rows
   pub next : NextRow w depth (at .first) (at .columns) r first v
-  pub undecided : value ≡ 2 - empty → ⊥
+  pub undecided : value ≡ decidesOf (overRows q) → ⊥
   pub value-is : (h : Evaluable p g file w s depth)
-      → value ≡ truthNumber (over3 (quantifierBy empty) (tabulate r (λ k. rowValue file (h .env) (h .rule) (at .first + k * at .columns) (at .columns))))
+      → value ≡ truthNumber (over3 q (tabulate r (λ k. rowValue file (h .env) (h .rule) (rowOf file at k))))
 
-module _ (p g file w : List ℕ) (s depth empty : ℕ) (at : Place) (is : empty ≡ emptyOver (quantifierBy empty)) where
-  pub passed-none : length w ≡ 4 → RowsPassed p g file w s depth empty at 0 (at .first) empty w
-  passed-none long =
+module _ (p g file w : List ℕ) (s depth : ℕ) (q : Quantifier) (at : Place) where
+  pub passed-none : {empty : ℕ} → empty ≡ emptyOver q → length w ≡ mostLevels → RowsPassed p g file w s depth q at 0 (at .first) empty w
+  passed-none is long =
       record {
         within = omega arith;
         next = next-none w depth (at .first) (at .columns) long;
-        undecided = none-open (quantifierBy empty) empty is;
-        value-is = λ h. is ∙ none-rank (quantifierBy empty);
+        undecided = λ z. none-open q (sym is ∙ z);
+        value-is = λ h. is ∙ ap truthNumber (sym (over-none q));
       }
 
-  module _ {r first value : ℕ} {v : List ℕ} (passed : RowsPassed p g file w s depth empty at r first value v) (below : r < at .rows)
-      (row : ℕ) (undecides : row ≡ 2 - empty → ⊥) (row-is : (h : Evaluable p g file w s depth) → row ≡ truthNumber (rowValue file (h .env) (h .rule) first (at .columns))) where
+  module _ {r first value : ℕ} {v : List ℕ} (passed : RowsPassed p g file w s depth q at r first value v) (below : r < at .rows)
+      (row : ℕ) (undecides : row ≡ decidesOf (overRows q) → ⊥) (row-is : (h : Evaluable p g file w s depth) → row ≡ truthNumber (rowValue file (h .env) (h .rule) (rowFrom file first (at .columns)))) where
     more-value : (h : Evaluable p g file w s depth)
-        → unlessUnknown row value ≡ truthNumber (over3 (quantifierBy empty) (tabulate (suc r) (λ k. rowValue file (h .env) (h .rule) (at .first + k * at .columns) (at .columns))))
+        → unlessUnknown row value ≡ truthNumber (over3 q (tabulate (suc r) (λ k. rowValue file (h .env) (h .rule) (rowOf file at k))))
     more-value h =
-        let q = quantifierBy empty in
-        let f : ℕ → Truth = λ k. rowValue file (h .env) (h .rule) (at .first + k * at .columns) (at .columns) in
-        let next : row ≡ truthNumber (f r) = row-is h ∙ ap (λ (k : ℕ). truthNumber (rowValue file (h .env) (h .rule) k (at .columns))) (passed .next .first-is) in
+        let f : ℕ → Truth = λ k. rowValue file (h .env) (h .rule) (rowOf file at k) in
+        let next : row ≡ truthNumber (f r) = row-is h ∙ ap (λ (k : ℕ). truthNumber (rowValue file (h .env) (h .rule) (rowFrom file k (at .columns)))) (passed .next .first-is) in
         let so-far = passed .value-is h in
-        let end : 2 - emptyOver q ≡ 2 - empty = ap (2 -_) (sym is) in
         ap₂ unlessUnknown next so-far
-        ∙ over-on q (over3 q (tabulate r f)) (f r) (λ e. passed .undecided (so-far ∙ e ∙ end)) (λ e. undecides (next ∙ e ∙ end))
+        ∙ over-on q (over3 q (tabulate r f)) (f r) (λ e. passed .undecided (so-far ∙ e)) (λ e. undecides (next ∙ e))
         ∙ ap truthNumber (sym (over-more q r f))
 
-    pub passed-more : (now : ℕ) → now ≡ unlessUnknown row value → RowsPassed p g file w s depth empty at (r + 1) (first + at .columns) now (set v depth first)
+    pub passed-more : (now : ℕ) → now ≡ unlessUnknown row value → RowsPassed p g file w s depth q at (r + 1) (first + at .columns) now (set v depth first)
     passed-more now e =
         record {
           within = omega arith;
           next = next-more (passed .next);
-          undecided = λ z. more-open (quantifierBy empty) empty row value is (passed .undecided) (sym e ∙ z);
+          undecided = λ z. more-open q row value (passed .undecided) (sym e ∙ z);
           value-is = λ h. rw (add-one r) (e ∙ more-value h);
         }
 
@@ -127,7 +96,17 @@ cond-rank false a d empty e = e
 -- ---- a part with its inner parts, by its kind
 
 module _ {p g file w : List ℕ} {s depth : ℕ} (h : Evaluable p g file w s depth) where
-  pub start : s < 64
+  abbrev kindHere : ℕ
+  kindHere = getD p (partSize * s) 0
+
+  abbrev NotKind : ℕ → Type 0
+  NotKind n = kindHere ≡ n → ⊥
+
+  -- v is the rule's value
+  abbrev Means : ℕ → Type 0
+  Means v = v ≡ truthNumber (meaning (tablesOf file) (h .env) (h .rule))
+
+  pub start : s < mostParts
   start = omega (arith, h .few, parts-low (h .rule))
 
   -- what is known of the rule, said of what it is
@@ -135,17 +114,17 @@ module _ {p g file w : List ℕ} {s depth : ℕ} (h : Evaluable p g file w s dep
     fits-as : Fits (columnsOf file) (h .levels) r
     fits-as = subst (Fits (columnsOf file) (h .levels)) is (h .fits)
 
-    few-as : s + parts r ≤ 64
-    few-as = subst (λ r. s + parts r ≤ 64) is (h .few)
+    few-as : s + parts r ≤ mostParts
+    few-as = subst (λ r. s + parts r ≤ mostParts) is (h .few)
 
-    room-as : depth + fromsDeep r ≤ 4
-    room-as = subst (λ r. depth + fromsDeep r ≤ 4) is (h .room)
+    room-as : depth + fromsDeep r ≤ mostLevels
+    room-as = subst (λ r. depth + fromsDeep r ≤ mostLevels) is (h .room)
 
     means-as : meaning (tablesOf file) (h .env) r ≡ meaning (tablesOf file) (h .env) (h .rule)
     means-as = ap (meaning (tablesOf file) (h .env)) (sym is)
 
   -- a rule under the same levels
-  inner-as : (k : ℕ) (r : Rule) → k + parts r ≤ 64 → Stands p k r → depth + fromsDeep r ≤ 4 → Fits (columnsOf file) (h .levels) r → Evaluable p g file w k depth
+  inner-as : (k : ℕ) (r : Rule) → k + parts r ≤ mostParts → Stands p k r → depth + fromsDeep r ≤ mostLevels → Fits (columnsOf file) (h .levels) r → Evaluable p g file w k depth
   inner-as k r few stands room fits =
       record {
         levels = h .levels;
@@ -163,14 +142,14 @@ module _ {p g file w : List ℕ} {s depth : ℕ} (h : Evaluable p g file w s dep
   -- ---- a test
 
   -- what has no other kind is one
-  pub test-kinds : (((((Unit {0} × (getD p (8 * s) 0 ≡ 1 → ⊥)) × (getD p (8 * s) 0 ≡ 2 → ⊥)) × (getD p (8 * s) 0 ≡ 3 → ⊥)) × (getD p (8 * s) 0 ≡ 7 → ⊥)) × (getD p (8 * s) 0 ≡ 8 → ⊥))
-      × (getD p (8 * s) 0 ≡ 9 → ⊥) → (4 ≤ getD p (8 * s) 0) × (getD p (8 * s) 0 ≤ 6)
+  pub test-kinds : (((((Unit {0} × NotKind (joinKind And)) × NotKind (joinKind Or)) × NotKind notKind) × NotKind existsKind) × NotKind (listKind Some)) × NotKind (listKind All)
+      → (compareKind ≤ kindHere) × (kindHere ≤ notNullKind)
   test-kinds r =
       let low = kind-low p s (h .rule) (h .stands) in
       let high = kind-high p s (h .rule) (h .stands) in
       (omega arith, omega arith)
 
-  module _ (low : 4 ≤ getD p (8 * s) 0) (high : getD p (8 * s) 0 ≤ 6) where
+  module _ (low : compareKind ≤ kindHere) (high : kindHere ≤ notNullKind) where
     test-here : IsTest p s (h .rule)
     test-here = is-test p s (h .rule) (h .stands) low high
 
@@ -191,13 +170,13 @@ module _ {p g file w : List ℕ} {s depth : ℕ} (h : Evaluable p g file w s dep
           fits = test-fits;
         }
 
-    pub test-evaluated : (v : ℕ) → TestEvaluated p g file w s v → v ≡ truthNumber (meaning (tablesOf file) (h .env) (h .rule))
+    pub test-evaluated : (v : ℕ) → TestEvaluated p g file w s v → Means v
     unfolding test-ready meaning
     test-evaluated v evaluated = evaluated test-ready ∙ ap truthNumber (means-as (test-here .is))
 
   -- ---- NOT
 
-  module _ (k : getD p (8 * s) 0 ≡ 3) where
+  module _ (k : kindHere ≡ notKind) where
     not-here : IsNot p s (h .rule)
     not-here = is-not p s (h .rule) (h .stands) k
 
@@ -211,23 +190,26 @@ module _ {p g file w : List ℕ} {s depth : ℕ} (h : Evaluable p g file w s dep
       unfolding not-inner inner-as
       not-value = evaluated not-inner
 
-      pub not-room : v ≤ 2
+      pub not-room : v ≤ truthNumber True
       not-room = omega (arith, not-value, rank-high (meaning (tablesOf file) (h .env) (not-here .inner)))
 
-      pub not-evaluated : 2 - v ≡ truthNumber (meaning (tablesOf file) (h .env) (h .rule))
+      pub not-evaluated : Means (truthNumber True - v)
       unfolding meaning
-      not-evaluated = ap (2 -_) not-value ∙ not-rank (meaning (tablesOf file) (h .env) (not-here .inner)) ∙ ap truthNumber (means-as (not-here .is))
+      not-evaluated = ap (truthNumber True -_) not-value ∙ not-rank (meaning (tablesOf file) (h .env) (not-here .inner)) ∙ ap truthNumber (means-as (not-here .is))
 
   -- ---- AND and OR
 
-  module _ (j : Connective) (k : getD p (8 * s) 0 ≡ joinKind j) where
+  module _ {decides : ℕ} (o : Decides kindHere decides) where
     join-here : IsJoin p s (h .rule)
-    join-here = let z = join-kinds j in is-join p s (h .rule) (h .stands) (omega arith) (omega arith)
+    join-here = is-join p s (h .rule) (h .stands) (o .low) (o .high)
+
+    join-decides : decides ≡ decidesOf (join-here .connective)
+    join-decides = o .decides-is ∙ ap decidedBy (join-here .kind-is)
 
     abbrev next : ℕ
-    next = getD p (8 * (s + 1) + 3) 0
+    next = getD p (partSize * (s + 1) + partEnd) 0
 
-    pub next-bounds : (s + 1 < next) × (next < 64)
+    pub next-bounds : (s + 1 < next) × (next < mostParts)
     unfolding parts
     next-bounds =
         let n = join-here .next in
@@ -236,62 +218,74 @@ module _ {p g file w : List ℕ} {s depth : ℕ} (h : Evaluable p g file w s dep
         let b = parts-low (join-here .right) in
         (omega arith, omega arith)
 
-    join-is : h .rule ≡ Join j (join-here .left) (join-here .right)
-    join-is =
-        join-here .is
-        ∙ ap (λ i. Join i (join-here .left) (join-here .right)) (same-connective (join-here .connective) j (sym (join-here .kind-is) ∙ k))
-
     pub left-inner : Evaluable p g file w (s + 1) depth
     unfolding parts fromsDeep Fits
     left-inner =
-        inner-as (s + 1) (join-here .left) (omega (arith, few-as join-is)) (join-here .left-stands) (omega (arith, room-as join-is)) (fits-as join-is .0)
+        let is = join-here .is in
+        inner-as (s + 1) (join-here .left) (omega (arith, few-as is)) (join-here .left-stands) (omega (arith, room-as is)) (fits-as is .0)
 
     pub right-inner : Evaluable p g file w next depth
     unfolding parts fromsDeep Fits
     right-inner =
+        let is = join-here .is in
         let n = join-here .next in
-        let f = few-as join-is in
-        inner-as next (join-here .right) (omega arith) (rw n (join-here .right-stands)) (omega (arith, room-as join-is)) (fits-as join-is .1)
+        let f = few-as is in
+        inner-as next (join-here .right) (omega arith) (rw n (join-here .right-stands)) (omega (arith, room-as is)) (fits-as is .1)
 
     module _ (a : ℕ) (left : Evaluates p g file w (s + 1) depth a) where
       left-value : a ≡ truthNumber (meaning (tablesOf file) (h .env) (join-here .left))
       unfolding left-inner inner-as
       left-value = left left-inner
 
-      pub join-stops : a ≡ decides j → decides j ≡ truthNumber (meaning (tablesOf file) (h .env) (h .rule))
+      pub join-stops : a ≡ decides → Means decides
       unfolding meaning
       join-stops e =
-          join-stop j (meaning (tablesOf file) (h .env) (join-here .left)) (meaning (tablesOf file) (h .env) (join-here .right)) (sym left-value ∙ e)
-          ∙ ap truthNumber (means-as join-is)
+          join-decides
+          ∙ left-stop (join-here .connective) _ (meaning (tablesOf file) (h .env) (join-here .right)) (sym left-value ∙ e ∙ join-decides)
+          ∙ ap truthNumber (means-as (join-here .is))
 
-      pub join-evaluated : (b : ℕ) → Evaluates p g file w next depth b → (v : ℕ) → v ≡ taken j a b → v ≡ truthNumber (meaning (tablesOf file) (h .env) (h .rule))
+      pub join-evaluated : (b : ℕ) → Evaluates p g file w next depth b → (v : ℕ) → v ≡ taken decides a b → Means v
       unfolding meaning right-inner inner-as
       join-evaluated b right v e =
           e
-          ∙ ap₂ (taken j) left-value (right right-inner)
-          ∙ join-rank j (meaning (tablesOf file) (h .env) (join-here .left)) (meaning (tablesOf file) (h .env) (join-here .right))
-          ∙ ap truthNumber (means-as join-is)
+          ∙ ap (λ (d : ℕ). taken d a b) join-decides
+          ∙ ap₂ (taken (decidesOf (join-here .connective))) left-value (right right-inner)
+          ∙ join-rank (join-here .connective) _ _
+          ∙ ap truthNumber (means-as (join-here .is))
 
   -- ---- the rows of a table
 
   abbrev tableHere : ℕ
-  tableHere = getD p (8 * s + 2) 0
+  tableHere = getD p (partSize * s + partTable) 0
 
   -- EXISTS and lists: the table, and the rule that is evaluated at its rows
   pub record Ranging : Type 0 where
     pub inner : Rule
     pub table-fits : TableFits (columnsOf file) tableHere
     pub inner-stands : Stands p (s + 1) inner
-    pub inner-few : s + 1 + parts inner ≤ 64
-    pub inner-room : depth + 1 + fromsDeep inner ≤ 4
+    pub inner-few : s + 1 + parts inner ≤ mostParts
+    pub inner-room : depth + 1 + fromsDeep inner ≤ mostLevels
     pub inner-fits : Fits (columnsOf file) (h .levels ++ (tableHere ∷ [])) inner
+
+  -- from the table's number in the rule
+  abbrev ranging : (inner : Rule) (t : ℕ) → tableHere ≡ t → TableFits (columnsOf file) t → Stands p (s + 1) inner → s + (1 + parts inner) ≤ mostParts
+      → depth + (1 + fromsDeep inner) ≤ mostLevels → Fits (columnsOf file) (h .levels ++ (t ∷ [])) inner → Ranging
+  ranging inner t e table stands few room fits =
+      record {
+        inner = inner;
+        table-fits = rw e table;
+        inner-stands = stands;
+        inner-few = omega arith;
+        inner-room = omega arith;
+        inner-fits = subst (λ (t : ℕ). Fits (columnsOf file) (h .levels ++ (t ∷ [])) inner) (sym e) fits;
+      }
 
   -- the bounds of its numbers
   pub record RangeBounds : Type 0 where
     pub low : 1 ≤ tableHere
     pub high : tableHere ≤ mostTables
-    pub shallow : depth < 4
-    pub next : s + 1 < 64
+    pub shallow : depth < mostLevels
+    pub next : s + 1 < mostParts
 
   module _ (a : Ranging) where
     pub range-bounds : RangeBounds
@@ -310,7 +304,7 @@ module _ {p g file w : List ℕ} {s depth : ℕ} (h : Evaluable p g file w s dep
     abbrev rowHere : ℕ → Row
     rowHere first = rowFrom file first (at .columns)
 
-    module _ {empty r first value : ℕ} {v : List ℕ} (below : r < at .rows) (passed : RowsPassed p g file w s depth empty at r first value v) where
+    module _ {q : Quantifier} {r first value : ℕ} {v : List ℕ} (below : r < at .rows) (passed : RowsPassed p g file w s depth q at r first value v) where
       abbrev NextAt : Place → Type 0
       NextAt o = (r < o .rows) × NextRow w depth (o .first) (o .columns) r first v
 
@@ -338,30 +332,32 @@ module _ {p g file w : List ℕ} {s depth : ℕ} (h : Evaluable p g file w s dep
             fits = a .inner-fits;
           }
 
-    -- its rows as a whole, and one after the other
+    -- its rows one after the other, and as a whole
     abbrev rowsHere : ℕ → List Truth
-    rowsHere n = tabulate n (λ k. rowValue file (h .env) (h .rule) (at .first + k * at .columns) (at .columns))
+    rowsHere n = tabulate n (λ k. rowValue file (h .env) (h .rule) (rowOf file at k))
 
-    module _ {empty r first value : ℕ} {v : List ℕ} (is : empty ≡ emptyOver (quantifierBy empty))
-        (whole : over3 (quantifierBy empty) (rowsHere (at .rows)) ≡ meaning (tablesOf file) (h .env) (h .rule))
-        (passed : RowsPassed p g file w s depth empty at r first value v) where
-      row-decides : r < at .rows → (row : ℕ) → row ≡ truthNumber (rowValue file (h .env) (h .rule) first (at .columns)) → row ≡ 2 - empty
-          → row ≡ truthNumber (meaning (tablesOf file) (h .env) (h .rule))
+    rows-as : {r : Rule} {t : ℕ} (q : Quantifier) → h .rule ≡ r → tableHere ≡ t → over3 q (rowsHere (at .rows)) ≡ over3 q (map (rowValue file (h .env) r) (rowsOf (tablesOf file) t))
+    rows-as q is e =
+        ap (over3 q) (sym (tabulate-map (rowValue file (h .env) (h .rule)) (at .rows) (rowOf file at)))
+        ∙ ap (λ rows. over3 q (map (rowValue file (h .env) (h .rule)) rows)) (sym (table .rows-are))
+        ∙ ap₂ (λ (r : Rule) (t : ℕ). over3 q (map (rowValue file (h .env) r) (rowsOf (tablesOf file) t))) is e
+
+    module _ {q : Quantifier} {r first value : ℕ} {v : List ℕ} (whole : over3 q (rowsHere (at .rows)) ≡ meaning (tablesOf file) (h .env) (h .rule))
+        (passed : RowsPassed p g file w s depth q at r first value v) where
+      row-decides : r < at .rows → (row : ℕ) → row ≡ truthNumber (rowValue file (h .env) (h .rule) (rowFrom file first (at .columns))) → row ≡ decidesOf (overRows q) → Means row
       row-decides below row row-is e =
-          let q = quantifierBy empty in
-          let f : ℕ → Truth = λ k. rowValue file (h .env) (h .rule) (at .first + k * at .columns) (at .columns) in
-          let z : row ≡ 2 - emptyOver q = e ∙ ap (2 -_) is in
-          let next : row ≡ truthNumber (f r) = row-is ∙ ap (λ (k : ℕ). truthNumber (rowValue file (h .env) (h .rule) k (at .columns))) (passed .next .first-is) in
-          z ∙ over-stop q (at .rows) f r below (sym next ∙ z) ∙ ap truthNumber whole
+          let f : ℕ → Truth = λ k. rowValue file (h .env) (h .rule) (rowOf file at k) in
+          let next : row ≡ truthNumber (f r) = row-is ∙ ap (λ (k : ℕ). truthNumber (rowValue file (h .env) (h .rule) (rowFrom file k (at .columns)))) (passed .next .first-is) in
+          e ∙ over-stop q (at .rows) f r below (sym next ∙ e) ∙ ap truthNumber whole
 
-      none-decides : at .rows ≤ r → value ≡ truthNumber (meaning (tablesOf file) (h .env) (h .rule))
-      none-decides end =
+      rows-end : at .rows ≤ r → Means value
+      rows-end end =
           let z : r ≡ at .rows = omega (arith, passed .within) in
-          passed .value-is h ∙ ap (λ (n : ℕ). truthNumber (over3 (quantifierBy empty) (rowsHere n))) z ∙ ap truthNumber whole
+          passed .value-is h ∙ ap (λ (n : ℕ). truthNumber (over3 q (rowsHere n))) z ∙ ap truthNumber whole
 
   -- ---- EXISTS
 
-  module _ (k : getD p (8 * s) 0 ≡ 7) where
+  module _ (k : kindHere ≡ existsKind) where
     exists-here : IsExists p s (h .rule)
     exists-here = is-exists p s (h .rule) (h .stands) k
 
@@ -371,15 +367,8 @@ module _ {p g file w : List ℕ} {s depth : ℕ} (h : Evaluable p g file w s dep
     pub exists-ranging : Ranging
     unfolding parts fromsDeep Fits
     exists-ranging =
-        let f = fits-as (exists-here .is) in
-        record {
-          inner = exists-here .inner;
-          table-fits = rw exists-table (f .0);
-          inner-stands = exists-here .inner-stands;
-          inner-few = omega (arith, few-as (exists-here .is));
-          inner-room = omega (arith, room-as (exists-here .is));
-          inner-fits = subst (λ (t : ℕ). Fits (columnsOf file) (h .levels ++ (t ∷ [])) (exists-here .inner)) (sym exists-table) (f .1);
-        }
+        let is = exists-here .is in
+        ranging (exists-here .inner) _ exists-table (fits-as is .0) (exists-here .inner-stands) (few-as is) (room-as is) (fits-as is .1)
 
     abbrev retained : Row → Bool
     retained row = isTrue (meaning (tablesOf file) (h .env ▸ row) (exists-here .inner))
@@ -388,18 +377,12 @@ module _ {p g file w : List ℕ} {s depth : ℕ} (h : Evaluable p g file w s dep
       exists-rows : over3 Some (rowsHere exists-ranging there (at .rows)) ≡ meaning (tablesOf file) (h .env) (h .rule)
       unfolding rowValue meaning
       exists-rows =
-          let n = at .rows in
-          let cell : ℕ → ℕ = λ k. at .first + k * at .columns in
-          let f : ℕ → Row = λ k. rowFrom file (cell k) (at .columns) in
-          ap (λ r. over3 Some (tabulate n (λ k. rowValue file (h .env) r (cell k) (at .columns)))) (exists-here .is)
-          ∙ ap (over3 Some) (sym (tabulate-map (λ row. truth (retained row)) n f))
-          ∙ sym (exists-some retained (tabulate n f))
-          ∙ ap (λ rows. truth (any retained rows)) (sym (table exists-ranging there .rows-are))
-          ∙ ap (λ (t : ℕ). truth (any retained (rowsOf (tablesOf file) t))) exists-table
+          rows-as exists-ranging there Some (exists-here .is) exists-table
+          ∙ sym (exists-some retained (rowsOf (tablesOf file) (exists-here .table)))
           ∙ ap truth (any-kept retained (rowsOf (tablesOf file) (exists-here .table)))
           ∙ means-as (exists-here .is)
 
-      module _ {r first : ℕ} {v : List ℕ} (below : r < at .rows) (passed : RowsPassed p g file w s depth 0 at r first 0 v) where
+      module _ {r first : ℕ} {v : List ℕ} (below : r < at .rows) (passed : RowsPassed p g file w s depth Some at r first (truthNumber False) v) where
         pub exists-inner : Evaluable p g file (set v depth first) (s + 1) (depth + 1)
         exists-inner = row-inner exists-ranging there below passed
 
@@ -411,37 +394,38 @@ module _ {p g file w : List ℕ} {s depth : ℕ} (h : Evaluable p g file w s dep
           unfolding exists-inner row-inner exists-ranging
           exists-value = evaluated exists-inner
 
-          row-as : truth (isTrue exists-at) ≡ rowValue file (h .env) (h .rule) first (at .columns)
+          row-as : truth (isTrue exists-at) ≡ rowValue file (h .env) (h .rule) (rowFrom file first (at .columns))
           unfolding rowValue
-          row-as = sym (ap (λ r. rowValue file (h .env) r first (at .columns)) (exists-here .is))
+          row-as = sym (ap (λ r. rowValue file (h .env) r (rowFrom file first (at .columns))) (exists-here .is))
 
-          pub exists-true : kept ≡ 2 → 2 ≡ truthNumber (meaning (tablesOf file) (h .env) (h .rule))
+          pub exists-true : kept ≡ truthNumber True → Means (truthNumber True)
           exists-true e =
               let kept-is = is-kept exists-at (sym exists-value ∙ e) in
-              row-decides exists-ranging there refl exists-rows passed below 2 (ap (λ b. truthNumber (truth b)) (sym kept-is) ∙ ap truthNumber row-as) refl
+              row-decides exists-ranging there exists-rows passed below (truthNumber True) (ap (λ b. truthNumber (truth b)) (sym kept-is) ∙ ap truthNumber row-as) refl
 
-          pub exists-lost : (kept ≡ 2 → ⊥) → 0 ≡ truthNumber (rowValue file (h .env) (h .rule) first (at .columns))
+          pub exists-lost : (kept ≡ truthNumber True → ⊥) → truthNumber False ≡ truthNumber (rowValue file (h .env) (h .rule) (rowFrom file first (at .columns)))
           exists-lost f =
               let lost = not-kept exists-at (λ e. f (exists-value ∙ e)) in
               ap (λ b. truthNumber (truth b)) (sym lost) ∙ ap truthNumber row-as
 
-      pub exists-false : {r first : ℕ} {v : List ℕ} → RowsPassed p g file w s depth 0 at r first 0 v → at .rows ≤ r
-          → 0 ≡ truthNumber (meaning (tablesOf file) (h .env) (h .rule))
-      exists-false passed end = none-decides exists-ranging there refl exists-rows passed end
+      pub exists-false : {r first : ℕ} {v : List ℕ} → RowsPassed p g file w s depth Some at r first (truthNumber False) v → at .rows ≤ r
+          → Means (truthNumber False)
+      exists-false passed end = rows-end exists-ranging there exists-rows passed end
 
   -- ---- SOME and ALL
 
-  module _ {empty : ℕ} (o : OverNone (getD p (8 * s) 0) empty) where
+  module _ {empty : ℕ} (o : OverNone kindHere empty) where
     listed-here : IsListed p s (h .rule)
-    listed-here = let z = list-kind-low (o .quantifier) in let y = o .kind-is in is-listed p s (h .rule) (h .stands) (omega arith)
+    listed-here = is-listed p s (h .rule) (h .stands) (o .low)
 
-    listed-by : listed-here .quantifier ≡ quantifierBy empty
-    listed-by = same-quantifier (listed-here .quantifier) (o .quantifier) (sym (listed-here .kind-is) ∙ o .kind-is) ∙ none-of o
+    abbrev q : Quantifier
+    q = quantifierOf kindHere
 
-    listed-is : h .rule ≡ Listed (quantifierBy empty) (listed-here .op) (listed-here .left) (listed-here .selected) (listed-here .table) (listed-here .inner)
+    listed-is : h .rule ≡ Listed q (listed-here .op) (listed-here .left) (listed-here .selected) (listed-here .table) (listed-here .inner)
     listed-is =
         listed-here .is
-        ∙ ap (λ q. Listed q (listed-here .op) (listed-here .left) (listed-here .selected) (listed-here .table) (listed-here .inner)) listed-by
+        ∙ ap (λ q. Listed q (listed-here .op) (listed-here .left) (listed-here .selected) (listed-here .table) (listed-here .inner))
+        (sym (ap quantifierOf (listed-here .kind-is) ∙ quantifier-back (listed-here .quantifier)))
 
     listed-table : tableHere ≡ listed-here .table
     listed-table = part-table (listed-here .here)
@@ -449,15 +433,8 @@ module _ {p g file w : List ℕ} {s depth : ℕ} (h : Evaluable p g file w s dep
     pub listed-ranging : Ranging
     unfolding parts fromsDeep Fits
     listed-ranging =
-        let f = fits-as listed-is in
-        record {
-          inner = listed-here .inner;
-          table-fits = rw listed-table (f .0);
-          inner-stands = listed-here .inner-stands;
-          inner-few = omega (arith, few-as listed-is);
-          inner-room = omega (arith, room-as listed-is);
-          inner-fits = subst (λ (t : ℕ). Fits (columnsOf file) (h .levels ++ (t ∷ [])) (listed-here .inner)) (sym listed-table) (f .3);
-        }
+        let is = listed-here .is in
+        ranging (listed-here .inner) _ listed-table (fits-as is .0) (listed-here .inner-stands) (few-as is) (room-as is) (fits-as is .3)
 
     outer-fits : ValueFits (columnsOf file) (h .levels) (listed-here .left)
     unfolding Fits
@@ -467,7 +444,7 @@ module _ {p g file w : List ℕ} {s depth : ℕ} (h : Evaluable p g file w s dep
     unfolding Fits
     selected-fits = subst (λ (t : ℕ). ValueFits (columnsOf file) (h .levels ++ (t ∷ [])) (listed-here .selected)) (sym listed-table) (fits-as listed-is .2)
 
-    pub outer-ready : ValueReady g file w (getD p (8 * s + 4) 0) (getD p (8 * s + 5) 0)
+    pub outer-ready : ValueReady g file w (getD p (partSize * s + partLeftTag) 0) (getD p (partSize * s + partLeftNumber) 0)
     outer-ready = value-ready (h .readable) (listed-here .left) outer-fits (part-left-tag (listed-here .here)) (part-left-number (listed-here .here))
 
     abbrev kept : Row → Bool
@@ -477,21 +454,14 @@ module _ {p g file w : List ℕ} {s depth : ℕ} (h : Evaluable p g file w s dep
     compared row = compare3 (listed-here .op) (cellOf (h .env) (listed-here .left)) (cellOf (h .env ▸ row) (listed-here .selected))
 
     module _ {at : Place} (there : at ≡ placeIn g tableHere) where
-      listed-rows : over3 (quantifierBy empty) (rowsHere listed-ranging there (at .rows)) ≡ meaning (tablesOf file) (h .env) (h .rule)
+      listed-rows : over3 q (rowsHere listed-ranging there (at .rows)) ≡ meaning (tablesOf file) (h .env) (h .rule)
       unfolding rowValue meaning
       listed-rows =
-          let q = quantifierBy empty in
-          let n = at .rows in
-          let cell : ℕ → ℕ = λ k. at .first + k * at .columns in
-          let f : ℕ → Row = λ k. rowFrom file (cell k) (at .columns) in
-          ap (λ r. over3 q (tabulate n (λ k. rowValue file (h .env) r (cell k) (at .columns)))) listed-is
-          ∙ ap (over3 q) (sym (tabulate-map (λ row. cond (kept row) (compared row) (emptyTruth q)) n f))
-          ∙ sym (over-kept q kept compared (tabulate n f))
-          ∙ ap (λ rows. over3 q (map compared (keep kept rows))) (sym (table listed-ranging there .rows-are))
-          ∙ ap (λ (t : ℕ). over3 q (map compared (keep kept (rowsOf (tablesOf file) t)))) listed-table
+          rows-as listed-ranging there q listed-is listed-table
+          ∙ sym (over-kept q kept compared (rowsOf (tablesOf file) (listed-here .table)))
           ∙ means-as listed-is
 
-      module _ {r first value : ℕ} {v : List ℕ} (below : r < at .rows) (passed : RowsPassed p g file w s depth empty at r first value v) (x : Seen) where
+      module _ {r first value : ℕ} {v : List ℕ} (below : r < at .rows) (passed : RowsPassed p g file w s depth q at r first value v) (x : Seen) where
         pub row-ready : RowReady p g file (set v depth first) s (depth + 1) empty x
         unfolding row-inner listed-ranging
         row-ready =
@@ -507,48 +477,47 @@ module _ {p g file w : List ℕ} {s depth : ℕ} (h : Evaluable p g file w s dep
               selected-fits = selected-fits;
             }
 
-        module _ (sees : Sees g file w (getD p (8 * s + 4) 0) (getD p (8 * s + 5) 0) x) (row : ℕ)
+        module _ (sees : Sees g file w (getD p (partSize * s + partLeftTag) 0) (getD p (partSize * s + partLeftNumber) 0) x) (row : ℕ)
             (evaluated : RowEvaluated p g file (set v depth first) s (depth + 1) empty x row) where
           outer-seen : seenCell x ≡ cellOf (h .env) (listed-here .left)
           outer-seen = value-seen (h .readable) (listed-here .left) outer-fits (part-left-tag (listed-here .here)) (part-left-number (listed-here .here)) x sees
 
-          pub row-valued : row ≡ truthNumber (rowValue file (h .env) (h .rule) first (at .columns))
+          pub row-valued : row ≡ truthNumber (rowValue file (h .env) (h .rule) (rowFrom file first (at .columns)))
           unfolding row-ready row-inner listed-ranging rowValue
           row-valued =
               let here = rowHere listed-ranging there first in
               evaluated row-ready
               ∙ ap (λ c. cond (kept here) (truthNumber (compare3 (listed-here .op) c (cellOf (h .env ▸ here) (listed-here .selected)))) empty) outer-seen
-              ∙ cond-rank (kept here) (compared here) (emptyTruth (quantifierBy empty)) empty (none-is o ∙ sym (empty-rank (quantifierBy empty)))
-              ∙ ap truthNumber (sym (ap (λ r. rowValue file (h .env) r first (at .columns)) listed-is))
+              ∙ cond-rank (kept here) (compared here) (emptyTruth q) empty (o .empty-is)
+              ∙ ap truthNumber (sym (ap (λ r. rowValue file (h .env) r (rowFrom file first (at .columns))) listed-is))
 
-          pub listed-decides : row ≡ 2 - empty → row ≡ truthNumber (meaning (tablesOf file) (h .env) (h .rule))
-          listed-decides e = row-decides listed-ranging there (none-is o) listed-rows passed below row row-valued e
+          pub listed-decides : row ≡ truthNumber True - empty → Means row
+          listed-decides e = row-decides listed-ranging there listed-rows passed below row row-valued (e ∙ none-decides o)
 
-      pub listed-ends : {r first value : ℕ} {v : List ℕ} → RowsPassed p g file w s depth empty at r first value v → at .rows ≤ r
-          → value ≡ truthNumber (meaning (tablesOf file) (h .env) (h .rule))
-      listed-ends passed end = none-decides listed-ranging there (none-is o) listed-rows passed end
+      pub listed-ends : {r first value : ℕ} {v : List ℕ} → RowsPassed p g file w s depth q at r first value v → at .rows ≤ r → Means value
+      listed-ends passed end = rows-end listed-ranging there listed-rows passed end
 
 -- ---- a list at one row
 
 module _ {p g file v : List ℕ} {s depth empty : ℕ} {x : Seen} (h : RowReady p g file v s depth empty x) where
-  pub row-start : s + 1 < 64
+  pub row-start : s + 1 < mostParts
   row-start = start (h .inner)
 
-  pub selected-ready : ValueReady g file v (getD p (8 * s + 6) 0) (getD p (8 * s + 7) 0)
+  pub selected-ready : ValueReady g file v (getD p (partSize * s + partRightTag) 0) (getD p (partSize * s + partRightNumber) 0)
   selected-ready = value-ready (h .inner .readable) (h .selected) (h .selected-fits) (part-right-tag (h .here)) (part-right-number (h .here))
 
   abbrev innerValue : Truth
   innerValue = meaning (tablesOf file) (h .inner .env) (h .inner .rule)
 
   module _ (kept : ℕ) (evaluated : Evaluates p g file v (s + 1) depth kept) where
-    pub row-lost : (kept ≡ 2 → ⊥) → empty ≡ cond (isTrue innerValue) (truthNumber (compare3 (h .comparison) (seenCell x) (cellOf (h .inner .env) (h .selected)))) empty
+    pub row-lost : (kept ≡ truthNumber True → ⊥) → empty ≡ cond (isTrue innerValue) (truthNumber (compare3 (h .comparison) (seenCell x) (cellOf (h .inner .env) (h .selected)))) empty
     row-lost f = rw (not-kept innerValue (λ e. f (evaluated (h .inner) ∙ e)))
 
-    pub row-compared : kept ≡ 2 → (y : Seen) → Sees g file v (getD p (8 * s + 6) 0) (getD p (8 * s + 7) 0) y
-        → (r : ℕ) → r ≡ truthNumber (compare3 (comparisonOf (getD p (8 * s + 1) 0)) (seenCell x) (seenCell y))
+    pub row-compared : kept ≡ truthNumber True → (y : Seen) → Sees g file v (getD p (partSize * s + partRightTag) 0) (getD p (partSize * s + partRightNumber) 0) y
+        → (r : ℕ) → r ≡ truthNumber (compare3 (comparisonOf (getD p (partSize * s + partComparison) 0)) (seenCell x) (seenCell y))
         → r ≡ cond (isTrue innerValue) (truthNumber (compare3 (h .comparison) (seenCell x) (cellOf (h .inner .env) (h .selected)))) empty
     row-compared e y sees r is =
-        let op : comparisonOf (getD p (8 * s + 1) 0) ≡ h .comparison = ap comparisonOf (part-comparison (h .here)) ∙ comparison-back (h .comparison) in
+        let op : comparisonOf (getD p (partSize * s + partComparison) 0) ≡ h .comparison = ap comparisonOf (part-comparison (h .here)) ∙ comparison-back (h .comparison) in
         let right =
         value-seen (h .inner .readable) (h .selected) (h .selected-fits) (part-right-tag (h .here)) (part-right-number (h .here)) y sees in
         rw (is-kept innerValue (sym (evaluated (h .inner)) ∙ e))

@@ -8,27 +8,27 @@ use borrow.Author.Tests.{ne-eqb}
 use lib.Dec.{T}
 use lib.ListN.{length, getD}
 use Rattle.tables.specs.Tables.{columnsOf}
-use Rattle.tables.specs.Values.{constantTag, Value, Constant, Column, Comparison, comparisonOf, Env, cellOf, isBlank, valueFits}
+use Rattle.tables.specs.Values.{mostLevels, constantTag, Value, Constant, Column, comparisonOf, Env, cellOf, isBlank, valueFits}
 use Rattle.tables.proofs.Values.{comparison-back}
 use Rattle.cells.specs.Code.{seenCell}
 use Rattle.cells.specs.declared.Seen.{Seen}
 use Rattle.values.specs.Code.{valueIn, Readable, ValueReady, Sees}
 use Rattle.values.proofs.Numbers.{seen-blank}
-use Rattle.rule.specs.Condition.{Test, Compare, IsNull, IsNotNull}
+use Rattle.rule.specs.Condition.{Test, Compare, IsNull, IsNotNull, Atom, Rule}
 use Rattle.rule.specs.Names.{ValueFits, TestFits}
-use Rattle.rule.specs.Parts.{taggedOf, AtomHead, partOf}
+use Rattle.rule.specs.Parts.{compareKind, nullKind, notNullKind, kindOf, taggedOf, AtomHead, partOf}
+use Rattle.names.specs.Code.{partSize, partComparison, partLeftTag, partLeftNumber, partRightTag, partRightNumber}
 use Rattle.rule.specs.Meaning.{truth, compare3, test3, truthNumber}
-use Rattle.parser.specs.Parts.{PartAt}
+use Rattle.parser.specs.Parts.{Stands}
 use Rattle.rule.proofs.Fits.{value-tested}
 use Rattle.cells.proofs.Signed.{from-to}
-use Rattle.parser.proofs.Small.{heldNumber}
-use Rattle.parser.proofs.Parts.{part-kind, part-comparison, part-left-tag, part-left-number, part-right-tag, part-right-number}
+use Rattle.parser.proofs.Parts.{heldNumber, kind-stands, IsCompare, is-compare, is-blank, is-present, part-comparison, part-left-tag, part-left-number, part-right-tag, part-right-number}
 use Rattle.evaluator.specs.Code.{TestReady}
 
 -- ---- a value
 
 -- it is had back from the two numbers of a part
-pub value-held : (columns levels : List ℕ) (v : Value) → length levels ≤ 4 → ValueFits columns levels v
+pub value-held : (columns levels : List ℕ) (v : Value) → length levels ≤ mostLevels → ValueFits columns levels v
     → valueIn (taggedOf v .tag) (heldNumber (taggedOf v)) ≡ v
 unfolding valueIn
 value-held columns levels (Constant k) few f = ap Constant (from-to k f)
@@ -66,71 +66,73 @@ left-of-fits columns levels (Compare op l r) f = f .0
 left-of-fits columns levels (IsNull l) f = f
 left-of-fits columns levels (IsNotNull l) f = f
 
--- a comparison
-record Compared (t : Test Value) : Type 0 where
-  op : Comparison
-  left : Value
-  right : Value
-  is : t ≡ Compare op left right
-
-module _ {p : List ℕ} {s : ℕ} where
-  compared : (t : Test Value) → PartAt p s (partOf (s + 1) (AtomHead t)) → (getD p (8 * s) 0 ≡ 5 → ⊥) → (getD p (8 * s) 0 ≡ 6 → ⊥) → Compared t
-  compared (Compare op l r) h f g = record { op = op; left = l; right = r; is = refl }
-  compared (IsNull l) h f g = absurd (f (part-kind h))
-  compared (IsNotNull l) h f g = absurd (g (part-kind h))
-
-  module _ (env : Env) (x : Seen) where
-    blank-by : (t : Test Value) → PartAt p s (partOf (s + 1) (AtomHead t)) → getD p (8 * s) 0 ≡ 5 → seenCell x ≡ cellOf env (leftOf t) → truth (x .blank) ≡ test3 env t
-    blank-by (Compare op l r) h k left = absurd (omega (arith, part-kind h))
-    blank-by (IsNull l) h k left = ap truth (seen-blank x ∙ ap isBlank left)
-    blank-by (IsNotNull l) h k left = absurd (omega (arith, part-kind h))
-
-    present-by : (t : Test Value) → PartAt p s (partOf (s + 1) (AtomHead t)) → getD p (8 * s) 0 ≡ 6 → seenCell x ≡ cellOf env (leftOf t) → truth (not (x .blank)) ≡ test3 env t
-    present-by (Compare op l r) h k left = absurd (omega (arith, part-kind h))
-    present-by (IsNull l) h k left = absurd (omega (arith, part-kind h))
-    present-by (IsNotNull l) h k left = ap (λ b. truth (not b)) (seen-blank x ∙ ap isBlank left)
-
 module _ {p g file w : List ℕ} {s : ℕ} (h : TestReady p g file w s) where
-  left-tag : getD p (8 * s + 4) 0 ≡ taggedOf (leftOf (h .test)) .tag
+  abbrev kindHere : ℕ
+  kindHere = getD p (partSize * s) 0
+
+  -- it is a rule of one part
+  stands : Stands p s (Atom (h .test))
+  unfolding Stands
+  stands = h .here
+
+  test-as : {t : Test Value} → _≡_ {A = Rule} (Atom (h .test)) (Atom t) → h .test ≡ t
+  test-as e = cc
+
+  left-tag : getD p (partSize * s + partLeftTag) 0 ≡ taggedOf (leftOf (h .test)) .tag
   left-tag = part-left-tag (h .here) ∙ ap (λ v. v .tag) (left-of-part (s + 1) (h .test))
 
-  left-number : getD p (8 * s + 5) 0 ≡ heldNumber (taggedOf (leftOf (h .test)))
+  left-number : getD p (partSize * s + partLeftNumber) 0 ≡ heldNumber (taggedOf (leftOf (h .test)))
   left-number = part-left-number (h .here) ∙ ap heldNumber (left-of-part (s + 1) (h .test))
 
   left-fits : ValueFits (columnsOf file) (h .levels) (leftOf (h .test))
   left-fits = left-of-fits (columnsOf file) (h .levels) (h .test) (h .fits)
 
-  pub left-ready : ValueReady g file w (getD p (8 * s + 4) 0) (getD p (8 * s + 5) 0)
+  pub left-ready : ValueReady g file w (getD p (partSize * s + partLeftTag) 0) (getD p (partSize * s + partLeftNumber) 0)
   left-ready = value-ready (h .readable) (leftOf (h .test)) left-fits left-tag left-number
 
-  module _ (x : Seen) (sees : Sees g file w (getD p (8 * s + 4) 0) (getD p (8 * s + 5) 0) x) where
+  module _ (x : Seen) (sees : Sees g file w (getD p (partSize * s + partLeftTag) 0) (getD p (partSize * s + partLeftNumber) 0) x) where
     left-seen : seenCell x ≡ cellOf (h .env) (leftOf (h .test))
     left-seen = value-seen (h .readable) (leftOf (h .test)) left-fits left-tag left-number x sees
 
-    pub blank-evaluated : getD p (8 * s) 0 ≡ 5 → (r : ℕ) → r ≡ truthNumber (truth (x .blank)) → r ≡ truthNumber (test3 (h .env) (h .test))
-    blank-evaluated k r is = is ∙ ap truthNumber (blank-by (h .env) x (h .test) (h .here) k left-seen)
+    left-blank : x .blank ≡ isBlank (cellOf (h .env) (leftOf (h .test)))
+    left-blank = seen-blank x ∙ ap isBlank left-seen
 
-    pub present-evaluated : getD p (8 * s) 0 ≡ 6 → (r : ℕ) → r ≡ truthNumber (truth (not (x .blank))) → r ≡ truthNumber (test3 (h .env) (h .test))
-    present-evaluated k r is = is ∙ ap truthNumber (present-by (h .env) x (h .test) (h .here) k left-seen)
+    pub blank-evaluated : kindHere ≡ nullKind → (r : ℕ) → r ≡ truthNumber (truth (x .blank)) → r ≡ truthNumber (test3 (h .env) (h .test))
+    blank-evaluated k r is =
+        let t = test-as (is-blank p s (Atom (h .test)) stands k .is) in
+        is ∙ ap (λ b. truthNumber (truth b)) left-blank ∙ rw t
 
-  module _ (f : getD p (8 * s) 0 ≡ 5 → ⊥) (f′ : getD p (8 * s) 0 ≡ 6 → ⊥) where
-    comparison : Compared (h .test)
-    comparison = compared (h .test) (h .here) f f′
+    pub present-evaluated : kindHere ≡ notNullKind → (r : ℕ) → r ≡ truthNumber (truth (not (x .blank))) → r ≡ truthNumber (test3 (h .env) (h .test))
+    present-evaluated k r is =
+        let t = test-as (is-present p s (Atom (h .test)) stands k .is) in
+        is ∙ ap (λ b. truthNumber (truth (not b))) left-blank ∙ rw t
 
-    here : PartAt p s (partOf (s + 1) (AtomHead (Compare (comparison .op) (comparison .left) (comparison .right))))
-    here = subst (λ t. PartAt p s (partOf (s + 1) (AtomHead t))) (comparison .is) (h .here)
+  module _ (f : kindHere ≡ nullKind → ⊥) (f′ : kindHere ≡ notNullKind → ⊥) where
+    compare-kind : kindHere ≡ compareKind
+    compare-kind = go (h .test) (kind-stands p s (Atom (h .test)) stands)
+      where
+        go : (t : Test Value) → kindHere ≡ kindOf (AtomHead t) → kindHere ≡ compareKind
+        go (Compare op l r) e = e
+        go (IsNull l) e = absurd (f e)
+        go (IsNotNull l) e = absurd (f′ e)
+
+    comparison : IsCompare p s (Atom (h .test))
+    comparison = is-compare p s (Atom (h .test)) stands compare-kind
+
+    test-is : h .test ≡ Compare (comparison .op) (comparison .left) (comparison .right)
+    test-is = test-as (comparison .is)
 
     right-fits : ValueFits (columnsOf file) (h .levels) (comparison .right)
-    right-fits = subst (TestFits (columnsOf file) (h .levels)) (comparison .is) (h .fits) .1
+    right-fits = subst (TestFits (columnsOf file) (h .levels)) test-is (h .fits) .1
 
-    pub right-ready : ValueReady g file w (getD p (8 * s + 6) 0) (getD p (8 * s + 7) 0)
-    right-ready = value-ready (h .readable) (comparison .right) right-fits (part-right-tag here) (part-right-number here)
+    pub right-ready : ValueReady g file w (getD p (partSize * s + partRightTag) 0) (getD p (partSize * s + partRightNumber) 0)
+    right-ready = value-ready (h .readable) (comparison .right) right-fits (part-right-tag (comparison .here)) (part-right-number (comparison .here))
 
-    pub compare-evaluated : (x y : Seen) → Sees g file w (getD p (8 * s + 4) 0) (getD p (8 * s + 5) 0) x
-        → Sees g file w (getD p (8 * s + 6) 0) (getD p (8 * s + 7) 0) y
-        → (r : ℕ) → r ≡ truthNumber (compare3 (comparisonOf (getD p (8 * s + 1) 0)) (seenCell x) (seenCell y)) → r ≡ truthNumber (test3 (h .env) (h .test))
+    pub compare-evaluated : (x y : Seen) → Sees g file w (getD p (partSize * s + partLeftTag) 0) (getD p (partSize * s + partLeftNumber) 0) x
+        → Sees g file w (getD p (partSize * s + partRightTag) 0) (getD p (partSize * s + partRightNumber) 0) y
+        → (r : ℕ) → r ≡ truthNumber (compare3 (comparisonOf (getD p (partSize * s + partComparison) 0)) (seenCell x) (seenCell y)) → r ≡ truthNumber (test3 (h .env) (h .test))
     compare-evaluated x y sees-x sees-y r is =
-        let left : seenCell x ≡ cellOf (h .env) (comparison .left) = left-seen x sees-x ∙ ap (λ t. cellOf (h .env) (leftOf t)) (comparison .is) in
-        let right = value-seen (h .readable) (comparison .right) right-fits (part-right-tag here) (part-right-number here) y sees-y in
-        let op : comparisonOf (getD p (8 * s + 1) 0) ≡ comparison .op = ap comparisonOf (part-comparison here) ∙ comparison-back (comparison .op) in
-        is ∙ ap truthNumber (ap (λ o. compare3 o (seenCell x) (seenCell y)) op ∙ ap₂ (compare3 (comparison .op)) left right ∙ sym (ap (test3 (h .env)) (comparison .is)))
+        let left : seenCell x ≡ cellOf (h .env) (comparison .left) = left-seen x sees-x ∙ ap (λ t. cellOf (h .env) (leftOf t)) test-is in
+        let right = value-seen (h .readable) (comparison .right) right-fits (part-right-tag (comparison .here)) (part-right-number (comparison .here)) y sees-y in
+        let op : comparisonOf (getD p (partSize * s + partComparison) 0) ≡ comparison .op = ap comparisonOf (part-comparison (comparison .here)) ∙ comparison-back (comparison .op) in
+        is ∙ ap truthNumber (ap (λ o. compare3 o (seenCell x) (seenCell y)) op ∙ ap₂ (compare3 (comparison .op)) left right ∙ sym (ap (test3 (h .env)) test-is))

@@ -2,88 +2,100 @@
 use mathlib.Core.Path.{_≡_, refl, sym, ap, _∙_}
 use mathlib.Core.Bool.{Bool, true, false, cond, _||_}
 use mathlib.Core.List.{List, [], _∷_, map}
-use Prim.Native.Nat.{ℕ, zero, suc, _-_, _<_, _≤_, min, max}
+use Prim.Native.Nat.{ℕ, zero, suc, _-_, _<_, _≤_}
 use native.Mathlib.Nat.{le-of-suc-le-suc, not-suc-le-zero}
 use native.Mathlib.Omega.{arith}
 use lib.Dec.{eqb}
+use lib.ListN.{getD}
+use Rattle.rule.specs.Parts.{joinKind, listKind}
 use Rattle.tables.specs.Lists.{tabulate, any, put, keep}
-use Rattle.tables.specs.Values.{Quantifier, Some, All}
-use Rattle.rule.specs.Meaning.{Truth, False, Unknown, True, truth, isTrue, not3, and3, or3, over3, truthNumber}
+use Rattle.tables.specs.Values.{Connective, And, Or, Quantifier, Some, All}
+use Rattle.rule.specs.Meaning.{Truth, False, Unknown, True, truth, isTrue, not3, and3, or3, join3, over3, truthNumber}
 use Rattle.rule.proofs.Truths.{some-cons, all-cons}
-use Rattle.evaluator.specs.Code.{unlessUnknown, emptyOver, OverNone}
+use Rattle.evaluator.specs.Code.{decidedBy, taken, unlessUnknown, emptyTruth, emptyOver, quantifierOf, OverNone}
 
-pub rank-high : (a : Truth) → truthNumber a ≤ 2
+pub rank-high : (a : Truth) → truthNumber a ≤ truthNumber True
 rank-high False = omega arith
 rank-high Unknown = omega arith
 rank-high True = omega arith
 
--- ---- connectives
+-- a truth value by its number
+same-truth : (a b : Truth) → truthNumber a ≡ truthNumber b → a ≡ b
+same-truth a b e = sym (back a) ∙ ap truthAt e ∙ back b
+  where
+    truthAt : ℕ → Truth
+    truthAt n = getD (False ∷ Unknown ∷ True ∷ []) n True
 
-pub and-rank : (a b : Truth) → min (truthNumber a) (truthNumber b) ≡ truthNumber (and3 a b)
-and-rank False False = refl
-and-rank False Unknown = refl
-and-rank False True = refl
-and-rank Unknown False = refl
-and-rank Unknown Unknown = refl
-and-rank Unknown True = refl
-and-rank True False = refl
-and-rank True Unknown = refl
-and-rank True True = refl
+    back : (a : Truth) → truthAt (truthNumber a) ≡ a
+    back False = refl
+    back Unknown = refl
+    back True = refl
 
-pub or-rank : (a b : Truth) → max (truthNumber a) (truthNumber b) ≡ truthNumber (or3 a b)
-or-rank False False = refl
-or-rank False Unknown = refl
-or-rank False True = refl
-or-rank Unknown False = refl
-or-rank Unknown Unknown = refl
-or-rank Unknown True = refl
-or-rank True False = refl
-or-rank True Unknown = refl
-or-rank True True = refl
-
-pub not-rank : (a : Truth) → 2 - truthNumber a ≡ truthNumber (not3 a)
+pub not-rank : (a : Truth) → truthNumber True - truthNumber a ≡ truthNumber (not3 a)
 not-rank False = refl
 not-rank Unknown = refl
 not-rank True = refl
 
--- one side decides
-pub and-stop : (a b : Truth) → truthNumber a ≡ 0 → 0 ≡ truthNumber (and3 a b)
-and-stop False b e = refl
-and-stop Unknown b e = absurd (omega arith)
-and-stop True b e = absurd (omega arith)
+-- ---- connectives
 
-pub or-stop : (a b : Truth) → truthNumber a ≡ 2 → 2 ≡ truthNumber (or3 a b)
-or-stop False b e = absurd (omega arith)
-or-stop Unknown b e = absurd (omega arith)
-or-stop True b e = refl
+-- the value of one side that decides for both
+abbrev pub decidesOf : Connective → ℕ
+decidesOf j = decidedBy (joinKind j)
 
--- a row is retained where its number is 2
-pub is-kept : (a : Truth) → truthNumber a ≡ 2 → isTrue a ≡ true
+pub join-rank : (j : Connective) (a b : Truth) → taken (decidesOf j) (truthNumber a) (truthNumber b) ≡ truthNumber (join3 j a b)
+join-rank And False b = omega arith
+join-rank And Unknown False = refl
+join-rank And Unknown Unknown = refl
+join-rank And Unknown True = refl
+join-rank And True b = omega (arith, rank-high b)
+join-rank Or False b = omega arith
+join-rank Or Unknown False = refl
+join-rank Or Unknown Unknown = refl
+join-rank Or Unknown True = refl
+join-rank Or True b = omega (arith, rank-high b)
+
+-- one side decides, the left or the right one
+pub left-stop : (j : Connective) (a b : Truth) → truthNumber a ≡ decidesOf j → decidesOf j ≡ truthNumber (join3 j a b)
+left-stop And a b e = omega (arith, join-rank And a b)
+left-stop Or a b e = omega (arith, join-rank Or a b, rank-high b)
+
+right-stop : (j : Connective) (a b : Truth) → decidesOf j ≡ truthNumber b → decidesOf j ≡ truthNumber (join3 j a b)
+right-stop And a b e = omega (arith, join-rank And a b)
+right-stop Or a b e = omega (arith, join-rank Or a b, rank-high a)
+
+join-assoc : (j : Connective) (a b d : Truth) → join3 j (join3 j a b) d ≡ join3 j a (join3 j b d)
+join-assoc And a b d =
+    same-truth _ _ (omega (arith, join-rank And a b, join-rank And b d, join-rank And (and3 a b) d, join-rank And a (and3 b d)))
+join-assoc Or a b d =
+    same-truth _ _ (omega (arith, join-rank Or a b, join-rank Or b d, join-rank Or (or3 a b) d, join-rank Or a (or3 b d)))
+
+-- a row is retained where its value is true
+pub is-kept : (a : Truth) → truthNumber a ≡ truthNumber True → isTrue a ≡ true
 is-kept False e = absurd (omega arith)
 is-kept Unknown e = absurd (omega arith)
 is-kept True e = refl
 
-pub not-kept : (a : Truth) → (truthNumber a ≡ 2 → ⊥) → isTrue a ≡ false
+pub not-kept : (a : Truth) → (truthNumber a ≡ truthNumber True → ⊥) → isTrue a ≡ false
 not-kept False f = refl
 not-kept Unknown f = refl
 not-kept True f = absurd (f refl)
 
 -- ---- SOME and ALL
 
--- the value over no rows, and the one that decides
-abbrev pub emptyTruth : Quantifier → Truth
-emptyTruth Some = False
-emptyTruth All = True
-
-pub empty-rank : (q : Quantifier) → truthNumber (emptyTruth q) ≡ emptyOver q
-empty-rank Some = refl
-empty-rank All = refl
+-- SOME is OR over the rows, ALL is AND
+abbrev pub overRows : Quantifier → Connective
+overRows Some = Or
+overRows All = And
 
 abbrev pub overTwo : Quantifier → Truth → Truth → Truth
-overTwo Some a b = or3 a b
-overTwo All a b = and3 a b
+overTwo q a b = join3 (overRows q) a b
 
-over-none : (q : Quantifier) → over3 q [] ≡ emptyTruth q
+-- the value over no rows, and the one that decides
+over-decides : (q : Quantifier) → truthNumber True - emptyOver q ≡ decidesOf (overRows q)
+over-decides Some = refl
+over-decides All = refl
+
+pub over-none : (q : Quantifier) → over3 q [] ≡ emptyTruth q
 over-none Some = refl
 over-none All = refl
 
@@ -97,28 +109,8 @@ empty-two Some a = refl
 empty-two All a = refl
 
 two-empty : (q : Quantifier) (a : Truth) → overTwo q a (emptyTruth q) ≡ a
-two-empty Some False = refl
-two-empty Some Unknown = refl
-two-empty Some True = refl
-two-empty All False = refl
-two-empty All Unknown = refl
-two-empty All True = refl
-
-two-assoc : (q : Quantifier) (a b d : Truth) → overTwo q (overTwo q a b) d ≡ overTwo q a (overTwo q b d)
-two-assoc Some False b d = refl
-two-assoc Some Unknown False d = refl
-two-assoc Some Unknown Unknown False = refl
-two-assoc Some Unknown Unknown Unknown = refl
-two-assoc Some Unknown Unknown True = refl
-two-assoc Some Unknown True d = refl
-two-assoc Some True b d = refl
-two-assoc All False b d = refl
-two-assoc All Unknown False d = refl
-two-assoc All Unknown Unknown False = refl
-two-assoc All Unknown Unknown Unknown = refl
-two-assoc All Unknown Unknown True = refl
-two-assoc All Unknown True d = refl
-two-assoc All True b d = refl
+two-empty Some a = same-truth _ _ (omega (arith, join-rank Or a False))
+two-empty All a = same-truth _ _ (omega (arith, join-rank And a True, rank-high a))
 
 module _ {A : Type 0} (q : Quantifier) (retained : A → Bool) (f : A → Truth) where
   -- over the rows that are retained, and over all rows
@@ -149,87 +141,54 @@ over-more q zero f = over-cons q (f 0) [] ∙ ap (overTwo q (f 0)) (over-none q)
 over-more q (suc n) f =
     over-cons q (f 0) (tabulate (suc n) (λ k. f (suc k)))
     ∙ ap (overTwo q (f 0)) (over-more q n (λ k. f (suc k)))
-    ∙ sym (two-assoc q (f 0) (over3 q (tabulate n (λ k. f (suc k)))) (f (suc n)))
+    ∙ sym (join-assoc (overRows q) (f 0) (over3 q (tabulate n (λ k. f (suc k)))) (f (suc n)))
     ∙ ap (λ v. overTwo q v (f (suc n))) (sym (over-cons q (f 0) (tabulate n (λ k. f (suc k)))))
 
 -- a row that decides
-pub over-stop : (q : Quantifier) (n : ℕ) (f : ℕ → Truth) (k : ℕ) → k < n → truthNumber (f k) ≡ 2 - emptyOver q → 2 - emptyOver q ≡ truthNumber (over3 q (tabulate n f))
+pub over-stop : (q : Quantifier) (n : ℕ) (f : ℕ → Truth) (k : ℕ) → k < n → truthNumber (f k) ≡ decidesOf (overRows q) → decidesOf (overRows q) ≡ truthNumber (over3 q (tabulate n f))
 over-stop q zero f k l e = absurd (not-suc-le-zero l)
-over-stop q (suc n) f zero l e = first q (f 0) (over3 q (tabulate n (λ k. f (suc k)))) e ∙ ap truthNumber (sym (over-cons q (f 0) _))
-  where
-    first : (q : Quantifier) (a b : Truth) → truthNumber a ≡ 2 - emptyOver q → 2 - emptyOver q ≡ truthNumber (overTwo q a b)
-    first Some a b e = or-stop a b e
-    first All a b e = and-stop a b e
+over-stop q (suc n) f zero l e = left-stop (overRows q) (f 0) _ e ∙ ap truthNumber (sym (over-cons q (f 0) _))
 over-stop q (suc n) f (suc k) l e =
-    later q (f 0) (over3 q (tabulate n (λ k. f (suc k)))) (over-stop q n (λ k. f (suc k)) k (le-of-suc-le-suc l) e) ∙ ap truthNumber (sym (over-cons q (f 0) _))
-  where
-    later : (q : Quantifier) (a b : Truth) → 2 - emptyOver q ≡ truthNumber b → 2 - emptyOver q ≡ truthNumber (overTwo q a b)
-    later Some False b e = e
-    later Some Unknown False e = absurd (omega arith)
-    later Some Unknown Unknown e = absurd (omega arith)
-    later Some Unknown True e = refl
-    later Some True b e = refl
-    later All False b e = refl
-    later All Unknown False e = refl
-    later All Unknown Unknown e = absurd (omega arith)
-    later All Unknown True e = absurd (omega arith)
-    later All True b e = e
+    right-stop (overRows q) (f 0) _ (over-stop q n (λ k. f (suc k)) k (le-of-suc-le-suc l) e) ∙ ap truthNumber (sym (over-cons q (f 0) _))
 
 -- no row has decided yet, and the next one does not
-pub over-on : (q : Quantifier) (a b : Truth) → (truthNumber a ≡ 2 - emptyOver q → ⊥) → (truthNumber b ≡ 2 - emptyOver q → ⊥)
+pub over-on : (q : Quantifier) (a b : Truth) → (truthNumber a ≡ decidesOf (overRows q) → ⊥) → (truthNumber b ≡ decidesOf (overRows q) → ⊥)
     → unlessUnknown (truthNumber b) (truthNumber a) ≡ truthNumber (overTwo q a b)
-over-on Some False False f g = refl
-over-on Some False Unknown f g = refl
-over-on Some False True f g = absurd (g refl)
-over-on Some Unknown False f g = refl
-over-on Some Unknown Unknown f g = refl
-over-on Some Unknown True f g = absurd (g refl)
-over-on Some True b f g = absurd (f refl)
-over-on All False b f g = absurd (f refl)
-over-on All Unknown False f g = absurd (g refl)
-over-on All Unknown Unknown f g = refl
-over-on All Unknown True f g = refl
-over-on All True False f g = absurd (g refl)
-over-on All True Unknown f g = refl
-over-on All True True f g = refl
+over-on Some a False f g = omega (arith, join-rank Or a False)
+over-on Some a Unknown f g = omega (arith, join-rank Or a Unknown, rank-high a)
+over-on Some a True f g = absurd (g refl)
+over-on All a False f g = absurd (g refl)
+over-on All a Unknown f g = omega (arith, join-rank And a Unknown)
+over-on All a True f g = omega (arith, join-rank And a True, rank-high a)
 
--- ---- the value over no rows, as a number: it says which of the two it is, and is not the one that decides
+-- ---- the value over no rows, as a number, is not the one that decides
 
-abbrev pub quantifierBy : ℕ → Quantifier
-quantifierBy zero = Some
-quantifierBy (suc n) = All
-
-pub none-rank : (q : Quantifier) → emptyOver q ≡ truthNumber (over3 q [])
-none-rank Some = refl
-none-rank All = refl
-
-pub none-open : (q : Quantifier) (empty : ℕ) → empty ≡ emptyOver q → empty ≡ 2 - empty → ⊥
-none-open Some empty e f = omega arith
-none-open All empty e f = omega arith
+pub none-open : (q : Quantifier) → emptyOver q ≡ decidesOf (overRows q) → ⊥
+none-open Some e = omega arith
+none-open All e = omega arith
 
 -- a row that does not decide leaves it open
-pub more-open : (q : Quantifier) (empty row value : ℕ) → empty ≡ emptyOver q → (value ≡ 2 - empty → ⊥) → unlessUnknown row value ≡ 2 - empty → ⊥
-more-open q empty row value e f = go (eqb row 1) q e
+pub more-open : (q : Quantifier) (row value : ℕ) → (value ≡ decidesOf (overRows q) → ⊥) → unlessUnknown row value ≡ decidesOf (overRows q) → ⊥
+more-open q row value f = go (eqb row (truthNumber Unknown)) q f
   where
-    go : (b : Bool) (q : Quantifier) → empty ≡ emptyOver q → cond b 1 value ≡ 2 - empty → ⊥
-    go true Some e z = omega arith
-    go true All e z = omega arith
-    go false q e z = f z
+    go : (b : Bool) (q : Quantifier) → (value ≡ decidesOf (overRows q) → ⊥) → cond b (truthNumber Unknown) value ≡ decidesOf (overRows q) → ⊥
+    go true Some f z = omega arith
+    go true All f z = omega arith
+    go false q f z = f z
 
--- a list's kind and its value over no rows say the same
-pub none-of : {kind empty : ℕ} (o : OverNone kind empty) → o .quantifier ≡ quantifierBy empty
-none-of {empty = empty} o = go (o .quantifier) (o .empty-is)
-  where
-    go : (q : Quantifier) → empty ≡ emptyOver q → q ≡ quantifierBy empty
-    go Some e = sym (ap quantifierBy e)
-    go All e = sym (ap quantifierBy e)
+-- ---- lists, by their kinds
 
-pub none-is : {kind empty : ℕ} → OverNone kind empty → empty ≡ emptyOver (quantifierBy empty)
-none-is o = o .empty-is ∙ ap emptyOver (none-of o)
+pub over-none-by : {kind : ℕ} (q : Quantifier) → kind ≡ listKind q → OverNone kind (emptyOver q)
+over-none-by Some e = record { low = omega arith; empty-is = ap (λ (k : ℕ). emptyOver (quantifierOf k)) (sym e) }
+over-none-by All e = record { low = omega arith; empty-is = ap (λ (k : ℕ). emptyOver (quantifierOf k)) (sym e) }
 
-pub none-high : {kind empty : ℕ} → OverNone kind empty → empty ≤ 2
-none-high {empty = empty} o = go (o .quantifier) (o .empty-is)
-  where
-    go : (q : Quantifier) → empty ≡ emptyOver q → empty ≤ 2
-    go Some e = omega arith
-    go All e = omega arith
+pub quantifier-back : (q : Quantifier) → quantifierOf (listKind q) ≡ q
+quantifier-back Some = refl
+quantifier-back All = refl
+
+module _ {kind empty : ℕ} (o : OverNone kind empty) where
+  pub none-high : empty ≤ truthNumber True
+  none-high = omega (arith, o .empty-is, rank-high (emptyTruth (quantifierOf kind)))
+
+  pub none-decides : truthNumber True - empty ≡ decidesOf (overRows (quantifierOf kind))
+  none-decides = ap (truthNumber True -_) (o .empty-is) ∙ over-decides (quantifierOf kind)

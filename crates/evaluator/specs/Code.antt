@@ -3,37 +3,57 @@
 use mathlib.Core.Path.{_≡_}
 use mathlib.Core.Bool.{cond}
 use mathlib.Core.List.{List}
-use Prim.Native.Nat.{ℕ, _+_, _<_, _≤_}
+use Prim.Native.Nat.{ℕ, _+_, _<_, _≤_, min, max}
 use lib.Dec.{eqb}
 use lib.ListN.{length}
 use Rattle.tables.specs.Tables.{columnsOf, tablesOf}
-use Rattle.tables.specs.Values.{Value, Comparison, Quantifier, Some, All, Env, cellOf}
+use Rattle.tables.specs.Values.{mostLevels, Value, Comparison, And, Or, Quantifier, Some, All, Env, cellOf}
 use Rattle.cells.specs.Code.{seenCell}
 use Rattle.cells.specs.declared.Seen.{Seen}
 use Rattle.values.specs.Code.{Readable}
 use Rattle.rule.specs.Condition.{Test, Rule, parts, fromsDeep}
 use Rattle.rule.specs.Names.{mostParts, ValueFits, TestFits, Fits}
-use Rattle.rule.specs.Parts.{AtomHead, ListedHead, listKind, partOf}
-use Rattle.rule.specs.Meaning.{test3, compare3, isTrue, meaning, truthNumber}
+use Rattle.rule.specs.Parts.{AtomHead, ListedHead, joinKind, listKind, partOf}
+use Rattle.rule.specs.Meaning.{Truth, False, Unknown, True, test3, compare3, isTrue, meaning, truthNumber}
 use Rattle.names.specs.Code.{partsSize}
 use Rattle.parser.specs.Parts.{PartAt, Stands}
 
 -- ---- truth values as numbers
 
+-- the value of one side of AND or OR that decides for both, by the kind of the part
+abbrev pub decidedBy : ℕ → ℕ
+decidedBy kind = cond (eqb kind (joinKind And)) (truthNumber False) (truthNumber True)
+
+-- what the two sides come to, by the value that decides: AND takes the lesser, OR the greater
+abbrev pub taken : ℕ → ℕ → ℕ → ℕ
+taken decides a b = cond (eqb decides (truthNumber False)) (min a b) (max a b)
+
+-- a part of this kind is AND or OR, and decides is the value that decides for both sides
+pub record Decides (kind decides : ℕ) : Type 0 where
+  pub low : joinKind And ≤ kind
+  pub high : kind ≤ joinKind Or
+  pub decides-is : decides ≡ decidedBy kind
+
 -- a list's value after one more row
 abbrev pub unlessUnknown : ℕ → ℕ → ℕ
-unlessUnknown row value = cond (eqb row 1) 1 value
+unlessUnknown row value = cond (eqb row (truthNumber Unknown)) (truthNumber Unknown) value
 
--- the value over no rows, as a number, by the kind of a list
+-- the value over no rows, and its number
+abbrev pub emptyTruth : Quantifier → Truth
+emptyTruth Some = False
+emptyTruth All = True
+
 abbrev pub emptyOver : Quantifier → ℕ
-emptyOver Some = 0
-emptyOver All = 2
+emptyOver q = truthNumber (emptyTruth q)
 
--- empty is the value over no rows of a list of this kind
+-- the quantifier of a list, by its kind
+abbrev pub quantifierOf : ℕ → Quantifier
+quantifierOf kind = cond (eqb kind (listKind Some)) Some All
+
+-- a kind from SOME on, which is that of a list in any rule, and empty is the value of such a list over no rows
 pub record OverNone (kind empty : ℕ) : Type 0 where
-  pub quantifier : Quantifier
-  pub kind-is : kind ≡ listKind quantifier
-  pub empty-is : empty ≡ emptyOver quantifier
+  pub low : listKind Some ≤ kind
+  pub empty-is : empty ≡ emptyOver (quantifierOf kind)
 
 -- ---- what evaluating asks, and answers: for whatever levels, rows and rule the numbers stand for
 
@@ -59,7 +79,7 @@ pub record Evaluable (p g file w : List ℕ) (s depth : ℕ) : Type 0 where
   pub few : s + parts rule ≤ mostParts
   pub stands : Stands p s rule
   pub deep : depth ≡ length levels
-  pub room : depth + fromsDeep rule ≤ 4
+  pub room : depth + fromsDeep rule ≤ mostLevels
   pub fits : Fits (columnsOf file) levels rule
 
 abbrev pub Evaluates : (p g file w : List ℕ) (s depth : ℕ) → ℕ → Type 0

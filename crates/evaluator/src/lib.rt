@@ -5,12 +5,12 @@
 ghost use mathlib.Core.Path.{_≡_};
 ghost use Prim.Native.Nat.{_*_, min, max};
 ghost use lib.ListN.{getD};
-ghost use Rattle.tables.specs.Values.{comparisonOf, And, Or};
+ghost use Rattle.tables.specs.Values.{comparisonOf};
 ghost use Rattle.cells.specs.Code.{seenCell};
 ghost use Rattle.rule.specs.Meaning.{truth, compare3, truthNumber};
-ghost use Rattle.rule.specs.Parts.{joinKind, existsKind};
+ghost use Rattle.rule.specs.Parts.{existsKind};
 ghost use Rattle.names.specs.Code.{partSize};
-ghost use Rattle.evaluator.specs.Code.{unlessUnknown, TestReady, TestEvaluated, Evaluable, Evaluates, RowReady, RowEvaluated, OverNone};
+ghost use Rattle.evaluator.specs.Code.{unlessUnknown, TestReady, TestEvaluated, Evaluable, Evaluates, Decides, RowReady, RowEvaluated, OverNone};
 use cells::PLACES;
 use cells::Seen;
 use names::PART_COMPARISON;
@@ -33,9 +33,9 @@ use rule::OR_PART;
 use rule::SOME_PART;
 use values::LEVELS;
 
-const FALSE: usize = 0;
+pub const FALSE: usize = 0;
 
-const UNKNOWN: usize = 1;
+pub const UNKNOWN: usize = 1;
 
 const TRUE: usize = 2;
 
@@ -126,8 +126,8 @@ pub fn evaluate_part(
 {
     let kind = p[PART_FIELDS * s];
     match kind {
-        AND_PART => evaluate_and(p, g, file, s, w, depth),
-        OR_PART => evaluate_or(p, g, file, s, w, depth),
+        AND_PART => evaluate_pair(p, g, file, s, w, depth, FALSE),
+        OR_PART => evaluate_pair(p, g, file, s, w, depth, TRUE),
         NOT_PART => {
             let inner = evaluate_part(p, g, file, s + 1, w, depth);
             TRUE - inner
@@ -139,43 +139,28 @@ pub fn evaluate_part(
     }
 }
 
-fn evaluate_and(
+// AND and OR. decides is the value of one side that decides for both: false of AND, which takes the lesser, and true of OR, which takes the greater.
+fn evaluate_pair(
     p: &[usize; PART_NUMBERS],
     g: &[usize; PLACES],
     file: &[u8],
     s: usize,
     w: &[usize; LEVELS],
     depth: usize,
+    decides: usize,
 ) -> usize
-    requires { ⌜ Evaluable (now p) (now g) (now file) (now w) s depth ⌝ ∗ ⌜ getD (now p) (partSize * s) 0 ≡ joinKind And ⌝ }
+    requires { ⌜ Evaluable (now p) (now g) (now file) (now w) s depth ⌝ ∗ ⌜ Decides (getD (now p) (partSize * s) 0) decides ⌝ }
     ensures { λ r. ⌜ Evaluates (now (p .entry)) (now (g .entry)) (now (file .entry)) (now (w .entry)) s depth r ⌝ }
 {
     let left = evaluate_part(p, g, file, s + 1, w, depth);
-    if left == FALSE {
-        return FALSE;
+    if left == decides {
+        return decides;
     }
     let next = p[PART_FIELDS * (s + 1) + PART_END];
     let right = evaluate_part(p, g, file, next, w, depth);
-    lesser(left, right)
-}
-
-fn evaluate_or(
-    p: &[usize; PART_NUMBERS],
-    g: &[usize; PLACES],
-    file: &[u8],
-    s: usize,
-    w: &[usize; LEVELS],
-    depth: usize,
-) -> usize
-    requires { ⌜ Evaluable (now p) (now g) (now file) (now w) s depth ⌝ ∗ ⌜ getD (now p) (partSize * s) 0 ≡ joinKind Or ⌝ }
-    ensures { λ r. ⌜ Evaluates (now (p .entry)) (now (g .entry)) (now (file .entry)) (now (w .entry)) s depth r ⌝ }
-{
-    let left = evaluate_part(p, g, file, s + 1, w, depth);
-    if left == TRUE {
-        return TRUE;
+    if decides == FALSE {
+        return lesser(left, right);
     }
-    let next = p[PART_FIELDS * (s + 1) + PART_END];
-    let right = evaluate_part(p, g, file, next, w, depth);
     greater(left, right)
 }
 

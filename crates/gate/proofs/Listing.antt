@@ -1,4 +1,4 @@
--- The rows that LIST keeps, row by row, and the copy of them.
+-- The rows that LIST keeps, row by row.
 use mathlib.Core.Path.{_≡_, refl, sym, ap, _∙_}
 use mathlib.Core.Bool.{Bool, true, false}
 use mathlib.Core.List.{List, [], _∷_, _++_, append-nil}
@@ -6,10 +6,10 @@ use Prim.Native.Nat.{ℕ, zero, suc, _+_, _*_, _≤_, _<_}
 use native.Mathlib.Nat.{suc-mul}
 use native.Mathlib.Numerals.{add-one}
 use native.Mathlib.Omega.{arith}
-use lib.ListN.{length, getD, take, drop, set, length-append, length-take, length-set}
-use lib.Seq.{drop-cons, set-at, append-snoc, take-suc, take-suc-set, take-set-le}
+use lib.ListN.{length, take, set, length-append, length-set}
+use lib.Seq.{take-suc-set, take-set-le}
 use Rattle.tables.specs.Lists.{tabulate, put, keep}
-use Rattle.tables.specs.Tables.{rowCount, rowsWhere}
+use Rattle.tables.specs.Tables.{mostRows, rowCount, rowsWhere}
 
 -- ---- the rows of which a test holds
 
@@ -31,16 +31,16 @@ module _ (p : ℕ → Bool) where
 
   -- the first k elements of kept are those
   pub record Kept (kept : List ℕ) (k row : ℕ) : Type 0 where
-    pub size : length kept ≡ 1000
+    pub size : length kept ≡ mostRows
     pub few : k ≤ row
     pub rows : take k kept ≡ keptBelow row
     pub count : k ≡ length (keptBelow row)
 
-  pub kept-none : (kept : List ℕ) → length kept ≡ 1000 → Kept kept 0 0
+  pub kept-none : (kept : List ℕ) → length kept ≡ mostRows → Kept kept 0 0
   kept-none kept h = record { size = h; few = omega arith; rows = refl; count = refl }
 
-  module _ (kept : List ℕ) (k row : ℕ) (h : Kept kept k row) (room : row < 1000) where
-    stored : length (set kept k row) ≡ 1000
+  module _ (kept : List ℕ) (k row : ℕ) (h : Kept kept k row) (room : row < mostRows) where
+    stored : length (set kept k row) ≡ mostRows
     stored = simp length-set (h .size)
 
     pub kept-yes : (next : ℕ) → p row ≡ true → next ≡ k + 1 → Kept (set kept k row) next (row + 1)
@@ -77,14 +77,3 @@ module _ (p : ℕ → Bool) where
 -- the first cell of the next row
 pub next-first : (first row columns : ℕ) → first ≡ row * columns → first + columns ≡ (row + 1) * columns
 next-first first row columns p = let z = suc-mul row columns in rw (add-one row) (omega arith)
-
--- ---- the copy
-
--- one row more
-pub copy-more : (kept before out : List ℕ) (j : ℕ) → j < length kept → j < length before → out ≡ take j kept ++ drop j before
-    → set out j (getD kept j 0) ≡ take (j + 1) kept ++ drop (j + 1) before
-copy-more kept before out j l m h =
-    ap (λ (x : List ℕ). set x j (getD kept j 0)) (h ∙ ap (λ (x : List ℕ). take j kept ++ x) (drop-cons before j 0 m))
-    ∙ set-at (take j kept) (getD before j 0) (drop (suc j) before) (getD kept j 0) j (let z = length-take j kept in omega arith)
-    ∙ sym (append-snoc (take j kept) (getD kept j 0) (drop (suc j) before))
-    ∙ rw (add-one j, take-suc kept j 0 l)

@@ -4,7 +4,8 @@ ghost use mathlib.Core.Bool.{true, false};
 ghost use mathlib.Core.List.{_++_};
 ghost use Prim.Native.Nat.{_+_, _*_, _<_, _≤_};
 ghost use lib.ListN.{length, take, drop};
-ghost use Rattle.cells.specs.Code.{Sized};
+ghost use Rattle.tables.specs.Tables.{mostRows};
+ghost use Rattle.cells.specs.Code.{Sized, placesSize};
 ghost use Rattle.card.specs.Calls.{fitsTables, yesRows, runCall, listCall};
 ghost use Rattle.decoder.specs.Code.{Laid, Roomy};
 ghost use Rattle.gate.specs.Answers.{ranAnswer, listedAnswer};
@@ -48,7 +49,7 @@ enum Prepared {
 
 // What RUN and LIST look at first: refusals 1, 2, 9 and 10. Where none applies, d has the card's entries and g the tables' places.
 fn prepare(card: &[u8], file: &[u8], d: &mut [usize], g: &mut [usize; PLACES]) -> Prepared
-    requires { ⌜ Roomy (now card) (now d) ⌝ ∗ ⌜ length (now g) ≡ 27 ⌝ }
+    requires { ⌜ Roomy (now card) (now d) ⌝ ∗ ⌜ length (now g) ≡ placesSize ⌝ }
     ensures answer { λ r. ⌜ preparedAnswer r ≡ prepareCall (now (card .entry)) (now (file .entry)) ⌝ }
     ensures opened { λ r. ⌜ (r ≡ Prepared.Ready → Opened (now (card .entry)) (now (file .entry)) (now (d .exit)) (now (g .exit))) ⌝ }
 {
@@ -122,10 +123,10 @@ fn keep_rows(
     g: &[usize; PLACES],
     kept: &mut [u32; MOST_ROWS],
 ) -> usize
-    requires { ⌜ Opened (now card) (now file) (now d) (now g) ⌝ ∗ ⌜ length (now kept) ≡ 1000 ⌝ }
+    requires { ⌜ Opened (now card) (now file) (now d) (now g) ⌝ ∗ ⌜ length (now kept) ≡ mostRows ⌝ }
     ensures rows { λ k. ⌜ take k (now (kept .exit)) ≡ yesRows (now (card .entry)) (now (file .entry)) ⌝ }
     ensures count { λ k. ⌜ k ≡ length (yesRows (now (card .entry)) (now (file .entry))) ⌝ }
-    ensures size { λ k. ⌜ (k ≤ 1000) × (length (now (kept .exit)) ≡ 1000) ⌝ }
+    ensures size { λ k. ⌜ (k ≤ mostRows) × (length (now (kept .exit)) ≡ mostRows) ⌝ }
 {
     let n = cells::read16(card, 0);
     let table = cells::table_place(g, 1);
@@ -148,7 +149,7 @@ fn keep_rows(
 
 // The first k elements of kept to the start of out.
 fn copy_rows(kept: &[u32; MOST_ROWS], k: usize, out: &mut [u32])
-    requires { ⌜ length (now kept) ≡ 1000 ⌝ ∗ ⌜ k ≤ 1000 ⌝ ∗ ⌜ k ≤ length (now out) ⌝ }
+    requires { ⌜ length (now kept) ≡ mostRows ⌝ ∗ ⌜ k ≤ mostRows ⌝ ∗ ⌜ k ≤ length (now out) ⌝ }
     ensures { λ _. ⌜ now (out .exit) ≡ take k (now (kept .entry)) ++ drop k (now (out .entry)) ⌝ }
 {
     let mut j: usize = 0;

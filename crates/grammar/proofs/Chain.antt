@@ -1,42 +1,81 @@
--- What the loops of `read_condition` and `read_conjunction` keep, and what one turn does to it: stated once, over the connective.
+-- What the loop of `read_joined` keeps, and what one turn does to it, over the connective.
 use mathlib.Core.Path.{_≡_, refl, sym, ap, ap₂, _∙_}
-use mathlib.Core.List.{List, _++_}
+use mathlib.Core.Bool.{Bool, true, false}
+use mathlib.Core.List.{List, [], _++_, append-nil}
 use mathlib.Core.Option.{Option, none, some}
 use Prim.Native.Nat.{ℕ, _+_, _*_, _≤_, _<_, max}
 use native.Mathlib.Omega.{arith}
+use lib.Dec.{T}
 use lib.ListN.{length, take, getD}
+use Rattle.tables.specs.Bytes.{between}
 use Rattle.tables.specs.Lists.{_>>=_}
 use Rattle.tables.specs.Values.{Connective, And, Or}
+use Rattle.tables.proofs.Tests.{bounds}
 use Rattle.rule.specs.Condition.{Join, WrittenCondition, parts, fromsDeep}
 use Rattle.rule.specs.Grammar.{Tokens}
-use Rattle.rule.specs.Reader.{branch, reading}
-use Rattle.rule.proofs.Steps.{chain, operand, more, sign, reading-chain, reading-more}
-use Rattle.grammar.specs.Code.{noteNumbers, plainNoteNumbers, noted, tokensFrom, Moved, Ready, Reads}
-use Rattle.grammar.specs.declared.Note.{Note}
-use Rattle.grammar.proofs.Tokens.{there, expect-yes, expect-no}
-use Rattle.grammar.proofs.Noting.{Noted, both-noted, one-noted}
+use Rattle.rule.specs.Names.{mostParts}
+use Rattle.rule.specs.Tokens.{Fixed}
+use Rattle.rule.specs.Calls.{isThere}
+use Rattle.rule.specs.Reader.{expect, branch, reading, chain, operand, more, joinWord}
+use Rattle.rule.proofs.Steps.{reading-chain, reading-more}
+use Rattle.lexer.specs.Code.{comparesCode}
+use Rattle.phrases.specs.Code.{noted, tokensFrom, Moved}
+use Rattle.grammar.specs.Code.{noteSize, notesSize, joinParts, joinNumbers, Ready, Reads}
+use Rattle.phrases.proofs.Tokens.{there, expect-to, expect-no}
+use Rattle.grammar.proofs.Noting.{Noted, both-noted}
 
--- a connective's sign is a token, and its part is noted behind its two sides
-sign-above : (j : Connective) → 0 < sign j
-sign-above And = omega arith
-sign-above Or = omega arith
+-- a connective's word is a token
+word-code : (j : Connective) → T (between 1 comparesCode (joinWord j))
+word-code And = tt
+word-code Or = tt
 
-sign-below : (j : Connective) → sign j < 65
-sign-below And = omega arith
-sign-below Or = omega arith
+-- ---- an operand, and those before it, if there are any
 
-join-noted : (j : Connective) (a b : WrittenCondition) → noted (Join j a b) ≡ noted a ++ (noted b ++ plainNoteNumbers (sign j))
-unfolding noted
-join-noted And a b = refl
-join-noted Or a b = refl
+abbrev joinTo : Connective → Option WrittenCondition → WrittenCondition → WrittenCondition
+joinTo j none b = b
+joinTo j (some a) b = Join j a b
 
-join-parts : (j : Connective) (a b : WrittenCondition) → parts (Join j a b) ≡ 1 + parts a + parts b
+abbrev partsBefore : Option WrittenCondition → ℕ
+partsBefore none = 0
+partsBefore (some a) = parts a
+
+abbrev deepBefore : Option WrittenCondition → ℕ
+deepBefore none = 0
+deepBefore (some a) = fromsDeep a
+
+abbrev notedBefore : Option WrittenCondition → List ℕ
+notedBefore none = []
+notedBefore (some a) = noted a
+
+join-parts : (j : Connective) (left : Option WrittenCondition) (b : WrittenCondition) → parts (joinTo j left b) ≡ partsBefore left + parts b + joinParts (isThere left)
 unfolding parts
-join-parts j a b = refl
+join-parts j none b = omega arith
+join-parts j (some a) b = omega arith
 
-join-deep : (j : Connective) (a b : WrittenCondition) → fromsDeep (Join j a b) ≡ max (fromsDeep a) (fromsDeep b)
+join-deep : (j : Connective) (left : Option WrittenCondition) (b : WrittenCondition) → fromsDeep (joinTo j left b) ≡ max (deepBefore left) (fromsDeep b)
 unfolding fromsDeep
-join-deep j a b = refl
+join-deep j none b = omega arith
+join-deep j (some a) b = refl
+
+join-noted : (j : Connective) (left : Option WrittenCondition) (b : WrittenCondition) → noted (joinTo j left b) ≡ notedBefore left ++ (noted b ++ joinNumbers (isThere left) j)
+unfolding noted
+join-noted j none b = sym (append-nil (noted b))
+join-noted j (some a) b = refl
+
+-- ---- the operands read so far
+
+-- before an operand, the first or one behind the connective's word: what stands left of it, which the rest at `next` makes whole
+pub record Before (j : Connective) (s : List ℕ) (at w : ℕ) (old : List ℕ) (joins : Bool) (out : List ℕ) (next n d : ℕ) : Type 0 where
+  pub left : Option WrittenCondition
+  pub first : joins ≡ isThere left
+  pub same : reading (chain j) (tokensFrom s at) ≡ (reading (operand j) (tokensFrom s next) >>= (λ b. reading (more j (joinTo j left (b .0))) (b .1)))
+  pub later : at ≤ next
+  pub within : next ≤ length s
+  pub count : n ≡ w + partsBefore left
+  pub froms : d ≡ deepBefore left
+  pub used : n + at + joinParts joins ≤ next + w
+  pub notes : Noted old out w n (notedBefore left)
+  pub size : length out ≡ notesSize
 
 -- after some operands: the tree so far, from which the rest at `next` gives the whole
 pub record SoFar (j : Connective) (s : List ℕ) (at w : ℕ) (old out : List ℕ) (next n d : ℕ) : Type 0 where
@@ -47,37 +86,61 @@ pub record SoFar (j : Connective) (s : List ℕ) (at w : ℕ) (old out : List �
   pub froms : d ≡ fromsDeep tree
   pub used : n + at ≤ next + w
   pub notes : Noted old out w n (noted tree)
-  pub size : length out ≡ 512
-
--- the same, whatever was noted before the first operand: a loop knows the parts as they are where it begins
-pub record Kept (j : Connective) (s : List ℕ) (at w : ℕ) (begun : List ℕ) (first count deep : ℕ) (out : List ℕ) (next n d : ℕ) : Type 0 where
-  pub since : (old : List ℕ) → Reads (reading (operand j) (tokensFrom s at)) s at w old begun first count deep → SoFar j s at w old out next n d
 
 module _ (j : Connective) (s : List ℕ) (at : ℕ) where
-  pub begins : {w : ℕ} {old out : List ℕ} {next n d : ℕ} → Reads (reading (operand j) (tokensFrom s at)) s at w old out next n d → length out ≡ 512 → SoFar j s at w old out next n d
-  begins r z =
-      record {
-        tree = r .tree;
-        same = reading-chain j (tokensFrom s at) ∙ ap (_>>= (λ a. reading (more j (a .0)) (a .1))) (r .reads);
-        moved = r .moved;
-        count = r .count;
-        froms = r .froms;
-        used = r .used;
-        notes = record { first = r .notes };
-        size = z;
-      }
+  pub begins : {w : ℕ} {old : List ℕ} → Ready s at w old → Before j s at w old false old at w 0
+  begins {w} {old} r = record {
+    left = none;
+    first = refl;
+    same = reading-chain j (tokensFrom s at);
+    later = omega arith;
+    within = r .within;
+    count = omega arith;
+    froms = refl;
+    used = omega arith;
+    notes = record { first = λ h. sym (append-nil (take (noteSize * w) old)) };
+    size = r .size;
+  }
 
-  pub begins-not : reading (operand j) (tokensFrom s at) ≡ none → reading (chain j) (tokensFrom s at) ≡ none
-  begins-not e = reading-chain j (tokensFrom s at) ∙ ap (_>>= (λ a. reading (more j (a .0)) (a .1))) e
+  module _ {w : ℕ} {old : List ℕ} {joins : Bool} {out : List ℕ} {next n d : ℕ} (f : Before j s at w old joins out next n d) where
+    pub ready : Ready s at w old → Ready s next n out
+    ready r = record { short = r .short; within = f .within; few = omega (arith, f .used, r .few); size = f .size }
+
+    pub turns-not : reading (operand j) (tokensFrom s next) ≡ none → reading (chain j) (tokensFrom s at) ≡ none
+    turns-not e = f .same ∙ ap (_>>= (λ b. reading (more j (joinTo j (f .left) (b .0))) (b .1))) e
+
+    -- one operand more
+    pub turns : {mid new : List ℕ} {behind m e k g : ℕ} → Reads (reading (operand j) (tokensFrom s next)) s next n out mid behind m e
+        → k ≡ m + joinParts joins → (k ≤ mostParts → take (noteSize * k) new ≡ take (noteSize * m) mid ++ joinNumbers joins j) → g ≡ max d e
+        → SoFar j s at w old new behind k g
+    turns r grows put deeper =
+        let b : WrittenCondition = r .tree in
+        let p : parts (joinTo j (f .left) b) ≡ partsBefore (f .left) + parts b + joinParts joins = rw (f .first) (join-parts j (f .left) b) in
+        let q : noted (joinTo j (f .left) b) ≡ notedBefore (f .left) ++ (noted b ++ joinNumbers joins j) = rw (f .first) (join-noted j (f .left) b) in
+        let noting = both-noted (omega (arith, r .count)) (f .notes) (both-noted (omega arith) (record { first = r .notes }) (record { first = put })) in
+        record {
+          tree = joinTo j (f .left) b;
+          same = f .same ∙ ap (_>>= (λ b. reading (more j (joinTo j (f .left) (b .0))) (b .1))) (r .reads);
+          moved = record { later = omega (arith, f .later, r .moved .later); within = r .moved .within };
+          count = omega (arith, f .count, r .count);
+          froms = deeper ∙ ap₂ max (f .froms) (r .froms) ∙ sym (join-deep j (f .left) b);
+          used = omega (arith, f .used, r .used);
+          notes = rw q noting;
+        }
 
   module _ {w : ℕ} {old out : List ℕ} {next n d : ℕ} (f : SoFar j s at w old out next n d) where
+    rest : {o : Option Tokens} → expect (Fixed (joinWord j)) (tokensFrom s next) ≡ o
+        → reading (chain j) (tokensFrom s at) ≡ branch o (λ us. reading (operand j) us >>= (λ b. reading (more j (Join j (f .tree) (b .0))) (b .1))) (λ _. some (f .tree, tokensFrom s next))
+    rest e =
+        f .same ∙ reading-more j (f .tree) (tokensFrom s next)
+        ∙ ap (λ (o : Option Tokens). branch o (λ us. reading (operand j) us >>= (λ b. reading (more j (Join j (f .tree) (b .0))) (b .1))) (λ _. some (f .tree, tokensFrom s next))) e
+
     -- no operand more
-    pub ends : (getD s next 0 ≡ sign j → ⊥) → Reads (reading (chain j) (tokensFrom s at)) s at w old out next n d
+    pub ends : (getD s next 0 ≡ joinWord j → ⊥) → Reads (reading (chain j) (tokensFrom s at)) s at w old out next n d
     ends t =
         record {
           tree = f .tree;
-          reads = f .same ∙ reading-more j (f .tree) (tokensFrom s next)
-              ∙ ap (λ (o : Option Tokens). branch o (λ us. reading (operand j) us >>= (λ b. reading (more j (Join j (f .tree) (b .0))) (b .1))) (λ _. some (f .tree, tokensFrom s next))) (expect-no s next (sign j) t);
+          reads = rest (expect-no s next (joinWord j) t);
           moved = f .moved;
           count = f .count;
           froms = f .froms;
@@ -85,40 +148,19 @@ module _ (j : Connective) (s : List ℕ) (at : ℕ) where
           notes = f .notes .first;
         }
 
-    -- one operand more
-    module _ (t : getD s next 0 ≡ sign j) where
-      pub ready : Ready s at w old → Ready s (next + 1) n out
-      ready r =
-          let l : next < length s = there s next (omega (arith, sign-above j)) in
-          record { short = r .short; within = omega arith; few = omega (arith, f .used, r .few); size = f .size }
-
-      goes-on : reading (chain j) (tokensFrom s at) ≡ (reading (operand j) (tokensFrom s (next + 1)) >>= (λ b. reading (more j (Join j (f .tree) (b .0))) (b .1)))
-      goes-on =
-          f .same ∙ reading-more j (f .tree) (tokensFrom s next)
-          ∙ ap (λ (o : Option Tokens). branch o (λ us. reading (operand j) us >>= (λ b. reading (more j (Join j (f .tree) (b .0))) (b .1))) (λ _. some (f .tree, tokensFrom s next)))
-          (expect-yes s next (sign j) (sign-above j) (sign-below j) t)
-
-      pub turns-not : reading (operand j) (tokensFrom s (next + 1)) ≡ none → reading (chain j) (tokensFrom s at) ≡ none
-      turns-not e = goes-on ∙ ap (_>>= (λ b. reading (more j (Join j (f .tree) (b .0))) (b .1))) e
-
-      pub turns : {mid new : List ℕ} {behind m e g : ℕ} → Reads (reading (operand j) (tokensFrom s (next + 1))) s (next + 1) n out mid behind m e
-          → (note : Note) → noteNumbers note ≡ plainNoteNumbers (sign j) → (m < 64 → take (8 * (m + 1)) new ≡ take (8 * m) mid ++ noteNumbers note)
-          → length new ≡ 512 → g ≡ max d e → SoFar j s at w old new behind (m + 1) g
-      turns {mid} {new} {behind} {m} {e} r note plain put z deeper =
-          let a : WrittenCondition = f .tree in
-          let b : WrittenCondition = r .tree in
-          let p : n ≡ w + parts a = f .count in
-          let q : m ≡ n + parts b = r .count in
-          let u : n + at ≤ next + w = f .used in
-          let v : m + (next + 1) ≤ behind + n = r .used in
-          let noting = both-noted {n = n} (omega arith) (f .notes) (both-noted {n = m} (omega arith) (record { first = r .notes }) (one-noted note plain put)) in
-          record {
-            tree = Join j a b;
-            same = goes-on ∙ ap (_>>= (λ b. reading (more j (Join j (f .tree) (b .0))) (b .1))) (r .reads);
-            moved = record { later = omega (arith, f .moved .later, r .moved .later); within = r .moved .within };
-            count = rw (join-parts j a b) (omega arith);
-            froms = deeper ∙ ap₂ max (f .froms) (r .froms) ∙ sym (join-deep j a b);
-            used = omega arith;
-            notes = rw (join-noted j a b) noting;
-            size = z;
-          }
+    -- the connective's word, and what follows it
+    pub goes-on : getD s next 0 ≡ joinWord j → length out ≡ notesSize → Before j s at w old true out (next + 1) n d
+    goes-on t size =
+        let l : next < length s = there s next (omega (arith, bounds 1 comparesCode (joinWord j) (word-code j) .0)) in
+        record {
+          left = some (f .tree);
+          first = refl;
+          same = rest (expect-to s next (joinWord j) (next + 1) (word-code j) refl t);
+          later = omega (arith, f .moved .later);
+          within = omega arith;
+          count = f .count;
+          froms = f .froms;
+          used = omega (arith, f .used);
+          notes = f .notes;
+          size = size;
+        }

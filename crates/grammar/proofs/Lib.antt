@@ -1,7 +1,3 @@
-pub mod Tokens
-pub mod Runs
-pub mod Begun
-pub mod Following
 pub mod Noting
 pub mod Chain
 pub mod Tests

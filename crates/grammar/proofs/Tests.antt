@@ -6,17 +6,19 @@ use Prim.Native.Nat.{ℕ, suc, _+_, _*_, _-_, _≤_, _<_}
 use native.Mathlib.Omega.{arith}
 use lib.ListN.{length, take, getD}
 use Rattle.tables.specs.Lists.{_>>=_}
-use Rattle.rule.specs.Tokens.{Close}
+use Rattle.rule.specs.Tokens.{NOT, Close}
 use Rattle.rule.specs.Condition.{Atom, Join, Not, Exists, Listed, WrittenCondition, parts, fromsDeep}
+use Rattle.rule.specs.Names.{mostParts}
 use Rattle.rule.specs.Grammar.{Tokens}
 use Rattle.rule.specs.Reader.{expect, Opening, Bracket, closed, Start, start, condition, factor, test, Found, branch, started, closing, reading, atEnd, readAll}
 use Rattle.rule.proofs.Steps.{reading-factor, reading-test, reading-all}
-use Rattle.lexer.specs.Code.{tokensIn}
-use Rattle.grammar.specs.Code.{noteNumbers, notNumbers, noted, underNots, tokensFrom, WholeIs, AroundIs, BracketIs, NotsTo, Reads, ReadsAs, closedReading, WholeReading}
-use Rattle.grammar.specs.declared.Note.{Note}
+use Rattle.lexer.specs.Code.{codeOf, tokensIn}
+use Rattle.phrases.specs.Code.{noteNumbers, noted, tokensFrom, WholeIs, AroundIs, BracketIs}
+use Rattle.grammar.specs.Code.{noteSize, notNumbers, underNots, NotsTo, Ready, Reads, ReadsAs, closedReading, WholeReading}
+use Rattle.phrases.specs.declared.Note.{Note}
 use Rattle.grammar.specs.declared.Step.{Step}
 use Rattle.grammar.specs.declared.Step.the-variants.{Next, NoReading}
-use Rattle.grammar.proofs.Tokens.{there, from-here, from-end, expect-yes, expect-no}
+use Rattle.phrases.proofs.Tokens.{there, from-here, from-end, expect-to, expect-no}
 use Rattle.grammar.proofs.Noting.{Noted, both-noted, one-noted, noted-nots, parts-nots, deep-nots, nots-not}
 
 -- ---- a factor: NOTs, and a test
@@ -44,12 +46,12 @@ module _ (s : List ℕ) (at : ℕ) where
   negated-none h = record { later = omega arith; within = h; so-far = no-nots (at - at) (reading factor (tokensFrom s at)) (omega arith) }
 
   module _ {i : ℕ} (f : Negated s at i) where
-    pub negated-once : getD s i 0 ≡ 3 → Negated s at (i + 1)
+    pub negated-once : getD s i 0 ≡ codeOf NOT → Negated s at (i + 1)
     negated-once t =
         let l : i < length s = there s i (omega arith) in
         let k : i + 1 - at ≡ suc (i - at) = omega (arith, f .later) in
         let e : reading factor (tokensFrom s i) ≡ (reading factor (tokensFrom s (i + 1)) >>= negate 1) =
-        reading-factor (tokensFrom s i) ∙ ap (λ (o : Option Tokens). branch o (λ us. reading factor us >>= negate 1) (λ _. reading test (tokensFrom s i))) (expect-yes s i 3 (omega arith) (omega arith) t) in
+        reading-factor (tokensFrom s i) ∙ ap (λ (o : Option Tokens). branch o (λ us. reading factor us >>= negate 1) (λ _. reading test (tokensFrom s i))) (expect-to s i (codeOf NOT) (i + 1) tt refl t) in
         record {
           later = omega (arith, f .later);
           within = omega arith;
@@ -57,10 +59,10 @@ module _ (s : List ℕ) (at : ℕ) where
               ∙ ap (λ (n : ℕ). reading factor (tokensFrom s (i + 1)) >>= negate n) (sym k);
         }
 
-    pub negated-test : (getD s i 0 ≡ 3 → ⊥) → NotsTo s at i
+    pub negated-test : (getD s i 0 ≡ codeOf NOT → ⊥) → NotsTo s at i
     negated-test t =
         let e : reading factor (tokensFrom s i) ≡ reading test (tokensFrom s i) =
-        reading-factor (tokensFrom s i) ∙ ap (λ (o : Option Tokens). branch o (λ us. reading factor us >>= negate 1) (λ _. reading test (tokensFrom s i))) (expect-no s i 3 t) in
+        reading-factor (tokensFrom s i) ∙ ap (λ (o : Option Tokens). branch o (λ us. reading factor us >>= negate 1) (λ _. reading test (tokensFrom s i))) (expect-no s i (codeOf NOT) t) in
         record { later = f .later; within = f .within; skipped = f .so-far ∙ ap (_>>= negate (i - at)) e }
 
 module _ {s : List ℕ} {at i : ℕ} (t : NotsTo s at i) where
@@ -68,7 +70,7 @@ module _ {s : List ℕ} {at i : ℕ} (t : NotsTo s at i) where
   factor-not e = t .skipped ∙ ap (_>>= negate (i - at)) e
 
   pub factor-reads : {w : ℕ} {old mid new : List ℕ} {next n d : ℕ} → Reads (reading test (tokensFrom s i)) s i w old mid next n d
-      → (n + (i - at) ≤ 64 → take (8 * (n + (i - at))) new ≡ take (8 * n) mid ++ notNumbers (i - at))
+      → (n + (i - at) ≤ mostParts → take (noteSize * (n + (i - at))) new ≡ take (noteSize * n) mid ++ notNumbers (i - at))
       → Reads (reading factor (tokensFrom s at)) s at w old new next (n + (i - at)) d
   factor-reads {w} {old} {mid} {new} {next} {n} {d} r put =
       let a : WrittenCondition = r .tree in
@@ -101,24 +103,35 @@ deep-parts (Listed q op l s f a) = omega (arith, deep-parts a)
 pub shallow : {found : Found} {s : List ℕ} {at w : ℕ} {old new : List ℕ} {next n d : ℕ} → Reads found s at w old new next n d → d ≤ n
 shallow r = omega (arith, r .count, r .froms, deep-parts (r .tree))
 
+-- ---- a reading inside another, which begins no later, ends no earlier, and has the same parts
+
+reads-around : {found around : Found} {s : List ℕ} {at before w : ℕ} {old new : List ℕ} {next behind n d : ℕ} (r : Reads found s at w old new next n d)
+    → before ≤ at → next ≤ behind → behind ≤ length s → around ≡ some (r .tree, tokensFrom s behind) → Reads around s before w old new behind n d
+reads-around r p q l e = record {
+  tree = r .tree;
+  reads = e;
+  moved = record { later = omega (arith, r .moved .later); within = l };
+  count = r .count;
+  froms = r .froms;
+  used = omega (arith, r .used);
+  notes = r .notes;
+}
+
+-- what a reader asks, at a later place
+pub ready-at : {s : List ℕ} {at next w : ℕ} {out : List ℕ} → Ready s at w out → at ≤ next → next ≤ length s → Ready s next w out
+ready-at r p l = record { short = r .short; within = l; few = omega (arith, r .few); size = r .size }
+
 -- ---- a condition in brackets
 
 module _ {s : List ℕ} {at w : ℕ} {old new : List ℕ} {next n d : ℕ} (r : Reads (reading condition (tokensFrom s at)) s at w old new next n d) where
-  pub closed-reads : getD s next 0 ≡ 14 → Reads (closedReading (tokensFrom s at)) s at w old new (next + 1) n d
+  pub closed-reads : getD s next 0 ≡ codeOf Close → Reads (closedReading (tokensFrom s at)) s at w old new (next + 1) n d
   closed-reads t =
       let l : next < length s = there s next (omega arith) in
-      record {
-        tree = r .tree;
-        reads = ap (_>>= closing Bracket) (r .reads) ∙ ap (_>>= (λ rest. some (r .tree, rest))) (expect-yes s next 14 (omega arith) (omega arith) t);
-        moved = record { later = omega (arith, r .moved .later); within = omega arith };
-        count = r .count;
-        froms = r .froms;
-        used = omega (arith, r .used);
-        notes = r .notes;
-      }
+      reads-around r (omega arith) (omega arith) (omega arith)
+      (ap (_>>= closing Bracket) (r .reads) ∙ ap (_>>= (λ rest. some (r .tree, rest))) (expect-to s next (codeOf Close) (next + 1) tt refl t))
 
-  pub closed-not : (getD s next 0 ≡ 14 → ⊥) → closedReading (tokensFrom s at) ≡ none
-  closed-not t = ap (_>>= closing Bracket) (r .reads) ∙ ap (_>>= (λ rest. some (r .tree, rest))) (expect-no s next 14 t)
+  pub closed-not : (getD s next 0 ≡ codeOf Close → ⊥) → closedReading (tokensFrom s at) ≡ none
+  closed-not t = ap (_>>= closing Bracket) (r .reads) ∙ ap (_>>= (λ rest. some (r .tree, rest))) (expect-no s next (codeOf Close) t)
 
 pub unread-not : (ts : Tokens) → reading condition ts ≡ none → closedReading ts ≡ none
 unread-not ts e = ap (_>>= closing Bracket) e
@@ -144,7 +157,7 @@ module _ (s : List ℕ) (at : ℕ) where
   pub test-not : start (tokensFrom s at) ≡ none → reading test (tokensFrom s at) ≡ none
   test-not e = begins e
 
-  pub whole-reads : {note : Note} {next : ℕ} → WholeIs s at (start (tokensFrom s at)) note next → {w : ℕ} {old new : List ℕ} → (w < 64 → take (8 * (w + 1)) new ≡ take (8 * w) old ++ noteNumbers note)
+  pub whole-reads : {note : Note} {next : ℕ} → WholeIs s at (start (tokensFrom s at)) note next → {w : ℕ} {old new : List ℕ} → (w < mostParts → take (noteSize * (w + 1)) new ≡ take (noteSize * w) old ++ noteNumbers note)
       → Reads (reading test (tokensFrom s at)) s at w old new next (w + 1) 0
   whole-reads {note} {next} f {w} {old} {new} put =
       record {
@@ -163,16 +176,7 @@ module _ (s : List ℕ) (at : ℕ) where
   pub bracket-reads : {next : ℕ} → BracketIs s at (start (tokensFrom s at)) next → (w : ℕ) (old new : List ℕ) (r : Step) → ReadsAs (closedReading (tokensFrom s next)) s next w old new r
       → ReadsAs (reading test (tokensFrom s at)) s at w old new r
   bracket-reads f w old new NoReading e = bracket-same f ∙ e
-  bracket-reads f w old new (Next behind n d) r =
-      record {
-        tree = r .tree;
-        reads = bracket-same f ∙ r .reads;
-        moved = record { later = omega (arith, f .moved .later, r .moved .later); within = r .moved .within };
-        count = r .count;
-        froms = r .froms;
-        used = omega (arith, f .moved .later, r .used);
-        notes = r .notes;
-      }
+  bracket-reads f w old new (Next behind n d) r = reads-around r (omega (arith, f .moved .later)) (omega arith) (r .moved .within) (bracket-same f ∙ r .reads)
 
   module _ {note : Note} {next : ℕ} (f : AroundIs s at (start (tokensFrom s at)) note next) where
     around-same : reading test (tokensFrom s at) ≡ (closedReading (tokensFrom s next) >>= put-around (f .opening))
@@ -182,7 +186,7 @@ module _ (s : List ℕ) (at : ℕ) where
     around-not e = around-same ∙ ap (_>>= put-around (f .opening)) e
 
     pub around-reads : {w : ℕ} {old mid new : List ℕ} {behind n d : ℕ} → Reads (closedReading (tokensFrom s next)) s next w old mid behind n d
-        → (n < 64 → take (8 * (n + 1)) new ≡ take (8 * n) mid ++ noteNumbers note) → Reads (reading test (tokensFrom s at)) s at w old new behind (n + 1) (d + 1)
+        → (n < mostParts → take (noteSize * (n + 1)) new ≡ take (noteSize * n) mid ++ noteNumbers note) → Reads (reading test (tokensFrom s at)) s at w old new behind (n + 1) (d + 1)
     around-reads {w} {old} {mid} {new} {behind} {n} {d} r put =
         let a : WrittenCondition = r .tree in
         let x : Noted old mid w n (noted a) = record { first = r .notes } in

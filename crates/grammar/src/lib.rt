@@ -3,46 +3,30 @@
 ghost use mathlib.Core.Path.{_≡_};
 ghost use mathlib.Core.List.{_++_};
 ghost use Prim.Native.Nat.{max, _+_, _*_, _<_, _≤_};
-ghost use lib.ListN.{length, take, getD};
+ghost use lib.ListN.{length, take};
 ghost use Rattle.rule.specs.Names.{mostParts};
-ghost use Rattle.rule.specs.Reader.{condition, conjunction, factor, test};
-ghost use Rattle.grammar.specs.Code.{noteSize, notesSize, noteNumbers, leftNumbers, notNumbers, ValueAt, FromAt, ListAt, BehindAt, TestAt, NotsTo, Ready, ReadsTo, ReadsClosed, ReadsAll};
-use lexer::ALL;
+ghost use Rattle.rule.specs.Parts.{joinKind};
+ghost use Rattle.rule.specs.Reader.{condition, conjunction, factor, test, chain, operand, joinWord};
+ghost use Rattle.lexer.specs.Code.{mostTokens};
+ghost use Rattle.phrases.specs.Code.{noteNumbers, leftNumbers};
+ghost use Rattle.grammar.specs.Code.{noteSize, notesSize, notNumbers, joinedBy, joinParts, joinNumbers, NotsTo, Ready, ReadsTo, ReadsClosed, ReadsAll};
 use lexer::AND;
 use lexer::CLOSE;
-use lexer::COMPARES;
-use lexer::EXISTS;
-use lexer::FROM;
-use lexer::IN;
-use lexer::IS;
 use lexer::NOT;
-use lexer::NULL;
-use lexer::NUMBER;
-use lexer::OPEN;
 use lexer::OR;
-use lexer::POINT;
-use lexer::SELECT;
-use lexer::SOME;
-use lexer::WHERE;
-use rule::ALL_PART;
+use phrases::Note;
+use phrases::Start;
+use phrases::left_note;
+use phrases::start_test;
+use phrases::token;
 use rule::AND_PART;
-use rule::COMPARISON_PART;
-use rule::EXISTS_PART;
-use rule::NOT_NULL_PART;
 use rule::NOT_PART;
-use rule::NULL_PART;
 use rule::OR_PART;
-use rule::SOME_PART;
 
 // Limits on a rule.
 pub const MOST_PARTS: usize = 64;
 
 pub const MOST_FROMS: usize = 3;
-
-// The numbers of the comparisons that IN and NOT IN stand for.
-const EQUAL: usize = 1;
-
-const NOT_EQUAL: usize = 2;
 
 // The numbers that a part is noted as, and those of all parts.
 pub const NOTE_FIELDS: usize = 8;
@@ -64,39 +48,6 @@ pub const NOTE_RIGHT_LETTER: usize = 6;
 
 const NOTE_RIGHT_NUMBER: usize = 7;
 
-// What a part says by itself, as it is written: its kind and comparison as published, the number and the letter of its FROM, and its values. Numbers
-// are the written ones plus 2 ^ 31; the letter of a constant is 0, and so is whatever a kind does not use.
-pub struct Note {
-    pub kind: usize,
-    pub comparison: usize,
-    pub table: usize,
-    pub letter: usize,
-    pub left_letter: usize,
-    pub left_number: usize,
-    pub right_letter: usize,
-    pub right_number: usize,
-}
-
-// A value, its letter and its number, and the place after it.
-pub enum ValueRead {
-    Value(usize, usize, usize),
-    NoValue,
-}
-
-// FROM number letter WHERE: the number, the letter, and the place after it.
-pub enum FromRead {
-    From(usize, usize, usize),
-    NoFrom,
-}
-
-// How a test begins: it is read to its end; or up to the condition that it holds, in brackets alone or as a part of its own; or there is no test.
-pub enum Start {
-    Whole { note: Note, next: usize },
-    Around { note: Note, next: usize },
-    Bracket { next: usize },
-    NoTest,
-}
-
 // What a reader answers: the place after what it read, how many parts are noted now, and how many FROMs stand around one another in what it read.
 pub enum Step {
     Next {
@@ -105,239 +56,6 @@ pub enum Step {
         deep: usize,
     },
     NoReading,
-}
-
-// The token at a place, and 0 past the end.
-fn token(s: &[usize], at: usize) -> usize
-    ensures is { λ r. ⌜ r ≡ getD (now (s .entry)) at 0 ⌝ }
-    ensures there { λ r. ⌜ (0 < r → at < length (now (s .entry))) ⌝ }
-{
-    if at < s.len() {
-        return s[at];
-    }
-    0
-}
-
-// A number, or letter . number.
-fn read_value(s: &[usize], at: usize) -> ValueRead
-    requires { ⌜ length (now s) ≤ 4096 ⌝ ∗ ⌜ at ≤ length (now s) ⌝ }
-    ensures { λ r. ⌜ ValueAt (now (s .entry)) at r ⌝ }
-{
-    let t = token(s, at);
-    if NUMBER <= t {
-        return ValueRead::Value(0, t - NUMBER, at + 1);
-    }
-    if t <= COMPARES + 6 {
-        return ValueRead::NoValue;
-    }
-    if token(s, at + 1) != POINT {
-        return ValueRead::NoValue;
-    }
-    let n = token(s, at + 2);
-    if n < NUMBER {
-        return ValueRead::NoValue;
-    }
-    ValueRead::Value(t, n - NUMBER, at + 3)
-}
-
-// FROM number letter WHERE.
-fn read_from(s: &[usize], at: usize) -> FromRead
-    requires { ⌜ length (now s) ≤ 4096 ⌝ ∗ ⌜ at ≤ length (now s) ⌝ }
-    ensures { λ r. ⌜ FromAt (now (s .entry)) at r ⌝ }
-{
-    if token(s, at) != FROM {
-        return FromRead::NoFrom;
-    }
-    let n = token(s, at + 1);
-    if n < NUMBER {
-        return FromRead::NoFrom;
-    }
-    let x = token(s, at + 2);
-    if x <= COMPARES + 6 {
-        return FromRead::NoFrom;
-    }
-    if NUMBER <= x {
-        return FromRead::NoFrom;
-    }
-    if token(s, at + 3) != WHERE {
-        return FromRead::NoFrom;
-    }
-    FromRead::From(n - NUMBER, x, at + 4)
-}
-
-// ( SELECT value FROM number letter WHERE, after the value and what compares it; kind 8 or 9.
-fn start_list(
-    s: &[usize],
-    at: usize,
-    kind: usize,
-    comparison: usize,
-    letter: usize,
-    number: usize,
-) -> Start
-    requires { ⌜ length (now s) ≤ 4096 ⌝ ∗ ⌜ at ≤ length (now s) ⌝ ∗ ⌜ (1 ≤ comparison) × (comparison ≤ 6) ⌝ }
-    ensures { λ r. ⌜ ListAt (now (s .entry)) at kind comparison letter number r ⌝ }
-{
-    if token(s, at) != OPEN {
-        return Start::NoTest;
-    }
-    if token(s, at + 1) != SELECT {
-        return Start::NoTest;
-    }
-    let ValueRead::Value(right_letter, right_number, behind) = read_value(s, at + 2) else {
-        return Start::NoTest;
-    };
-    let FromRead::From(table, bound, next) = read_from(s, behind) else {
-        return Start::NoTest;
-    };
-    let note = Note {
-        kind,
-        comparison,
-        table,
-        letter: bound,
-        left_letter: letter,
-        left_number: number,
-        right_letter,
-        right_number,
-    };
-    Start::Around { note, next }
-}
-
-// IS NULL or IS NOT NULL, from the IS on that follows a value.
-fn start_null(s: &[usize], at: usize, letter: usize, number: usize) -> Start
-    requires { ⌜ length (now s) ≤ 4096 ⌝ ∗ ⌜ at < length (now s) ⌝ ∗ ⌜ getD (now s) at 0 ≡ 8 ⌝ }
-    ensures { λ r. ⌜ BehindAt (now (s .entry)) at letter number r ⌝ }
-{
-    let t = token(s, at + 1);
-    if t == NULL {
-        return Start::Whole {
-            note: left_note(NULL_PART, letter, number),
-            next: at + 2,
-        };
-    }
-    if t != NOT {
-        return Start::NoTest;
-    }
-    if token(s, at + 2) != NULL {
-        return Start::NoTest;
-    }
-    Start::Whole {
-        note: left_note(NOT_NULL_PART, letter, number),
-        next: at + 3,
-    }
-}
-
-// What a part says that has a left value and no other, as IS NULL and IS NOT NULL; for those without values it is 0.
-fn left_note(kind: usize, letter: usize, number: usize) -> Note
-    ensures { λ r. ⌜ noteNumbers r ≡ leftNumbers kind letter number ⌝ }
-{
-    Note {
-        kind,
-        comparison: 0,
-        table: 0,
-        letter: 0,
-        left_letter: letter,
-        left_number: number,
-        right_letter: 0,
-        right_number: 0,
-    }
-}
-
-// What follows a value and a comparison: another value, or SOME or ALL and a list.
-fn start_comparison(s: &[usize], at: usize, letter: usize, number: usize) -> Start
-    requires { ⌜ length (now s) ≤ 4096 ⌝ ∗ ⌜ at < length (now s) ⌝ ∗ ⌜ (64 < getD (now s) at 0) × (getD (now s) at 0 < 71) ⌝ }
-    ensures { λ r. ⌜ BehindAt (now (s .entry)) at letter number r ⌝ }
-{
-    let comparison = token(s, at) - COMPARES;
-    let t = token(s, at + 1);
-    if t == SOME {
-        return start_list(s, at + 2, SOME_PART, comparison, letter, number);
-    }
-    if t == ALL {
-        return start_list(s, at + 2, ALL_PART, comparison, letter, number);
-    }
-    let ValueRead::Value(right_letter, right_number, next) = read_value(s, at + 1) else {
-        return Start::NoTest;
-    };
-    let note = Note {
-        kind: COMPARISON_PART,
-        comparison,
-        table: 0,
-        letter: 0,
-        left_letter: letter,
-        left_number: number,
-        right_letter,
-        right_number,
-    };
-    Start::Whole { note, next }
-}
-
-// What follows a value. IN is SOME with =, NOT IN is ALL with <>.
-fn start_value(s: &[usize], at: usize, letter: usize, number: usize) -> Start
-    requires { ⌜ length (now s) ≤ 4096 ⌝ ∗ ⌜ at ≤ length (now s) ⌝ }
-    ensures { λ r. ⌜ BehindAt (now (s .entry)) at letter number r ⌝ }
-{
-    let t = token(s, at);
-    if t == IS {
-        return start_null(s, at, letter, number);
-    }
-    if t == IN {
-        return start_list(s, at + 1, SOME_PART, EQUAL, letter, number);
-    }
-    if t == NOT {
-        if token(s, at + 1) != IN {
-            return Start::NoTest;
-        }
-        return start_list(s, at + 2, ALL_PART, NOT_EQUAL, letter, number);
-    }
-    if t <= COMPARES {
-        return Start::NoTest;
-    }
-    if COMPARES + 6 < t {
-        return Start::NoTest;
-    }
-    start_comparison(s, at, letter, number)
-}
-
-// EXISTS ( FROM number letter WHERE, from the EXISTS on.
-fn start_exists(s: &[usize], at: usize) -> Start
-    requires { ⌜ length (now s) ≤ 4096 ⌝ ∗ ⌜ at < length (now s) ⌝ ∗ ⌜ getD (now s) at 0 ≡ 4 ⌝ }
-    ensures { λ r. ⌜ TestAt (now (s .entry)) at r ⌝ }
-{
-    if token(s, at + 1) != OPEN {
-        return Start::NoTest;
-    }
-    let FromRead::From(table, letter, next) = read_from(s, at + 2) else {
-        return Start::NoTest;
-    };
-    let note = Note {
-        kind: EXISTS_PART,
-        comparison: 0,
-        table,
-        letter,
-        left_letter: 0,
-        left_number: 0,
-        right_letter: 0,
-        right_number: 0,
-    };
-    Start::Around { note, next }
-}
-
-// How the test at a place begins.
-fn start_test(s: &[usize], at: usize) -> Start
-    requires { ⌜ length (now s) ≤ 4096 ⌝ ∗ ⌜ at ≤ length (now s) ⌝ }
-    ensures { λ r. ⌜ TestAt (now (s .entry)) at r ⌝ }
-{
-    let t = token(s, at);
-    if t == OPEN {
-        return Start::Bracket { next: at + 1 };
-    }
-    if t == EXISTS {
-        return start_exists(s, at);
-    }
-    let ValueRead::Value(letter, number, next) = read_value(s, at) else {
-        return Start::NoTest;
-    };
-    start_value(s, next, letter, number)
 }
 
 // Part number w, as long as there is room: a text may have more parts than a rule may.
@@ -376,42 +94,33 @@ fn larger(a: usize, b: usize) -> usize
     a
 }
 
+// The word that joins: OR or AND.
+fn join_word(or: bool) -> usize
+    ensures { λ r. ⌜ r ≡ joinWord (joinedBy or) ⌝ }
+{
+    if or {
+        return OR;
+    }
+    AND
+}
+
+// The kind of the part that it makes of two.
+fn join_part(or: bool) -> usize
+    ensures { λ r. ⌜ r ≡ joinKind (joinedBy or) ⌝ }
+{
+    if or {
+        return OR_PART;
+    }
+    AND_PART
+}
+
 // Conjunctions joined by OR.
 fn read_condition(s: &[usize], at: usize, out: &mut [usize; NOTE_NUMBERS], w: usize) -> Step
     requires { ⌜ Ready (now s) at w (now out) ⌝ }
     ensures reads { λ r. ⌜ ReadsTo condition (now (s .entry)) at w (now (out .entry)) (now (out .exit)) r ⌝ }
     ensures size { λ _. ⌜ length (now (out .exit)) ≡ notesSize ⌝ }
 {
-    let Step::Next {
-        at: first,
-        count,
-        deep,
-    } = read_conjunction(s, at, out, w)
-    else {
-        return Step::NoReading;
-    };
-    let mut next = first;
-    let mut n = count;
-    let mut d = deep;
-    while token(s, next) == OR {
-        let Step::Next {
-            at: behind,
-            count: more,
-            deep: other,
-        } = read_conjunction(s, next + 1, out, n)
-        else {
-            return Step::NoReading;
-        };
-        note_part(out, more, plain_note(OR_PART));
-        next = behind;
-        n = more + 1;
-        d = larger(d, other);
-    }
-    Step::Next {
-        at: next,
-        count: n,
-        deep: d,
-    }
+    read_joined(s, at, out, w, true)
 }
 
 // Factors joined by AND.
@@ -420,41 +129,72 @@ fn read_conjunction(s: &[usize], at: usize, out: &mut [usize; NOTE_NUMBERS], w: 
     ensures reads { λ r. ⌜ ReadsTo conjunction (now (s .entry)) at w (now (out .entry)) (now (out .exit)) r ⌝ }
     ensures size { λ _. ⌜ length (now (out .exit)) ≡ notesSize ⌝ }
 {
-    let Step::Next {
-        at: first,
-        count,
-        deep,
-    } = read_factor(s, at, out, w)
-    else {
-        return Step::NoReading;
-    };
-    let mut next = first;
-    let mut n = count;
-    let mut d = deep;
-    while token(s, next) == AND {
+    read_joined(s, at, out, w, false)
+}
+
+// What is joined: a conjunction by OR, a factor by AND.
+fn read_operand(s: &[usize], at: usize, out: &mut [usize; NOTE_NUMBERS], w: usize, or: bool) -> Step
+    requires { ⌜ Ready (now s) at w (now out) ⌝ }
+    ensures reads { λ r. ⌜ ReadsTo (operand (joinedBy or)) (now (s .entry)) at w (now (out .entry)) (now (out .exit)) r ⌝ }
+    ensures size { λ _. ⌜ length (now (out .exit)) ≡ notesSize ⌝ }
+{
+    if or {
+        return read_conjunction(s, at, out, w);
+    }
+    read_factor(s, at, out, w)
+}
+
+// The part that joins an operand to those before it, once it is noted; a first operand makes none. How many parts are noted then.
+fn note_join(out: &mut [usize; NOTE_NUMBERS], w: usize, or: bool, joins: bool) -> usize
+    requires { ⌜ length (now out) ≡ notesSize ⌝ ∗ ⌜ w ≤ mostTokens ⌝ }
+    ensures count { λ r. ⌜ r ≡ w + joinParts joins ⌝ }
+    ensures noted { λ r. ⌜ (r ≤ mostParts → take (noteSize * r) (now (out .exit)) ≡ take (noteSize * w) (now (out .entry)) ++ joinNumbers joins (joinedBy or)) ⌝ }
+    ensures size { λ _. ⌜ length (now (out .exit)) ≡ notesSize ⌝ }
+{
+    if joins {
+        note_part(out, w, plain_note(join_part(or)));
+        return w + 1;
+    }
+    w
+}
+
+// Operands joined by OR, or by AND. The call for an operand stands here once, so that it is compiled into the loop: with a call before the loop and one
+// inside it READ was slower.
+fn read_joined(s: &[usize], at: usize, out: &mut [usize; NOTE_NUMBERS], w: usize, or: bool) -> Step
+    requires { ⌜ Ready (now s) at w (now out) ⌝ }
+    ensures reads { λ r. ⌜ ReadsTo (chain (joinedBy or)) (now (s .entry)) at w (now (out .entry)) (now (out .exit)) r ⌝ }
+    ensures size { λ _. ⌜ length (now (out .exit)) ≡ notesSize ⌝ }
+{
+    let mut next = at;
+    let mut n = w;
+    let mut d: usize = 0;
+    let mut joins = false;
+    loop {
         let Step::Next {
             at: behind,
-            count: more,
-            deep: other,
-        } = read_factor(s, next + 1, out, n)
+            count,
+            deep,
+        } = read_operand(s, next, out, n, or)
         else {
             return Step::NoReading;
         };
-        note_part(out, more, plain_note(AND_PART));
-        next = behind;
-        n = more + 1;
-        d = larger(d, other);
-    }
-    Step::Next {
-        at: next,
-        count: n,
-        deep: d,
+        n = note_join(out, count, or, joins);
+        d = larger(d, deep);
+        if token(s, behind) != join_word(or) {
+            return Step::Next {
+                at: behind,
+                count: n,
+                deep: d,
+            };
+        }
+        next = behind + 1;
+        joins = true;
     }
 }
 
 // The place after the NOTs that start at a place.
 fn after_nots(s: &[usize], at: usize) -> usize
-    requires { ⌜ length (now s) ≤ 4096 ⌝ ∗ ⌜ at ≤ length (now s) ⌝ }
+    requires { ⌜ length (now s) ≤ mostTokens ⌝ ∗ ⌜ at ≤ length (now s) ⌝ }
     ensures { λ r. ⌜ NotsTo (now (s .entry)) at r ⌝ }
 {
     let mut i: usize = at;
@@ -466,7 +206,7 @@ fn after_nots(s: &[usize], at: usize) -> usize
 
 // The NOTs around a test, k of them, once its parts are noted.
 fn note_nots(out: &mut [usize; NOTE_NUMBERS], w: usize, k: usize)
-    requires { ⌜ length (now out) ≡ notesSize ⌝ ∗ ⌜ w + k ≤ 4096 ⌝ }
+    requires { ⌜ length (now out) ≡ notesSize ⌝ ∗ ⌜ w + k ≤ mostTokens ⌝ }
     ensures noted { λ _. ⌜ (w + k ≤ mostParts → take (noteSize * (w + k)) (now (out .exit)) ≡ take (noteSize * w) (now (out .entry)) ++ notNumbers k) ⌝ }
     ensures size { λ _. ⌜ length (now (out .exit)) ≡ notesSize ⌝ }
 {
@@ -562,7 +302,7 @@ fn read_closed(s: &[usize], at: usize, out: &mut [usize; NOTE_NUMBERS], w: usize
 
 // All the tokens as one condition.
 pub fn read_tokens(s: &[usize], out: &mut [usize; NOTE_NUMBERS]) -> Step
-    requires { ⌜ length (now s) ≤ 4096 ⌝ ∗ ⌜ length (now out) ≡ notesSize ⌝ }
+    requires { ⌜ length (now s) ≤ mostTokens ⌝ ∗ ⌜ length (now out) ≡ notesSize ⌝ }
     ensures reads { λ r. ⌜ ReadsAll (now (s .entry)) (now (out .exit)) r ⌝ }
     ensures size { λ _. ⌜ length (now (out .exit)) ≡ notesSize ⌝ }
 {

@@ -3,9 +3,11 @@
 ghost use mathlib.Core.Path.{_≡_};
 ghost use Rattle.rule.specs.Calls.{judgeCall};
 ghost use Rattle.judge.specs.Answers.{judgedAnswer};
-ghost use Rattle.judge.specs.Code.{passedUp, judgedBy};
+ghost use Rattle.judge.specs.Code.{judgedBy};
 use cells::PLACES;
 use cells::Reason;
+use evaluator::FALSE;
+use evaluator::UNKNOWN;
 use names::PART_NUMBERS;
 use parser::Parsed;
 
@@ -17,24 +19,14 @@ pub enum Judged {
     NotJudged(Reason),
 }
 
-// A truth value, 0 false, 1 unknown or 2 true, as JUDGE answers it.
+// A truth value as a number, as JUDGE answers it.
 fn judged_by(value: usize) -> Judged
     ensures { λ r. ⌜ r ≡ judgedBy value ⌝ }
 {
     match value {
-        0 => Judged::False,
-        1 => Judged::Unknown,
+        FALSE => Judged::False,
+        UNKNOWN => Judged::Unknown,
         _ => Judged::True,
-    }
-}
-
-// A refusal of reading, as JUDGE answers it; it is asked of refusals alone, so what a rule gives here does not matter.
-fn passed_up(parsed: Parsed) -> Judged
-    ensures { λ r. ⌜ r ≡ passedUp parsed ⌝ }
-{
-    match parsed {
-        Parsed::Rule(_) => Judged::Unknown,
-        Parsed::Refused(x) => Judged::NotJudged(x),
     }
 }
 
@@ -45,7 +37,7 @@ pub fn judge(text: &[u8], file: &[u8], row: usize) -> Judged
     let mut p = [0usize; PART_NUMBERS];
     let parsed = parser::parse(text, file, &mut p);
     let Parsed::Rule(_) = parsed else {
-        return passed_up(parsed);
+        return Judged::NotJudged(parser::refusal(parsed));
     };
     let mut g = [0usize; PLACES];
     cells::places(file, &mut g);

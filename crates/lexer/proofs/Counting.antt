@@ -12,8 +12,9 @@ use lib.IntN.{pos, negsuc, subℕ, _+ℤ_, +ℤ-idr}
 use lib.Signed.{ltZ}
 use lib.ListN.{length, drop, getD, drop-of-length-le}
 use lib.Seq.{drop-cons}
-use Rattle.rule.specs.Tokens.{Fixed, bracketStep, opensFit}
-use Rattle.lexer.specs.Code.{tokenOf, tokensIn}
+use Rattle.rule.specs.Tokens.{mostOpen, Fixed, Open, Close, bracketStep, opensFit}
+use Rattle.lexer.specs.Code.{codeOf, tokenOf, tokensIn}
+use Rattle.lexer.proofs.Codes.{by-code}
 
 -- ---- a difference of two counts
 
@@ -38,38 +39,31 @@ one-less a b = go (ltb a b) refl
     go true e = let l = ltb-true a b e in rw (e, lt-ltb a (b + 1) (omega arith)) (ap negsuc (omega arith))
     go false e = let l = ltb-false a b e in rw (e) (same-difference (a - b) 1 a (b + 1) (omega arith))
 
-too-many : (a b : ℕ) → b + 32 < a → ltZ (pos 32) (subℕ a b) ≡ true
-too-many a b h = rw (le-ltb a b (omega arith)) (lt-ltb 32 (a - b) (omega arith))
+too-many : (a b : ℕ) → b + mostOpen < a → ltZ (pos mostOpen) (subℕ a b) ≡ true
+too-many a b h = rw (le-ltb a b (omega arith)) (lt-ltb mostOpen (a - b) (omega arith))
 
-few : (a b : ℕ) → a ≤ b + 32 → ltZ (pos 32) (subℕ a b) ≡ false
+few : (a b : ℕ) → a ≤ b + mostOpen → ltZ (pos mostOpen) (subℕ a b) ≡ false
 few a b h = go (ltb a b) refl
   where
-    go : (t : Bool) → ltb a b ≡ t → ltZ (pos 32) (subℕ a b) ≡ false
+    go : (t : Bool) → ltb a b ≡ t → ltZ (pos mostOpen) (subℕ a b) ≡ false
     go true e = rw (e)
-    go false e = let l = ltb-false a b e in rw (e) (le-ltb 32 (a - b) (omega arith))
+    go false e = let l = ltb-false a b e in rw (e) (le-ltb mostOpen (a - b) (omega arith))
 
 -- ---- what a token counts for
 
-step-open : (t : ℕ) → t ≡ 13 → bracketStep (tokenOf t) ≡ pos 1
+step-open : (t : ℕ) → t ≡ codeOf Open → bracketStep (tokenOf t) ≡ pos 1
 unfolding tokenOf
 step-open t e = rw (e)
 
-step-close : (t : ℕ) → t ≡ 14 → bracketStep (tokenOf t) ≡ negsuc 0
+step-close : (t : ℕ) → t ≡ codeOf Close → bracketStep (tokenOf t) ≡ negsuc 0
 unfolding tokenOf
 step-close t e = rw (e)
 
-step-fixed : (k : ℕ) → (k ≡ 13 → ⊥) → (k ≡ 14 → ⊥) → bracketStep (Fixed k) ≡ pos 0
-step-fixed k f g = rw (bracketStep, ne-eqb 13 k (λ z. f (sym z)), ne-eqb 14 k (λ z. g (sym z)))
+step-fixed : (k : ℕ) → (k ≡ codeOf Open → ⊥) → (k ≡ codeOf Close → ⊥) → bracketStep (Fixed k) ≡ pos 0
+step-fixed k f g = rw (bracketStep, ne-eqb (codeOf Open) k (λ z. f (sym z)), ne-eqb (codeOf Close) k (λ z. g (sym z)))
 
-step-other : (t : ℕ) → (t ≡ 13 → ⊥) → (t ≡ 14 → ⊥) → bracketStep (tokenOf t) ≡ pos 0
-unfolding tokenOf
-step-other t f g = go (ltb t 65) refl (ltb t 71) refl (ltb t 256) refl
-  where
-    go : (a : Bool) → ltb t 65 ≡ a → (b : Bool) → ltb t 71 ≡ b → (c : Bool) → ltb t 256 ≡ c → bracketStep (tokenOf t) ≡ pos 0
-    go true e b d c w = rw (e) (step-fixed t f g)
-    go false e true d c w = rw (e, d)
-    go false e false d true w = rw (e, d, w)
-    go false e false d false w = rw (e, d, w)
+step-other : (t : ℕ) → (t ≡ codeOf Open → ⊥) → (t ≡ codeOf Close → ⊥) → bracketStep (tokenOf t) ≡ pos 0
+step-other t f g = by-code t (λ x. bracketStep x ≡ pos 0) (λ h. step-fixed t f g) (λ h l. refl) (λ h l. refl) (λ h. refl)
 
 -- the count o is kept as p: one more if the token t is the one with the number k
 abbrev pub Kept : ℕ → ℕ → ℕ → ℕ → Type 0
@@ -79,7 +73,7 @@ pub kept-most : (k t o p : ℕ) → Kept k t o p → p ≤ o + 1
 kept-most k t o p (inl w) = omega (arith, w .1)
 kept-most k t o p (inr w) = omega (arith, w .1)
 
-counted : (t o c p d : ℕ) → Kept 13 t o p → Kept 14 t c d → subℕ o c +ℤ bracketStep (tokenOf t) ≡ subℕ p d
+counted : (t o c p d : ℕ) → Kept (codeOf Open) t o p → Kept (codeOf Close) t c d → subℕ o c +ℤ bracketStep (tokenOf t) ≡ subℕ p d
 counted t o c p d (inl v) (inl w) = absurd (omega (arith, v .0, w .0))
 counted t o c p d (inl v) (inr w) = rw (step-open t (v .0), v .1, w .1) (one-more o c)
 counted t o c p d (inr v) (inl w) = rw (step-close t (w .0), v .1, w .1) (one-less o c)
@@ -90,12 +84,12 @@ counted t o c p d (inr v) (inr w) = rw (step-other t (v .0) (w .0), v .1, w .1) 
 abbrev pub Same-fit : List ℕ → ℕ → ℕ → ℕ → Type 0
 Same-fit l o c k = opensFit (subℕ o c) (tokensIn (drop k l)) ≡ opensFit (pos 0) (tokensIn l)
 
-module _ (l : List ℕ) (k t o c p d : ℕ) (h : k < length l) (w : t ≡ getD l k 0) (u : Kept 13 t o p) (v : Kept 14 t c d) (s : Same-fit l o c k) where
-  pub fit-no : d + 32 < p → false ≡ opensFit (pos 0) (tokensIn l)
+module _ (l : List ℕ) (k t o c p d : ℕ) (h : k < length l) (w : t ≡ getD l k 0) (u : Kept (codeOf Open) t o p) (v : Kept (codeOf Close) t c d) (s : Same-fit l o c k) where
+  pub fit-no : d + mostOpen < p → false ≡ opensFit (pos 0) (tokensIn l)
   unfolding opensFit
   fit-no m = sym (rw (drop-cons l k 0 h, ← w, opensFit, counted t o c p d u v, too-many p d m) refl) ∙ s
 
-  pub fit-more : p ≤ d + 32 → Same-fit l p d (k + 1)
+  pub fit-more : p ≤ d + mostOpen → Same-fit l p d (k + 1)
   unfolding opensFit
   fit-more m = sym (rw (drop-cons l k 0 h, ← w, opensFit, counted t o c p d u v, few p d m, add-one k) (rw (← w, counted t o c p d u v) refl)) ∙ s
 

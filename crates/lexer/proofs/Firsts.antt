@@ -4,18 +4,18 @@ use mathlib.Core.List.{List, _∷_}
 use mathlib.Core.Option.{Option, none, some}
 use Prim.Native.Nat.{ℕ, suc, _+_, _-_, _≤_, _<_}
 use native.Mathlib.Omega.{arith}
-use borrow.Author.Tests.{eq-eqb, ne-eqb, lt-ltb, le-ltb}
+use borrow.Author.Tests.{eq-eqb, ne-eqb}
 use lib.IntN.{pos, negℤ}
 use lib.ListN.{length, drop, getD}
 use lib.Seq.{drop-cons}
-use Rattle.tables.specs.Bytes.{between}
 use Rattle.tables.proofs.Tests.{between-yes, between-no}
-use Rattle.rule.specs.Tokens.{Letter, Lexed, takeWhile, words, wordIn, signs, signIn, numberFrom, firstToken}
+use Rattle.rule.specs.Tokens.{Letter, Lexed, takeWhile, words, wordIn, signs, signIn, numberFrom, firstToken, isCapital, isDigit}
 use Rattle.lexer.specs.declared.Lexeme.{Lexeme}
 use Rattle.lexer.specs.Code.{tokenOf, lexedAs}
+use Rattle.lexer.proofs.Codes.{letter-token}
 use Rattle.lexer.proofs.Signs.{from-other}
 
-first-capital : (b : ℕ) (bs : List ℕ) → 65 ≤ b → b ≤ 90 → firstToken b bs ≡ wordIn words (takeWhile (between 65 90) (b ∷ bs))
+first-capital : (b : ℕ) (bs : List ℕ) → 65 ≤ b → b ≤ 90 → firstToken b bs ≡ wordIn words (takeWhile isCapital (b ∷ bs))
 unfolding firstToken
 first-capital b bs p q = rw (firstToken, between-yes 65 90 b p q)
 
@@ -23,11 +23,11 @@ first-small : (b : ℕ) (bs : List ℕ) → 97 ≤ b → b ≤ 122 → firstToke
 unfolding firstToken
 first-small b bs p q = rw (firstToken, between-no 65 90 b (λ x y. omega arith), between-yes 97 122 b p q)
 
-first-digit : (b : ℕ) (bs : List ℕ) → 48 ≤ b → b ≤ 57 → firstToken b bs ≡ numberFrom pos 0 (takeWhile (between 48 57) (b ∷ bs))
+first-digit : (b : ℕ) (bs : List ℕ) → 48 ≤ b → b ≤ 57 → firstToken b bs ≡ numberFrom pos 0 (takeWhile isDigit (b ∷ bs))
 unfolding firstToken
 first-digit b bs p q = rw (firstToken, between-no 65 90 b (λ x y. omega arith), between-no 97 122 b (λ x y. omega arith), between-yes 48 57 b p q)
 
-first-minus : (b : ℕ) (bs : List ℕ) → b ≡ 45 → firstToken b bs ≡ numberFrom (λ n. negℤ (pos n)) 1 (takeWhile (between 48 57) bs)
+first-minus : (b : ℕ) (bs : List ℕ) → b ≡ 45 → firstToken b bs ≡ numberFrom (λ n. negℤ (pos n)) 1 (takeWhile isDigit bs)
 unfolding firstToken
 first-minus b bs e =
     rw (firstToken, between-no 65 90 b (λ x y. omega arith), between-no 97 122 b (λ x y. omega arith), between-no 48 57 b (λ x y. omega arith), eq-eqb b 45 e)
@@ -43,13 +43,13 @@ module _ (text : List ℕ) (i b : ℕ) (h : i < length text) (w : b ≡ getD tex
   here = let z : suc i ≡ 1 + i = omega arith in drop-cons text i 0 h ∙ ap (λ (k : ℕ). getD text i 0 ∷ drop k text) z
 
   module _ (x : Option Lexed) where
-    pub capital-at : 65 ≤ b → b ≤ 90 → x ≡ wordIn words (takeWhile (between 65 90) (drop i text)) → x ≡ firstToken (getD text i 0) (drop (1 + i) text)
+    pub capital-at : 65 ≤ b → b ≤ 90 → x ≡ wordIn words (takeWhile isCapital (drop i text)) → x ≡ firstToken (getD text i 0) (drop (1 + i) text)
     capital-at p q e =
-        e ∙ ap (λ (l : List ℕ). wordIn words (takeWhile (between 65 90) l)) here ∙ sym (first-capital (getD text i 0) (drop (1 + i) text) (omega arith) (omega arith))
+        e ∙ ap (λ (l : List ℕ). wordIn words (takeWhile isCapital l)) here ∙ sym (first-capital (getD text i 0) (drop (1 + i) text) (omega arith) (omega arith))
 
-    pub digit-at : 48 ≤ b → b ≤ 57 → x ≡ numberFrom pos 0 (takeWhile (between 48 57) (drop i text)) → x ≡ firstToken (getD text i 0) (drop (1 + i) text)
+    pub digit-at : 48 ≤ b → b ≤ 57 → x ≡ numberFrom pos 0 (takeWhile isDigit (drop i text)) → x ≡ firstToken (getD text i 0) (drop (1 + i) text)
     digit-at p q e =
-        e ∙ ap (λ (l : List ℕ). numberFrom pos 0 (takeWhile (between 48 57) l)) here ∙ sym (first-digit (getD text i 0) (drop (1 + i) text) (omega arith) (omega arith))
+        e ∙ ap (λ (l : List ℕ). numberFrom pos 0 (takeWhile isDigit l)) here ∙ sym (first-digit (getD text i 0) (drop (1 + i) text) (omega arith) (omega arith))
 
     pub sign-at : (65 ≤ b → b ≤ 90 → ⊥) → (97 ≤ b → b ≤ 122 → ⊥) → (48 ≤ b → b ≤ 57 → ⊥) → (b ≡ 45 → ⊥) → x ≡ signIn signs (drop i text)
         → x ≡ firstToken (getD text i 0) (drop (1 + i) text)
@@ -57,19 +57,18 @@ module _ (text : List ℕ) (i b : ℕ) (h : i < length text) (w : b ≡ getD tex
         e ∙ ap (signIn signs) here ∙ sym (first-other (getD text i 0) (drop (1 + i) text) (λ p q. f (omega arith) (omega arith)) (λ p q. g (omega arith) (omega arith))
         (λ p q. d (omega arith) (omega arith)) (λ z. k (w ∙ z)))
 
-  pub minus-at : (r : Lexeme) → b ≡ 45 → lexedAs (i + 1 - 1) r ≡ numberFrom (λ n. negℤ (pos n)) 1 (takeWhile (between 48 57) (drop (i + 1) text))
+  pub minus-at : (r : Lexeme) → b ≡ 45 → lexedAs (i + 1 - 1) r ≡ numberFrom (λ n. negℤ (pos n)) 1 (takeWhile isDigit (drop (i + 1) text))
       → lexedAs i r ≡ firstToken (getD text i 0) (drop (1 + i) text)
   minus-at r z e =
       let start : i ≡ i + 1 - 1 = omega arith in
       let next : i + 1 ≡ 1 + i = omega arith in
-      ap (λ (k : ℕ). lexedAs k r) start ∙ e ∙ ap (λ (k : ℕ). numberFrom (λ n. negℤ (pos n)) 1 (takeWhile (between 48 57) (drop k text))) next
+      ap (λ (k : ℕ). lexedAs k r) start ∙ e ∙ ap (λ (k : ℕ). numberFrom (λ n. negℤ (pos n)) 1 (takeWhile isDigit (drop k text))) next
       ∙ sym (first-minus (getD text i 0) (drop (1 + i) text) (sym w ∙ z))
 
   pub small-at : 97 ≤ b → b ≤ 122 → some (tokenOf b, i + 1 - i) ≡ firstToken (getD text i 0) (drop (1 + i) text)
-  unfolding tokenOf
   small-at p q =
       let one : i + 1 - i ≡ 1 = omega arith in
-      rw (one, first-small (getD text i 0) (drop (1 + i) text) (omega arith) (omega arith), ← w, le-ltb b 65 (omega arith), le-ltb b 71 (omega arith), lt-ltb b 256 (omega arith))
+      rw (one, first-small (getD text i 0) (drop (1 + i) text) (omega arith) (omega arith), ← w, letter-token b (omega arith) (omega arith))
 
   -- a byte that begins no token, and no capital, letter or digit
   pub nothing-at : 62 < b → (65 ≤ b → b ≤ 90 → ⊥) → (97 ≤ b → b ≤ 122 → ⊥) → none ≡ firstToken (getD text i 0) (drop (1 + i) text)

@@ -11,7 +11,7 @@ use lib.ListN.{length}
 use Rattle.tables.specs.Lists.{same, all, only}
 use Rattle.tables.specs.Bytes.{between, inRange}
 use Rattle.tables.proofs.Tests.{both, bounds, is-so}
-use Rattle.rule.specs.Tokens.{Letter, Number, Lexed, Spelling, bytes, begins, takeWhile, words, wordIn, signs, signIn, spelled, numberFrom, firstToken}
+use Rattle.rule.specs.Tokens.{Letter, Number, Lexed, Spelling, bytes, begins, takeWhile, words, wordIn, signs, signIn, spelled, numberFrom, firstToken, isCapital, isSmall, isDigit}
 use Rattle.lexer.proofs.Runs.{run-length}
 
 -- the token found, if any, takes at least one byte and at most so many
@@ -74,30 +74,30 @@ run-starts p b bs e = rw (takeWhile, e) (omega arith)
 
 module _ (b : ℕ) (bs : List ℕ) where
   abbrev capitals : List ℕ
-  capitals = takeWhile (between 65 90) (b ∷ bs)
+  capitals = takeWhile isCapital (b ∷ bs)
 
   abbrev digits : List ℕ
-  digits = takeWhile (between 48 57) (b ∷ bs)
+  digits = takeWhile isDigit (b ∷ bs)
 
   abbrev more : List ℕ
-  more = takeWhile (between 48 57) bs
+  more = takeWhile isDigit bs
 
-  capital-takes : between 65 90 b ≡ true → Takes (suc (length bs)) (wordIn words capitals)
+  capital-takes : isCapital b ≡ true → Takes (suc (length bs)) (wordIn words capitals)
   capital-takes e =
-      takes-more (length capitals) (suc (length bs)) (wordIn words capitals) (run-length (between 65 90) (b ∷ bs)) (word-takes words capitals (run-starts (between 65 90) b bs e))
+      takes-more (length capitals) (suc (length bs)) (wordIn words capitals) (run-length isCapital (b ∷ bs)) (word-takes words capitals (run-starts isCapital b bs e))
 
   digit-takes : Takes (suc (length bs)) (numberFrom pos 0 digits)
-  digit-takes = takes-more (0 + length digits) (suc (length bs)) (numberFrom pos 0 digits) (omega (arith, run-length (between 48 57) (b ∷ bs))) (number-takes pos 0 digits)
+  digit-takes = takes-more (0 + length digits) (suc (length bs)) (numberFrom pos 0 digits) (omega (arith, run-length isDigit (b ∷ bs))) (number-takes pos 0 digits)
 
   minus-takes : Takes (suc (length bs)) (numberFrom (λ n. negℤ (pos n)) 1 more)
   minus-takes =
-      takes-more (1 + length more) (suc (length bs)) (numberFrom (λ n. negℤ (pos n)) 1 more) (omega (arith, run-length (between 48 57) bs)) (number-takes (λ n. negℤ (pos n)) 1 more)
+      takes-more (1 + length more) (suc (length bs)) (numberFrom (λ n. negℤ (pos n)) 1 more) (omega (arith, run-length isDigit bs)) (number-takes (λ n. negℤ (pos n)) 1 more)
 
   pub first-takes : Takes (suc (length bs)) (firstToken b bs)
   unfolding firstToken
-  first-takes = go (between 65 90 b) refl (between 97 122 b) (between 48 57 b) (eqb b 45)
+  first-takes = go (isCapital b) refl (isSmall b) (isDigit b) (eqb b 45)
     where
-      go : (capital : Bool) → between 65 90 b ≡ capital → (small digit minus : Bool)
+      go : (capital : Bool) → isCapital b ≡ capital → (small digit minus : Bool)
           → Takes (suc (length bs)) (elim capital [
             | true ↦ wordIn words capitals
             | false ↦

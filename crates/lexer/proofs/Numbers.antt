@@ -7,11 +7,14 @@ use Prim.Native.Nat.{ℕ, zero, suc, _+_, _*_, _-_, _≤_, _<_}
 use native.Mathlib.Omega.{arith}
 use borrow.Author.Tests.{lt-ltb, le-ltb}
 use lib.IntN.{ℤ, pos, negsuc, negℤ}
-use lib.ListN.{length}
-use Rattle.tables.specs.Bytes.{between, inRange}
+use lib.ListN.{length, drop}
+use Rattle.tables.specs.Bytes.{inRange}
 use Rattle.tables.proofs.Tests.{between-yes, between-no}
-use Rattle.rule.specs.Tokens.{Number, takeWhile, spelled, numberFrom}
-use Rattle.lexer.specs.Code.{tokenOf, inBase}
+use Rattle.rule.specs.Tokens.{mostDigits, Number, takeWhile, spelled, numberFrom, isDigit}
+use Rattle.lexer.specs.Code.{numberCode, tokenOf, inBase, RunAt}
+use Rattle.lexer.specs.declared.Run.{Run}
+use Rattle.lexer.proofs.Codes.{number-token}
+use Rattle.cells.specs.Code.{excessAdded}
 
 in-ten : (n : ℕ) (ds : List ℕ) → inBase 10 48 n ds ≡ spelled n ds
 in-ten n [] = refl
@@ -19,18 +22,17 @@ in-ten n (d ∷ ds) = in-ten (10 * n + (d - 48)) ds
 
 -- ---- the tokens of numbers
 
-pub code-above : (n : ℕ) → n < 2147483648 → tokenOf (256 + 2147483648 + n) ≡ Number (pos n)
-unfolding tokenOf
+pub code-above : (n : ℕ) → n < excessAdded → tokenOf (numberCode + excessAdded + n) ≡ Number (pos n)
 code-above n h =
-    let c : ℕ = 256 + 2147483648 + n in
-    rw (le-ltb c 65 (omega arith), le-ltb c 71 (omega arith), le-ltb c 256 (omega arith), le-ltb (c - 256) 2147483648 (omega arith)) (ap (λ (k : ℕ). Number (pos k)) (omega arith))
+    let c : ℕ = numberCode + excessAdded + n in
+    number-token c (omega arith) ∙ rw (le-ltb (c - numberCode) excessAdded (omega arith)) (ap (λ (k : ℕ). Number (pos k)) (omega arith))
 
-pub code-below : (n : ℕ) → n ≤ 2147483648 → tokenOf (256 + 2147483648 - n) ≡ Number (negℤ (pos n))
+pub code-below : (n : ℕ) → n ≤ excessAdded → tokenOf (numberCode + excessAdded - n) ≡ Number (negℤ (pos n))
 unfolding tokenOf
 code-below zero h = refl
 code-below (suc n) h =
-    let c : ℕ = 256 + 2147483648 - suc n in
-    rw (le-ltb c 65 (omega arith), le-ltb c 71 (omega arith), le-ltb c 256 (omega arith), lt-ltb (c - 256) 2147483648 (omega arith)) (ap (λ (k : ℕ). Number (negsuc k)) (omega arith))
+    let c : ℕ = numberCode + excessAdded - suc n in
+    number-token c (omega arith) ∙ rw (lt-ltb (c - numberCode) excessAdded (omega arith)) (ap (λ (k : ℕ). Number (negsuc k)) (omega arith))
 
 pub range-below : (n : ℕ) → n ≤ 2147483648 → inRange (negℤ (pos n)) ≡ true
 range-below zero h = refl
@@ -40,23 +42,29 @@ pub range-out : (n : ℕ) → 2147483648 < n → inRange (negℤ (pos n)) ≡ fa
 range-out zero h = absurd (omega arith)
 range-out (suc n) h = le-ltb n 2147483648 (omega arith)
 
--- ---- the number from i up to e, whose bytes are those of a run of digits
+-- ---- the number of a run of digits, which starts at i
 
-module _ (sign : ℕ → ℤ) (before : ℕ) (l : List ℕ) (i e : ℕ) (h : e - i ≡ length (takeWhile (between 48 57) l)) where
+module _ (sign : ℕ → ℤ) (before : ℕ) (text : List ℕ) (i : ℕ) (r : Run) (run : RunAt text i 48 57 10 48 mostDigits r) where
+  abbrev digits : List ℕ
+  digits = takeWhile isDigit (drop i text)
+
+  long : r .end - i ≡ length digits
+  long = omega (arith, run .ends)
+
   -- no digit, or too many
-  pub number-length : (1 ≤ e - i → e - i ≤ 10 → ⊥) → none ≡ numberFrom sign before (takeWhile (between 48 57) l)
+  pub number-length : (1 ≤ r .end - i → r .end - i ≤ mostDigits → ⊥) → none ≡ numberFrom sign before digits
   unfolding numberFrom
-  number-length f = rw (← h, between-no 1 10 (e - i) f)
+  number-length f = rw (← long, between-no 1 mostDigits (r .end - i) f)
 
-  module _ (n : ℕ) (v : n ≡ inBase 10 48 0 (takeWhile (between 48 57) l)) (low : 1 ≤ e - i) (high : e - i ≤ 10) where
-    digits-spell : spelled 0 (takeWhile (between 48 57) l) ≡ n
-    digits-spell = sym (v ∙ in-ten 0 (takeWhile (between 48 57) l))
+  module _ (low : 1 ≤ r .end - i) (high : r .end - i ≤ mostDigits) where
+    digits-spell : spelled 0 digits ≡ r .number
+    digits-spell = sym (run .spells high ∙ in-ten 0 digits)
 
-    pub number-out : inRange (sign n) ≡ false → none ≡ numberFrom sign before (takeWhile (between 48 57) l)
+    pub number-out : inRange (sign (r .number)) ≡ false → none ≡ numberFrom sign before digits
     unfolding numberFrom
-    number-out r = rw (← h, digits-spell, between-yes 1 10 (e - i) low high, r)
+    number-out e = rw (← long, digits-spell, between-yes 1 mostDigits (r .end - i) low high, e)
 
-    pub number-found : (c j : ℕ) → inRange (sign n) ≡ true → tokenOf c ≡ Number (sign n) → e - j ≡ before + (e - i)
-        → some (tokenOf c, e - j) ≡ numberFrom sign before (takeWhile (between 48 57) l)
+    pub number-found : (c j : ℕ) → inRange (sign (r .number)) ≡ true → tokenOf c ≡ Number (sign (r .number)) → r .end - j ≡ before + (r .end - i)
+        → some (tokenOf c, r .end - j) ≡ numberFrom sign before digits
     unfolding numberFrom
-    number-found c j r t k = rw (← h, digits-spell, between-yes 1 10 (e - i) low high, r, t, k)
+    number-found c j e t k = rw (← long, digits-spell, between-yes 1 mostDigits (r .end - i) low high, e, t, k)

@@ -11,7 +11,6 @@ use Rattle.tables.proofs.Tests.{between-yes}
 use Rattle.rule.specs.Tokens.{takeWhile}
 use Rattle.lexer.proofs.Runs.{run-take, Passed, passed-none, passed-more, run-within}
 use Rattle.lexer.specs.Code.{inBase, power, Spellable, RunAt}
-use Rattle.lexer.specs.declared.Run.{Run}
 
 power-more : (base j d : ℕ) → 1 ≤ base → power base j ≤ power base (j + d)
 power-more base j zero h = let e : j + 0 ≡ j = omega arith in rw e (le-refl (power base j))

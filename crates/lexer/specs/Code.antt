@@ -8,10 +8,11 @@ use Prim.Native.Nat.{ℕ, zero, suc, _+_, _*_, _-_, _<_, _≤_}
 use lib.Dec.{eqb, ltb}
 use lib.ListN.{length, take, drop}
 use Rattle.tables.specs.Bytes.{between}
-use Rattle.tables.specs.Values.{comparisonNumber, comparisonOf}
+use Rattle.tables.specs.Values.{Ne, Lt, Le, Gt, Ge, comparisonNumber, comparisonOf}
 use Rattle.cells.specs.Code.{fromExcess, toExcess}
 use Rattle.rule.specs.Tokens.{Token, Fixed, Compares, Letter, Number, Spelling, Lexed, takeWhile}
 use Rattle.rule.specs.Grammar.{Tokens}
+use Rattle.rule.specs.Calls.{mostBytes}
 use Rattle.lexer.specs.declared.Lexeme.{Lexeme}
 use Rattle.lexer.specs.declared.Lexeme.the-variants.{Token as LexedToken, NoToken}
 use Rattle.lexer.specs.declared.Run.{Run}
@@ -20,19 +21,35 @@ use Rattle.lexer.specs.declared.Tokenized.the-variants.{Tokens as Tokeni
 
 -- ---- a token as a number
 
--- the token that a number stands for: words, brackets and the point below 65, comparisons from there to 70, then letters, then numbers
+-- there is at most a token at each byte of a text
+abbrev pub mostTokens : ℕ
+mostTokens = mostBytes
+
+-- a comparison's code is this and its number, 1 to 6; those of words, brackets and the point are below
+abbrev pub comparesCode : ℕ
+comparesCode = 64
+
+-- a letter's code, its byte, is at least this
+abbrev pub letterCode : ℕ
+letterCode = comparesCode + 7
+
+-- a number's code is this and the number plus 2 ^ 31
+abbrev pub numberCode : ℕ
+numberCode = 256
+
+-- the token that a number stands for
 unfoldable pub tokenOf : ℕ → Token
 tokenOf c =
-    cond (ltb c 65) (Fixed c)
-    (cond (ltb c 71) (Compares (comparisonOf (c - 64)))
-    (cond (ltb c 256) (Letter c) (Number (fromExcess (c - 256)))))
+    cond (ltb c (comparesCode + 1)) (Fixed c)
+    (cond (ltb c letterCode) (Compares (comparisonOf (c - comparesCode)))
+    (cond (ltb c numberCode) (Letter c) (Number (fromExcess (c - numberCode)))))
 
 -- the number of a token
 abbrev pub codeOf : Token → ℕ
 codeOf (Fixed k) = k
-codeOf (Compares op) = 64 + comparisonNumber op
+codeOf (Compares op) = comparesCode + comparisonNumber op
 codeOf (Letter x) = x
-codeOf (Number n) = 256 + toExcess n
+codeOf (Number n) = numberCode + toExcess n
 
 abbrev pub tokensIn : List ℕ → Tokens
 tokensIn s = map tokenOf s
@@ -63,10 +80,14 @@ pub record RunAt (text : List ℕ) (i low high base zero′ most : ℕ) (r : Run
 abbrev pub mostCapitals : ℕ
 mostCapitals = 8
 
--- the word whose bytes are the digits of a number in base 256; 0 if there is none
+-- the bytes of a word are the digits of a number in this base
+abbrev pub wordBase : ℕ
+wordBase = 256
+
+-- the word whose bytes make up a number; 0 if there is none
 unfoldable pub wordCode : List Spelling → ℕ → ℕ
 wordCode [] run = 0
-wordCode (s ∷ ss) run = cond (eqb (inBase 256 0 0 (s .text)) run) (codeOf (s .token)) (wordCode ss run)
+wordCode (s ∷ ss) run = cond (eqb (inBase wordBase 0 0 (s .text)) run) (codeOf (s .token)) (wordCode ss run)
 
 -- ---- what the lexer answers
 
@@ -77,10 +98,12 @@ lexedAs i NoToken = none
 
 -- < and > with what may follow them, at place i
 unfoldable pub lessFrom : ℕ → ℕ → Lexeme
-lessFrom next i = cond (eqb next 62) (LexedToken 66 (i + 2)) (cond (eqb next 61) (LexedToken 68 (i + 2)) (LexedToken 67 (i + 1)))
+lessFrom next i =
+    cond (eqb next 62) (LexedToken (codeOf (Compares Ne)) (i + 2))
+    (cond (eqb next 61) (LexedToken (codeOf (Compares Le)) (i + 2)) (LexedToken (codeOf (Compares Lt)) (i + 1)))
 
 unfoldable pub greaterFrom : ℕ → ℕ → Lexeme
-greaterFrom next i = cond (eqb next 61) (LexedToken 70 (i + 2)) (LexedToken 69 (i + 1))
+greaterFrom next i = cond (eqb next 61) (LexedToken (codeOf (Compares Ge)) (i + 2)) (LexedToken (codeOf (Compares Gt)) (i + 1))
 
 -- so many tokens, which stand at the front of l
 abbrev pub tokenizedAs : Tokenized → List ℕ → Option Tokens

@@ -3,9 +3,10 @@ ghost use mathlib.Core.Path.{_≡_};
 ghost use Prim.Native.Nat.{_+_, _*_, _-_, _<_, _≤_};
 ghost use lib.IntN.{pos, negℤ};
 ghost use lib.ListN.{length, drop};
-ghost use Rattle.tables.specs.Bytes.{between, byteAt};
-ghost use Rattle.rule.specs.Tokens.{isGap, takeWhile, words, wordIn, signs, signIn, numberFrom, firstToken, tokensOf, opensFit};
-ghost use Rattle.lexer.specs.Code.{Spellable, RunAt, wordCode, lexedAs, lessFrom, greaterFrom, tokensIn, tokenizedAs, tokensFit};
+ghost use Rattle.tables.specs.Bytes.{byteAt};
+ghost use Rattle.rule.specs.Tokens.{isGap, isCapital, isDigit, takeWhile, words, wordIn, signs, signIn, numberFrom, firstToken, tokensOf, opensFit};
+ghost use Rattle.rule.specs.Calls.{mostBytes};
+ghost use Rattle.lexer.specs.Code.{mostTokens, Spellable, RunAt, wordCode, lexedAs, lessFrom, greaterFrom, tokensIn, tokenizedAs, tokensFit};
 use cells::EXCESS;
 use cells::byte;
 
@@ -63,7 +64,7 @@ pub enum Lexeme {
 
 // The place of the first byte from i on that is neither a space nor a line feed.
 fn skip_gaps(text: &[u8], i: usize) -> usize
-    requires { ⌜ i ≤ length (now text) ⌝ ∗ ⌜ length (now text) ≤ 4096 ⌝ }
+    requires { ⌜ i ≤ length (now text) ⌝ ∗ ⌜ length (now text) ≤ mostBytes ⌝ }
     ensures { λ r. ⌜ r ≡ i + length (takeWhile isGap (drop i (now (text .entry)))) ⌝ }
 {
     let mut e: usize = i;
@@ -96,7 +97,7 @@ fn spell_run(
     zero: usize,
     most: usize,
 ) -> Run
-    requires { ⌜ i ≤ length (now text) ⌝ ∗ ⌜ length (now text) ≤ 4096 ⌝ ∗ ⌜ Spellable low high base zero most ⌝ }
+    requires { ⌜ i ≤ length (now text) ⌝ ∗ ⌜ length (now text) ≤ mostBytes ⌝ ∗ ⌜ Spellable low high base zero most ⌝ }
     ensures { λ r. ⌜ RunAt (now (text .entry)) i low high base zero most r ⌝ }
 {
     let mut n: usize = 0;
@@ -140,8 +141,8 @@ fn word_code(run: usize) -> usize
 
 // The word of the capitals from i on.
 fn word(text: &[u8], i: usize) -> Lexeme
-    requires { ⌜ i ≤ length (now text) ⌝ ∗ ⌜ length (now text) ≤ 4096 ⌝ }
-    ensures { λ r. ⌜ lexedAs i r ≡ wordIn words (takeWhile (between 65 90) (drop i (now (text .entry)))) ⌝ }
+    requires { ⌜ i ≤ length (now text) ⌝ ∗ ⌜ length (now text) ≤ mostBytes ⌝ }
+    ensures { λ r. ⌜ lexedAs i r ≡ wordIn words (takeWhile isCapital (drop i (now (text .entry)))) ⌝ }
 {
     let run = spell_run(text, i, 65, 90, 256, 0, MOST_CAPITALS);
     if MOST_CAPITALS < run.end - i {
@@ -156,8 +157,8 @@ fn word(text: &[u8], i: usize) -> Lexeme
 
 // The number of the digits from i on.
 fn number(text: &[u8], i: usize) -> Lexeme
-    requires { ⌜ i ≤ length (now text) ⌝ ∗ ⌜ length (now text) ≤ 4096 ⌝ }
-    ensures { λ r. ⌜ lexedAs i r ≡ numberFrom pos 0 (takeWhile (between 48 57) (drop i (now (text .entry)))) ⌝ }
+    requires { ⌜ i ≤ length (now text) ⌝ ∗ ⌜ length (now text) ≤ mostBytes ⌝ }
+    ensures { λ r. ⌜ lexedAs i r ≡ numberFrom pos 0 (takeWhile isDigit (drop i (now (text .entry)))) ⌝ }
 {
     let run = spell_run(text, i, 48, 57, 10, 48, MOST_DIGITS);
     if run.end == i {
@@ -177,8 +178,8 @@ fn number(text: &[u8], i: usize) -> Lexeme
 
 // The same with the minus before i.
 fn negative(text: &[u8], i: usize) -> Lexeme
-    requires { ⌜ (0 < i) × (i ≤ length (now text)) ⌝ ∗ ⌜ length (now text) ≤ 4096 ⌝ }
-    ensures { λ r. ⌜ lexedAs (i - 1) r ≡ numberFrom (λ n. negℤ (pos n)) 1 (takeWhile (between 48 57) (drop i (now (text .entry)))) ⌝ }
+    requires { ⌜ (0 < i) × (i ≤ length (now text)) ⌝ ∗ ⌜ length (now text) ≤ mostBytes ⌝ }
+    ensures { λ r. ⌜ lexedAs (i - 1) r ≡ numberFrom (λ n. negℤ (pos n)) 1 (takeWhile isDigit (drop i (now (text .entry)))) ⌝ }
 {
     let run = spell_run(text, i, 48, 57, 10, 48, MOST_DIGITS);
     if run.end == i {
@@ -208,7 +209,7 @@ fn byte_or_zero(text: &[u8], i: usize) -> usize
 
 // The sign at i: < and > may go on.
 fn sign(text: &[u8], i: usize) -> Lexeme
-    requires { ⌜ i < length (now text) ⌝ ∗ ⌜ length (now text) ≤ 4096 ⌝ }
+    requires { ⌜ i < length (now text) ⌝ ∗ ⌜ length (now text) ≤ mostBytes ⌝ }
     ensures { λ r. ⌜ lexedAs i r ≡ signIn signs (drop i (now (text .entry))) ⌝ }
 {
     let next = byte_or_zero(text, i + 1);
@@ -237,7 +238,7 @@ fn sign(text: &[u8], i: usize) -> Lexeme
 
 // The sign at i that begins with <, where this byte comes next: <> or <= or <.
 fn less(next: usize, i: usize) -> Lexeme
-    requires { ⌜ i < 4096 ⌝ }
+    requires { ⌜ i < mostBytes ⌝ }
     ensures { λ r. ⌜ r ≡ lessFrom next i ⌝ }
 {
     if next == 62 {
@@ -260,7 +261,7 @@ fn less(next: usize, i: usize) -> Lexeme
 
 // The sign at i that begins with >.
 fn greater(next: usize, i: usize) -> Lexeme
-    requires { ⌜ i < 4096 ⌝ }
+    requires { ⌜ i < mostBytes ⌝ }
     ensures { λ r. ⌜ r ≡ greaterFrom next i ⌝ }
 {
     if next == 61 {
@@ -277,7 +278,7 @@ fn greater(next: usize, i: usize) -> Lexeme
 
 // The token at i, where there is no gap.
 fn first_token(text: &[u8], i: usize) -> Lexeme
-    requires { ⌜ i < length (now text) ⌝ ∗ ⌜ length (now text) ≤ 4096 ⌝ }
+    requires { ⌜ i < length (now text) ⌝ ∗ ⌜ length (now text) ≤ mostBytes ⌝ }
     ensures { λ r. ⌜ lexedAs i r ≡ firstToken (byteAt (now (text .entry)) i) (drop (1 + i) (now (text .entry))) ⌝ }
 {
     let b = byte(text, i);
@@ -316,7 +317,7 @@ pub enum Tokenized {
 
 // Each token's number, from the start of tokens on. There is room for a token at each byte.
 pub fn tokenize(text: &[u8], tokens: &mut [usize]) -> Tokenized
-    requires { ⌜ length (now text) ≤ 4096 ⌝ ∗ ⌜ length (now text) ≤ length (now tokens) ⌝ }
+    requires { ⌜ length (now text) ≤ mostBytes ⌝ ∗ ⌜ length (now text) ≤ length (now tokens) ⌝ }
     ensures are { λ r. ⌜ tokenizedAs r (now (tokens .exit)) ≡ tokensOf (now (text .entry)) ⌝ }
     ensures size { λ r. ⌜ (length (now (tokens .exit)) ≡ length (now (tokens .entry))) × tokensFit r (length (now (text .entry))) ⌝ }
 {
@@ -335,7 +336,7 @@ pub fn tokenize(text: &[u8], tokens: &mut [usize]) -> Tokenized
 
 // Whether there are never too many more ( than ) up to a token: refusal 5 does not apply. Both are counted, since the difference may be negative.
 pub fn brackets_fit(tokens: &[usize]) -> bool
-    requires { ⌜ length (now tokens) ≤ 4096 ⌝ }
+    requires { ⌜ length (now tokens) ≤ mostTokens ⌝ }
     ensures { λ r. ⌜ r ≡ opensFit (pos 0) (tokensIn (now (tokens .entry))) ⌝ }
 {
     let mut opened: usize = 0;

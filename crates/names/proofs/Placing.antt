@@ -1,6 +1,5 @@
 -- A law for each shape of a condition: from what its inner conditions and values came to, to what it comes to.
 use mathlib.Core.Path.{_≡_, refl, sym, ap, ap₂, subst, _∙_}
-use mathlib.Core.Bool.{Bool, true, false}
 use mathlib.Core.List.{List, [], _∷_, _++_, append-assoc}
 use mathlib.Core.Option.{Option, none, some, Option·map}
 use Prim.Native.Nat.{ℕ, zero, suc, _+_, _*_, _-_, _<_, _≤_}
@@ -10,27 +9,28 @@ use lib.ListN.{length, take, drop, getD}
 use lib.Seq.{take-at}
 use Rattle.tables.specs.Lists.{_>>=_}
 use Rattle.tables.specs.Tables.{tableCount, columnsOf}
-use Rattle.tables.specs.Values.{Value, Comparison, comparisonNumber, Connective, And, Or, Quantifier, Some, All}
+use Rattle.tables.specs.Values.{mostLevels, Value, comparisonNumber, And, Or, Quantifier, Some, All}
 use Rattle.tables.proofs.Sizes.{columns-count}
-use Rattle.cells.specs.Code.{fromExcess, toExcess}
-use Rattle.rule.specs.Condition.{Compare, Atom, Join, Not, Exists, Listed, WrittenValue, Over, WrittenCondition, Rule, parts, fromsDeep}
-use Rattle.rule.specs.Names.{Scope, outermost, bound, existing, valueIn, testIn, ruleIn}
-use Rattle.rule.specs.Parts.{listKind, Head, AtomHead, JoinHead, NotHead, ExistsHead, ListedHead, partOf, partsFrom, partsOf}
+use Rattle.cells.specs.Code.{fromExcess}
+use Rattle.rule.specs.Condition.{Test, Compare, IsNull, IsNotNull, Atom, Join, Not, Listed, WrittenValue, Over, WrittenCondition, Rule, parts, fromsDeep}
+use Rattle.rule.specs.Throughout.{Throughout}
+use Rattle.rule.specs.Names.{mostParts, Scope, outermost, bound, existing, valueIn, testIn, ruleIn}
+use Rattle.rule.specs.Parts.{joinKind, listKind, notKind, compareKind, nullKind, notNullKind, existsKind, Head, AtomHead, JoinHead, NotHead, ExistsHead, ListedHead, partOf, partsFrom, partsOf}
 use Rattle.rule.specs.declared.Part.{Part}
-use Rattle.grammar.specs.Code.{noted}
+use Rattle.phrases.specs.Code.{noted}
+use Rattle.grammar.specs.Code.{noteSize, noteComparison, noteTable, noteLetter, noteLeftLetter, noteRightLetter}
+use Rattle.scopes.specs.Code.{valueNumbers, existingAs, scopeIn, binding, outerScope, ScopeFits, partFields, plainPartNumbers, leftWritten, rightWritten, comparedNumbers, nullNumbers, ownPartNumbers, comparedAs}
+use Rattle.scopes.proofs.Looking.{none-there, some-there}
+use Rattle.scopes.proofs.Resolving.{map-none, Mapped, map-some}
+use Rattle.scopes.proofs.Scopes.{bound-below, bound-is, fits-fewer, room-for, fits-deeper, outer-is, outer-fits}
 use Rattle.rule.proofs.Parts.{parts-length}
-use Rattle.names.specs.Code.{partFields, partNumbers, partsNumbers, plainPartNumbers, valueNumbers, existingAs, scopeIn, binding, ScopeFits, resolvedAs, writtenAt, leftWritten, rightWritten, comparedNumbers, comparedAs, ValueKept, Kept, kindAt, Placeable, PlacedAt, PlacedAs, Nameable, NamedAt}
-use Rattle.names.specs.declared.Resolved.{Resolved}
-use Rattle.names.specs.declared.Resolved.the-variants.{Value as ResolvedValue, Unresolved}
-use Rattle.names.specs.declared.Compared.{Compared}
-use Rattle.names.specs.declared.Compared.the-variants.{Part as ComparedPart, NoValues}
-use Rattle.names.specs.declared.Fields.{Fields}
+use Rattle.names.specs.Code.{partSize, partsSize, partNumbers, partsNumbers, Kept, kindAt, Placeable, PlacedAt, PlacedAs, PlacedTo, Nameable, NamedAt}
+use Rattle.scopes.specs.declared.Compared.{Compared}
+use Rattle.scopes.specs.declared.Compared.the-variants.{Part as ComparedPart, NoValues}
+use Rattle.scopes.specs.declared.Fields.{Fields}
 use Rattle.names.specs.declared.Placed.{Placed}
 use Rattle.names.specs.declared.Placed.the-variants.{At, Unplaced}
-use Rattle.names.proofs.Looking.{none-there, some-there}
-use Rattle.names.proofs.Resolving.{value-lost, value-found, BothValued, one-missing, both-there}
-use Rattle.names.proofs.Scopes.{bound-below, bound-is, fits-fewer, room-for, fits-deeper, outerScope, outer-is, outer-fits}
-use Rattle.names.proofs.Notes.{ownNumbers, own-low, value-back, Standing, stands, some-parts, some-notes, number-is, value-at, kind-is, not-inner, exists-inner, list-inner, right-inner, left-enough, left-inner, pairKind, PairShape, pair-shape, NotShape, not-shape, CompareShape, compare-shape, letterOf, numberOf, nullTest, nullKind, NullShape, null-shape, ExistsShape, exists-shape, ListShape, list-shape}
+use Rattle.names.proofs.Notes.{ownNumbers, own-low, value-back, Standing, stands, some-parts, some-notes, number-is, value-at, kind-is, not-inner, from-inner, right-inner, left-enough, left-inner, PairShape, pair-shape, NotShape, not-shape, TestShape, test-shape, Outer, OuterExists, OuterList, enclosed, enclosed-parts, enclosed-deep, from-kept, from-own, FromShape, from-shape}
 
 -- ---- what may be missing
 
@@ -39,12 +39,18 @@ bind-none none f h = refl
 bind-none (some x) f h = h x
 
 -- what a call placed
-module _ (file scope : List ℕ) (levels : ℕ) (t : WrittenCondition) (old new : List ℕ) (e : ℕ) (r : Placed) (w : PlacedAs file scope levels t old new e r) where
-  was-placed : (p : ℕ) → r ≡ At p → PlacedAt file scope levels t old new p e
-  was-placed p u = subst (PlacedAs file scope levels t old new e) u w
+was-missing : (file scope : List ℕ) (levels : ℕ) (t : WrittenCondition) (old new : List ℕ) (e : ℕ) (r : Placed) → PlacedAs file scope levels t old new e r
+    → r ≡ Unplaced → ruleIn (columnsOf file) (scopeIn scope levels) t ≡ none
+was-missing file scope levels t old new e r w u = subst (PlacedAs file scope levels t old new e) u w
 
-  was-missing : r ≡ Unplaced → ruleIn (columnsOf file) (scopeIn scope levels) t ≡ none
-  was-missing u = subst (PlacedAs file scope levels t old new e) u w
+-- from part number p up to e
+pub record Inner (file notes : List ℕ) (h : ℕ) (room : List ℕ) (e : ℕ) (scope : List ℕ) (levels : ℕ) (mid : List ℕ) (p : ℕ) : Type 0 where
+  pub size : length mid ≡ partsSize
+  pub placed : PlacedTo file notes h room mid e scope levels (At p)
+
+pub was-placed : (file notes : List ℕ) (h : ℕ) (room : List ℕ) (e : ℕ) (scope : List ℕ) (levels : ℕ) (mid : List ℕ) (p : ℕ) (r : Placed)
+    → PlacedTo file notes h room mid e scope levels r → length mid ≡ partsSize → r ≡ At p → Inner file notes h room e scope levels mid p
+was-placed file notes h room e scope levels mid p r w s u = record { size = s; placed = subst (PlacedTo file notes h room mid e scope levels) u w }
 
 -- ---- the numbers of parts
 
@@ -54,37 +60,139 @@ numbers-both [] qs = refl
 numbers-both (p ∷ ps) qs = ap (partNumbers p ++_) (numbers-both ps qs) ∙ sym (append-assoc (partNumbers p) (partsNumbers ps) (partsNumbers qs))
 
 -- a part before others
-part-before : (p : Part) (ps : List Part) (own rest mid new : List ℕ) (k : ℕ) → own ≡ partNumbers p → drop (8 * (k + 1)) mid ≡ partsNumbers ps ++ rest
-    → drop (8 * k) new ≡ own ++ drop (8 * (k + 1)) mid → drop (8 * k) new ≡ partsNumbers (p ∷ ps) ++ rest
+part-before : (p : Part) (ps : List Part) (own rest mid new : List ℕ) (k : ℕ) → own ≡ partNumbers p → drop (partSize * (k + 1)) mid ≡ partsNumbers ps ++ rest
+    → drop (partSize * k) new ≡ own ++ drop (partSize * (k + 1)) mid → drop (partSize * k) new ≡ partsNumbers (p ∷ ps) ++ rest
 unfolding partsNumbers
 part-before p ps own rest mid new k o w d = d ∙ ap₂ _++_ o w
 
 -- a part alone, as the last one before number e
-part-alone-at : (H : Head) (own old new : List ℕ) (k e : ℕ) → k + 1 ≡ e → own ≡ partNumbers (partOf e H) → drop (8 * k) new ≡ own ++ drop (8 * (k + 1)) old
-    → drop (8 * k) new ≡ partsNumbers (partOf (k + 1) H ∷ []) ++ drop (8 * e) old
+part-alone-at : (H : Head) (own old new : List ℕ) (k e : ℕ) → k + 1 ≡ e → own ≡ partNumbers (partOf e H) → drop (partSize * k) new ≡ own ++ drop (partSize * (k + 1)) old
+    → drop (partSize * k) new ≡ partsNumbers (partOf (k + 1) H ∷ []) ++ drop (partSize * e) old
 unfolding partsNumbers
 part-alone-at H own old new k e z o d =
     d
-    ∙ (ap (_++ drop (8 * (k + 1)) old) (o ∙ ap (λ (m : ℕ). partNumbers (partOf m H)) (sym z))
-    ∙ ap (λ (m : ℕ). partNumbers (partOf (k + 1) H) ++ drop (8 * m) old) z)
-
-value-is : (k e lt ln : ℕ) (v : Value) → valueNumbers v ≡ lt ∷ ln ∷ []
-    → k ∷ 0 ∷ 0 ∷ e ∷ lt ∷ ln ∷ 0 ∷ 0 ∷ [] ≡ k ∷ 0 ∷ 0 ∷ e ∷ (valueNumbers v ++ (0 ∷ 0 ∷ []))
-value-is k e lt ln v p = ap (λ (a : List ℕ). k ∷ 0 ∷ 0 ∷ e ∷ (a ++ (0 ∷ 0 ∷ []))) (sym p)
+    ∙ (ap (_++ drop (partSize * (k + 1)) old) (o ∙ ap (λ (m : ℕ). partNumbers (partOf m H)) (sym z))
+    ∙ ap (λ (m : ℕ). partNumbers (partOf (k + 1) H) ++ drop (partSize * m) old) z)
 
 -- ---- a part before its inner parts, whose first has the number p
 
 module _ (old mid new : List ℕ) (k e : ℕ) where
   module _ (p : ℕ) (z : k + 1 ≡ p) (w : Rule) (H : Head) (own : List ℕ) (start : p + parts w ≡ e)
-      (written : drop (8 * p) mid ≡ partsNumbers (partsFrom p w) ++ drop (8 * e) old) (o : own ≡ partNumbers (partOf e H)) where
-    around-written : drop (8 * k) new ≡ own ++ drop (8 * (k + 1)) mid
-        → drop (8 * k) new ≡ partsNumbers (partOf (k + (1 + parts w)) H ∷ partsFrom (k + 1) w) ++ drop (8 * e) old
+      (written : drop (partSize * p) mid ≡ partsNumbers (partsFrom p w) ++ drop (partSize * e) old) (o : own ≡ partNumbers (partOf e H)) where
+    around-written : drop (partSize * k) new ≡ own ++ drop (partSize * (k + 1)) mid
+        → drop (partSize * k) new ≡ partsNumbers (partOf (k + (1 + parts w)) H ∷ partsFrom (k + 1) w) ++ drop (partSize * e) old
     around-written d =
         let y : e ≡ k + (1 + parts w) = omega arith in
         part-before _ _ own _ mid new k
         (o ∙ ap (λ (m : ℕ). partNumbers (partOf m H)) y)
-        (subst (λ (m : ℕ). drop (8 * m) mid ≡ partsNumbers (partsFrom m w) ++ drop (8 * e) old) (sym z) written)
+        (subst (λ (m : ℕ). drop (partSize * m) mid ≡ partsNumbers (partsFrom m w) ++ drop (partSize * e) old) (sym z) written)
         d
+
+-- ---- what the part of a FROM says by itself, and what it names
+
+abbrev outerIn : List ℕ → Scope → Scope → Outer WrittenValue → Option (Outer Value)
+outerIn columns outside inside OuterExists = some OuterExists
+outerIn columns outside inside (OuterList j op l s) = valueIn columns outside l >>= (λ v. valueIn columns inside s >>= (λ w. some (OuterList j op v w)))
+
+abbrev outerHead : Outer Value → ℕ → Head
+outerHead OuterExists t = ExistsHead t
+outerHead (OuterList j op v w) t = ListedHead j op v w t
+
+enclosed-from : (k : ℕ) (o : Outer Value) (t : ℕ) (w : Rule) → partsFrom k (enclosed o t w) ≡ partOf (k + (1 + parts w)) (outerHead o t) ∷ partsFrom (k + 1) w
+unfolding partsFrom
+enclosed-from k OuterExists t w = refl
+enclosed-from k (OuterList j op l s) t w = refl
+
+module _ (columns : List ℕ) (scope : Scope) where
+  enclosed-unknown : (o : Outer WrittenValue) (n : ℤ) (x : ℕ) (w : WrittenCondition) → existing (length columns) n ≡ none → ruleIn columns scope (enclosed o (Over n x) w) ≡ none
+  unfolding ruleIn
+  enclosed-unknown OuterExists n x w m = rw m
+  enclosed-unknown (OuterList j op l s) n x w m = rw m
+
+  enclosed-known : (o : Outer WrittenValue) (n : ℤ) (x : ℕ) (w : WrittenCondition) (t : ℕ) → existing (length columns) n ≡ some t
+      → ruleIn columns scope (enclosed o (Over n x) w)
+      ≡ (outerIn columns scope (bound scope x t) o >>= (λ v. ruleIn columns (bound scope x t) w >>= (λ r. some (enclosed v t r))))
+  unfolding ruleIn
+  enclosed-known OuterExists n x w t m = rw m
+  enclosed-known (OuterList j op l s) n x w t m = rw m (go (valueIn columns scope l) (valueIn columns (bound scope x t) s) (ruleIn columns (bound scope x t) w))
+    where
+      go : (a b : Option Value) (o : Option Rule)
+          → (a >>= (λ v. b >>= (λ w. o >>= (λ r. some (Listed j op v w t r)))))
+          ≡ ((a >>= (λ v. b >>= (λ w. some (OuterList j op v w)))) >>= (λ v. o >>= (λ r. some (enclosed v t r))))
+      go none b o = refl
+      go (some v) none o = refl
+      go (some v) (some w) o = refl
+
+-- ---- the numbers of a part, from its notes
+
+module _ (columns : List ℕ) (outside inside : Scope) (t e : ℕ) where
+  -- what is noted as the own numbers of a condition
+  abbrev ownIn : List ℕ → Option (List ℕ)
+  ownIn own = ownPartNumbers (getD own 0 0) (getD own noteComparison 0) t e (valueIn columns outside (leftWritten own 0)) (valueIn columns inside (rightWritten own 0))
+
+  compared-map : {A : Type 0} (F : Value → Value → A) (g : A → List ℕ) (kind op : ℕ) → ((v w : Value) → kind ∷ op ∷ t ∷ e ∷ (valueNumbers v ++ valueNumbers w) ≡ g (F v w))
+      → (a b : Option Value) → comparedNumbers kind op t e a b ≡ Option·map g (a >>= (λ v. b >>= (λ w. some (F v w))))
+  compared-map F g kind op m none b = refl
+  compared-map F g kind op m (some v) none = refl
+  compared-map F g kind op m (some v) (some w) = ap some (m v w)
+
+  null-map : {A : Type 0} (F : Value → A) (g : A → List ℕ) (kind : ℕ) → ((v : Value) → kind ∷ 0 ∷ 0 ∷ e ∷ (valueNumbers v ++ (0 ∷ 0 ∷ [])) ≡ g (F v))
+      → (a : Option Value) → nullNumbers kind e a ≡ Option·map g (a >>= (λ v. some (F v)))
+  null-map F g kind m none = refl
+  null-map F g kind m (some v) = ap some (m v)
+
+  own-outer : (o : Outer WrittenValue) (n : ℤ) (x : ℕ) (w : WrittenCondition) → Kept (enclosed o (Over n x) w)
+      → ownIn (ownNumbers (enclosed o (Over n x) w)) ≡ Option·map (λ v. partNumbers (partOf e (outerHead v t))) (outerIn columns outside inside o)
+  unfolding Throughout
+  own-outer OuterExists n x w kept = refl
+  own-outer (OuterList j op l s) n x w kept =
+      ap₂ (λ (l s : WrittenValue). ownPartNumbers (listKind j) (comparisonNumber op) t e (valueIn columns outside l) (valueIn columns inside s))
+      (value-back l (kept .0))
+      (value-back s (kept .1))
+      ∙ go j
+    where
+      go : (j : Quantifier)
+          → ownPartNumbers (listKind j) (comparisonNumber op) t e (valueIn columns outside l) (valueIn columns inside s)
+          ≡ Option·map (λ v. partNumbers (partOf e (outerHead v t))) (outerIn columns outside inside (OuterList j op l s))
+      go Some = compared-map (OuterList Some op) _ (listKind Some) (comparisonNumber op) (λ v w. refl) (valueIn columns outside l) (valueIn columns inside s)
+      go All = compared-map (OuterList All op) _ (listKind All) (comparisonNumber op) (λ v w. refl) (valueIn columns outside l) (valueIn columns inside s)
+
+own-test : (columns : List ℕ) (scope : Scope) (e : ℕ) (x : Test WrittenValue) → Kept (Atom x)
+    → ownIn columns scope scope 0 e (ownNumbers (Atom x)) ≡ Option·map (λ y. partNumbers (partOf e (AtomHead y))) (testIn columns scope x)
+unfolding Throughout testIn
+own-test columns scope e (Compare op l r) kept =
+    ap₂ (λ (l r : WrittenValue). comparedNumbers compareKind (comparisonNumber op) 0 e (valueIn columns scope l) (valueIn columns scope r))
+    (value-back l (kept .0))
+    (value-back r (kept .1))
+    ∙ compared-map columns scope scope 0 e (Compare op) _ compareKind (comparisonNumber op) (λ v w. refl) (valueIn columns scope l) (valueIn columns scope r)
+own-test columns scope e (IsNull l) kept =
+    ap (λ (l : WrittenValue). nullNumbers nullKind e (valueIn columns scope l)) (value-back l kept)
+    ∙ null-map columns scope scope 0 e IsNull _ nullKind (λ v. refl) (valueIn columns scope l)
+own-test columns scope e (IsNotNull l) kept =
+    ap (λ (l : WrittenValue). nullNumbers notNullKind e (valueIn columns scope l)) (value-back l kept)
+    ∙ null-map columns scope scope 0 e IsNotNull _ notNullKind (λ v. refl) (valueIn columns scope l)
+
+-- ---- a FROM whose table was found, and its letter bound
+
+abbrev pub letterAt : List ℕ → ℕ → ℕ
+letterAt notes h = getD notes (noteSize * (h - 1) + noteLetter) 0
+
+abbrev pub TableFound : (file notes : List ℕ) (h t : ℕ) → Type 0
+TableFound file notes h t = existingAs t ≡ existing (tableCount file) (fromExcess (getD notes (noteSize * (h - 1) + noteTable) 0))
+
+pub record Bound (file notes : List ℕ) (h : ℕ) (scope : List ℕ) (levels t : ℕ) (inside : List ℕ) : Type 0 where
+  pub found : TableFound file notes h t
+  pub known : t ≡ 0 → ⊥
+  pub high : t ≤ tableCount file
+  pub made : inside ≡ binding scope levels (letterAt notes h) t
+
+pub table-found : (file notes : List ℕ) (h most t : ℕ) → most ≡ tableCount file
+    → existingAs t ≡ existing most (fromExcess (getD notes (noteSize * (h - 1) + noteTable) 0)) → TableFound file notes h t
+table-found file notes h most t z f = f ∙ ap (λ (m : ℕ). existing m (fromExcess (getD notes (noteSize * (h - 1) + noteTable) 0))) z
+
+pos-of : (t : ℕ) → (t ≡ 0 → ⊥) → 1 ≤ t
+pos-of zero z = absurd (z refl)
+pos-of (suc t) z = omega arith
 
 -- ---- a condition by its shape
 
@@ -98,10 +206,10 @@ module _ {file notes : List ℕ} {h : ℕ} {room : List ℕ} {e : ℕ} {scope : 
   here : Standing notes h (q .before) (q .tree) e levels
   here = stands q (q .tree) refl
 
-  pub has-notes : (1 ≤ h) × (h ≤ 64)
+  pub has-notes : (1 ≤ h) × (h ≤ mostParts)
   has-notes = (some-notes here, q .few-notes)
 
-  pub has-parts : (1 ≤ e) × (e ≤ 64)
+  pub has-parts : (1 ≤ e) × (e ≤ mostParts)
   has-parts = (omega (arith, q .fits, some-parts (q .tree)), q .few-parts)
 
   kind-here : kindAt notes h ≡ getD (ownNumbers (q .tree)) 0 0
@@ -110,12 +218,9 @@ module _ {file notes : List ℕ} {h : ℕ} {room : List ℕ} {e : ℕ} {scope : 
   pub kind-low : 1 ≤ kindAt notes h
   kind-low = rw kind-here (own-low (q .tree))
 
-  -- the kinds of the notes that have no key of their own
-  pub null-kinds : 3 ≤ kindAt notes h → kindAt notes h < 7 → (kindAt notes h ≡ 3 → ⊥) → (kindAt notes h ≡ 4 → ⊥) → (5 ≤ kindAt notes h) × (kindAt notes h ≤ 6)
-  null-kinds a b x y = (omega arith, omega arith)
-
-  pub list-kinds : 7 ≤ kindAt notes h → (kindAt notes h ≡ 7 → ⊥) → 8 ≤ kindAt notes h
-  list-kinds a x = omega arith
+  -- the kinds between those of NOT and EXISTS
+  pub test-kinds : notKind ≤ kindAt notes h → kindAt notes h < existsKind → (kindAt notes h ≡ notKind → ⊥) → (compareKind ≤ kindAt notes h) × (kindAt notes h ≤ notNullKind)
+  test-kinds a b x = (omega arith, omega arith)
 
   pub file-long : 0 < length file
   file-long = omega (arith, q .sized .long)
@@ -129,89 +234,90 @@ module _ {file notes : List ℕ} {h : ℕ} {room : List ℕ} {e : ℕ} {scope : 
 
   -- the noted values
   abbrev leftHere : WrittenValue
-  leftHere = leftWritten notes (8 * (h - 1))
+  leftHere = leftWritten notes (noteSize * (h - 1))
 
   abbrev rightHere : WrittenValue
-  rightHere = rightWritten notes (8 * (h - 1))
+  rightHere = rightWritten notes (noteSize * (h - 1))
 
   -- the numbers of a part with two values
   abbrev kindHere : ℕ
   kindHere = kindAt notes h
 
   abbrev opHere : ℕ
-  opHere = getD notes (8 * (h - 1) + 1) 0
-
-  abbrev comparedHere : ℕ → Option Value → Option Value → Option (List ℕ)
-  comparedHere t = comparedNumbers kindHere opHere t e
+  opHere = getD notes (noteSize * (h - 1) + noteComparison) 0
 
   -- so many elements are noted from the last note on
-  pub note-room : 8 * (h - 1) + 8 ≤ length notes
+  pub note-room : noteSize * (h - 1) + noteSize ≤ length notes
   note-room = omega (arith, has-notes, q .notes-room)
+
+  -- an inner condition, for a call
+  abbrev run-of : {k : ℕ} {before : List ℕ} {t : WrittenCondition} {p deeper : ℕ} → Standing notes k before t p deeper → {inside mid : List ℕ}
+      → ScopeFits file inside deeper → length mid ≡ partsSize → p ≤ mostParts → Placeable file notes k mid p inside deeper
+  run-of {before = before} {t = t} i s size few =
+      record {
+        sized = q .sized;
+        scope-fits = s;
+        notes-room = i .notes-room;
+        parts-size = size;
+        few-notes = i .few-notes;
+        few-parts = few;
+        before = before;
+        tree = t;
+        notes-are = i .notes-are;
+        fits = i .fits;
+        deep = i .deep;
+        kept = i .kept;
+      }
 
   -- ---- NOT
 
-  module _ (k : kindAt notes h ≡ 3) where
+  module _ (k : kindAt notes h ≡ notKind) where
     pub not-here : NotShape (q .tree)
     not-here = not-shape (q .tree) (sym kind-here ∙ k)
 
     abbrev pub not-tree : WrittenCondition
     not-tree = not-here .inside
 
-    not-stands : Standing notes h (q .before) (Not not-tree) e levels
+    pub not-stands : Standing notes h (q .before) (Not not-tree) e levels
     not-stands = stands q (Not not-tree) (not-here .is)
 
     pub not-in : Standing notes (h - 1) (q .before) not-tree e levels
     not-in = not-inner not-tree not-stands
 
     abbrev pub not-run : Placeable file notes (h - 1) room e scope levels
-    not-run =
-        record {
-          sized = q .sized;
-          scope-fits = q .scope-fits;
-          notes-room = not-in .notes-room;
-          parts-size = q .parts-size;
-          few-notes = not-in .few-notes;
-          few-parts = q .few-parts;
-          before = q .before;
-          tree = not-tree;
-          notes-are = not-in .notes-are;
-          fits = not-in .fits;
-          deep = not-in .deep;
-          kept = not-in .kept;
-        }
+    not-run = run-of not-in (q .scope-fits) (q .parts-size) (q .few-parts)
 
-    module _ (mid : List ℕ) (r : Placed) (came : PlacedAs file scope levels not-tree room mid e r) where
-      pub not-missing : r ≡ Unplaced → ruleIn columns around (q .tree) ≡ none
-      unfolding ruleIn
-      not-missing u = missing-as (Not not-tree) (not-here .is) (rw (was-missing file scope levels not-tree room mid e r came u))
+    pub not-missing : (mid : List ℕ) (r : Placed) → PlacedTo file notes (h - 1) room mid e scope levels r → r ≡ Unplaced → ruleIn columns around (q .tree) ≡ none
+    unfolding ruleIn
+    not-missing mid r w u = missing-as (Not not-tree) (not-here .is) (rw (was-missing file scope levels not-tree room mid e r (w not-run) u))
 
-      module _ (p : ℕ) (u : r ≡ At p) where
-        not-at : PlacedAt file scope levels not-tree room mid p e
-        not-at = was-placed file scope levels not-tree room mid e r came p u
+    module _ {mid : List ℕ} {p : ℕ} (i : Inner file notes (h - 1) room e scope levels mid p) where
+      not-at : PlacedAt file scope levels not-tree room mid p e
+      not-at = i .placed not-run
 
-        pub not-room : (1 ≤ p) × (p ≤ 64)
-        unfolding parts
-        not-room = (omega (arith, not-at .start, not-stands .fits), omega (arith, not-at .start, q .few-parts))
+      pub not-room : (1 ≤ p) × (p ≤ mostParts)
+      unfolding parts
+      not-room = (omega (arith, not-at .start, not-stands .fits), omega (arith, not-at .start, q .few-parts))
 
-        pub not-placed : (new own : List ℕ) → own ≡ plainPartNumbers 3 e → drop (8 * (p - 1)) new ≡ own ++ drop (8 * (p - 1 + 1)) mid
-            → PlacedAt file scope levels (q .tree) room new (p - 1) e
-        unfolding ruleIn parts partsFrom
-        not-placed new own o d =
-            let w = not-at in
-            let s = w .start in
-            let y = not-room in
-            let sp = w .same-parts in
-            placed-as (Not not-tree) (not-here .is) new (p - 1) record {
-              rule = Not (w .rule);
-              named = rw (w .named);
-              same-parts = ap (1 +_) sp;
-              start = omega arith;
-              written = around-written room mid new (p - 1) e p (omega arith) (w .rule) NotHead own (omega arith) (w .written) o d;
-            }
+      pub not-placed : (new own : List ℕ) → own ≡ plainPartNumbers notKind e → drop (partSize * (p - 1)) new ≡ own ++ drop (partSize * (p - 1 + 1)) mid
+          → PlacedAt file scope levels (q .tree) room new (p - 1) e
+      unfolding ruleIn parts partsFrom
+      not-placed new own o d =
+          let w = not-at in
+          let s = w .start in
+          let y = not-room in
+          let sp = w .same-parts in
+          placed-as (Not not-tree) (not-here .is) new (p - 1) record {
+            rule = Not (w .rule);
+            named = rw (w .named);
+            same-parts = ap (1 +_) sp;
+            start = omega arith;
+            written = around-written room mid new (p - 1) e p (omega arith) (w .rule) NotHead own (omega arith) (w .written) o d;
+          }
 
   -- ---- AND and OR
 
-  module _ (k : (1 ≤ kindAt notes h) × (kindAt notes h ≤ 2)) where
+  module _ (k : (joinKind And ≤ kindAt notes h) × (kindAt notes h ≤ joinKind Or)) where
     pub pair-here : PairShape (q .tree)
     pair-here = pair-shape (q .tree) (rw (← kind-here) k)
 
@@ -221,551 +327,273 @@ module _ {file notes : List ℕ} {h : ℕ} {room : List ℕ} {e : ℕ} {scope : 
     abbrev pub right-tree : WrittenCondition
     right-tree = pair-here .right
 
-    abbrev pair-tree : WrittenCondition
+    abbrev pub pair-tree : WrittenCondition
     pair-tree = Join (pair-here .joint) left-tree right-tree
 
-    pair-stands : Standing notes h (q .before) pair-tree e levels
+    pub pair-stands : Standing notes h (q .before) pair-tree e levels
     pair-stands = stands q pair-tree (pair-here .is)
 
-    pair-kind : kindAt notes h ≡ pairKind (pair-here .joint)
+    pair-kind : kindAt notes h ≡ joinKind (pair-here .joint)
     pair-kind = kind-is pair-stands
 
     pub right-in : Standing notes (h - 1) (q .before ++ noted left-tree) right-tree e levels
     right-in = right-inner (pair-here .joint) left-tree right-tree pair-stands
 
     abbrev pub right-run : Placeable file notes (h - 1) room e scope levels
-    right-run =
-        record {
-          sized = q .sized;
-          scope-fits = q .scope-fits;
-          notes-room = right-in .notes-room;
-          parts-size = q .parts-size;
-          few-notes = right-in .few-notes;
-          few-parts = q .few-parts;
-          before = q .before ++ noted left-tree;
-          tree = right-tree;
-          notes-are = right-in .notes-are;
-          fits = right-in .fits;
-          deep = right-in .deep;
-          kept = right-in .kept;
-        }
+    right-run = run-of right-in (q .scope-fits) (q .parts-size) (q .few-parts)
 
-    module _ (mid : List ℕ) (size : length mid ≡ 512) (r : Placed) (came : PlacedAs file scope levels right-tree room mid e r) where
-      pub right-missing : r ≡ Unplaced → ruleIn columns around (q .tree) ≡ none
+    pub right-missing : (mid : List ℕ) (r : Placed) → PlacedTo file notes (h - 1) room mid e scope levels r → r ≡ Unplaced → ruleIn columns around (q .tree) ≡ none
+    unfolding ruleIn
+    right-missing mid r w u =
+        missing-as pair-tree (pair-here .is)
+        (bind-none (ruleIn columns around left-tree) _ (λ x. rw (was-missing file scope levels right-tree room mid e r (w right-run) u)))
+
+    module _ {mid : List ℕ} {p : ℕ} (i : Inner file notes (h - 1) room e scope levels mid p) where
+      pub right-at : PlacedAt file scope levels right-tree room mid p e
+      right-at = i .placed right-run
+
+      pub right-room : (p ≤ e) × (e - p ≤ h - 1)
+      right-room = (omega (arith, right-at .start), left-enough (pair-here .joint) left-tree right-tree pair-stands p (right-at .start))
+
+      pub left-in : Standing notes (h - 1 - (e - p)) (q .before) left-tree p levels
+      left-in = left-inner (pair-here .joint) left-tree right-tree pair-stands p (right-at .start)
+
+      abbrev pub left-run : Placeable file notes (h - 1 - (e - p)) mid p scope levels
+      left-run = run-of left-in (q .scope-fits) (i .size) (omega (arith, right-at .start, q .few-parts))
+
+      pub left-missing : (mid2 : List ℕ) (r2 : Placed) → PlacedTo file notes (h - 1 - (e - p)) mid mid2 p scope levels r2 → r2 ≡ Unplaced
+          → ruleIn columns around (q .tree) ≡ none
       unfolding ruleIn
-      right-missing u =
-          missing-as pair-tree (pair-here .is)
-          (bind-none (ruleIn columns around left-tree) _ (λ x. rw (was-missing file scope levels right-tree room mid e r came u)))
+      left-missing mid2 r2 w u = missing-as pair-tree (pair-here .is) (rw (was-missing file scope levels left-tree mid mid2 p r2 (w left-run) u))
 
-      module _ (p : ℕ) (u : r ≡ At p) where
-        right-at : PlacedAt file scope levels right-tree room mid p e
-        right-at = was-placed file scope levels right-tree room mid e r came p u
+      module _ {mid2 : List ℕ} {p2 : ℕ} (i2 : Inner file notes (h - 1 - (e - p)) mid p scope levels mid2 p2) where
+        left-at : PlacedAt file scope levels left-tree mid mid2 p2 p
+        left-at = i2 .placed left-run
 
-        pub right-room : (p ≤ e) × (e - p ≤ h - 1)
-        right-room = (omega (arith, right-at .start), left-enough (pair-here .joint) left-tree right-tree pair-stands p (right-at .start))
+        pub left-room : (1 ≤ p2) × (p2 ≤ mostParts)
+        unfolding parts
+        left-room = (omega (arith, left-at .start, right-at .start, pair-stands .fits), omega (arith, left-at .start, right-at .start, q .few-parts))
 
-        pub left-in : Standing notes (h - 1 - (e - p)) (q .before) left-tree p levels
-        left-in = left-inner (pair-here .joint) left-tree right-tree pair-stands p (right-at .start)
+        both-written : drop (partSize * (p2 - 1 + 1)) mid2
+            ≡ partsNumbers (partsFrom (p2 - 1 + 1) (left-at .rule) ++ partsFrom (p2 - 1 + 1 + parts (left-at .rule)) (right-at .rule)) ++ drop (partSize * e) room
+        both-written =
+            let a = left-at .rule in
+            let b = right-at .rule in
+            let y = left-room in
+            let z : p2 ≡ p2 - 1 + 1 = omega arith in
+            let z2 : p ≡ p2 + parts a = omega (arith, left-at .start, left-at .same-parts) in
+            subst (λ (m : ℕ). drop (partSize * m) mid2 ≡ partsNumbers (partsFrom m a ++ partsFrom (m + parts a) b) ++ drop (partSize * e) room) z
+            (left-at .written
+            ∙ (ap (partsNumbers (partsFrom p2 a) ++_) (right-at .written)
+            ∙ (sym (append-assoc (partsNumbers (partsFrom p2 a)) (partsNumbers (partsFrom p b)) (drop (partSize * e) room))
+            ∙ ap (_++ drop (partSize * e) room)
+            (sym (numbers-both (partsFrom p2 a) (partsFrom p b)) ∙ ap (λ (m : ℕ). partsNumbers (partsFrom p2 a ++ partsFrom m b)) z2))))
 
-        pub left-few : p ≤ 64
-        left-few = omega (arith, right-at .start, q .few-parts)
-
-        abbrev pub left-run : Placeable file notes (h - 1 - (e - p)) mid p scope levels
-        left-run =
-            record {
-              sized = q .sized;
-              scope-fits = q .scope-fits;
-              notes-room = left-in .notes-room;
-              parts-size = size;
-              few-notes = left-in .few-notes;
-              few-parts = left-few;
-              before = q .before;
-              tree = left-tree;
-              notes-are = left-in .notes-are;
-              fits = left-in .fits;
-              deep = left-in .deep;
-              kept = left-in .kept;
-            }
-
-        module _ (mid2 : List ℕ) (r2 : Placed) (came2 : PlacedAs file scope levels left-tree mid mid2 p r2) where
-          pub left-missing : r2 ≡ Unplaced → ruleIn columns around (q .tree) ≡ none
-          unfolding ruleIn
-          left-missing u2 = missing-as pair-tree (pair-here .is) (rw (was-missing file scope levels left-tree mid mid2 p r2 came2 u2))
-
-          module _ (p2 : ℕ) (u2 : r2 ≡ At p2) where
-            left-at : PlacedAt file scope levels left-tree mid mid2 p2 p
-            left-at = was-placed file scope levels left-tree mid mid2 p r2 came2 p2 u2
-
-            pub left-room : (1 ≤ p2) × (p2 ≤ 64)
-            unfolding parts
-            left-room =
-                (omega (arith, left-at .start, right-at .start, pair-stands .fits), omega (arith, left-at .start, right-at .start, q .few-parts))
-
-            both-written : drop (8 * (p2 - 1 + 1)) mid2
-                ≡ partsNumbers (partsFrom (p2 - 1 + 1) (left-at .rule) ++ partsFrom (p2 - 1 + 1 + parts (left-at .rule)) (right-at .rule)) ++ drop (8 * e) room
-            both-written =
-                let a = left-at .rule in
-                let b = right-at .rule in
-                let y = left-room in
-                let z : p2 ≡ p2 - 1 + 1 = omega arith in
-                let z2 : p ≡ p2 + parts a = omega (arith, left-at .start, left-at .same-parts) in
-                subst (λ (m : ℕ). drop (8 * m) mid2 ≡ partsNumbers (partsFrom m a ++ partsFrom (m + parts a) b) ++ drop (8 * e) room) z
-                (left-at .written
-                ∙ (ap (partsNumbers (partsFrom p2 a) ++_) (right-at .written)
-                ∙ (sym (append-assoc (partsNumbers (partsFrom p2 a)) (partsNumbers (partsFrom p b)) (drop (8 * e) room))
-                ∙ ap (_++ drop (8 * e) room)
-                (sym (numbers-both (partsFrom p2 a) (partsFrom p b)) ∙ ap (λ (m : ℕ). partsNumbers (partsFrom p2 a ++ partsFrom m b)) z2))))
-
-            own-pair : (j : Connective) → pairKind j ∷ 0 ∷ 0 ∷ e ∷ 0 ∷ 0 ∷ 0 ∷ 0 ∷ [] ≡ partNumbers (partOf e (JoinHead j))
-            own-pair And = refl
-            own-pair Or = refl
-
-            pub pair-placed : (new own : List ℕ) → own ≡ plainPartNumbers (kindAt notes h) e → drop (8 * (p2 - 1)) new ≡ own ++ drop (8 * (p2 - 1 + 1)) mid2
-                → PlacedAt file scope levels (q .tree) room new (p2 - 1) e
-            unfolding ruleIn parts partsFrom
-            pair-placed new own o d =
-                let a = left-at .rule in
-                let b = right-at .rule in
-                let j = pair-here .joint in
-                let y = left-room in
-                let s1 = left-at .start in
-                let s2 = right-at .start in
-                let t1 = left-at .same-parts in
-                let t2 = right-at .same-parts in
-                let z : e ≡ p2 - 1 + (1 + parts a + parts b) = omega arith in
-                placed-as pair-tree (pair-here .is) new (p2 - 1) record {
-                  rule = Join j a b;
-                  named = rw (left-at .named, right-at .named);
-                  same-parts = omega arith;
-                  start = omega arith;
-                  written =
-                      part-before _ _ own _ mid2 new (p2 - 1)
-                      (o ∙ (ap (λ (n : ℕ). n ∷ 0 ∷ 0 ∷ e ∷ 0 ∷ 0 ∷ 0 ∷ 0 ∷ []) pair-kind ∙ (own-pair j ∙ ap (λ (m : ℕ). partNumbers (partOf m (JoinHead j))) z)))
-                      both-written
-                      d;
-                }
-
-  -- ---- comparisons
-
-  module _ (k : kindAt notes h ≡ 4) where
-    compare-here : CompareShape (q .tree)
-    compare-here = compare-shape (q .tree) (sym kind-here ∙ k)
-
-    abbrev compare-tree : WrittenCondition
-    compare-tree = Atom (Compare (compare-here .op) (compare-here .left) (compare-here .right))
-
-    compare-stands : Standing notes h (q .before) compare-tree e levels
-    compare-stands = stands q compare-tree (compare-here .is)
-
-    compare-left : leftHere ≡ compare-here .left
-    unfolding Kept
-    compare-left = value-at compare-stands 4 (omega arith) ∙ value-back (compare-here .left) (compare-stands .kept .0)
-
-    compare-right : rightHere ≡ compare-here .right
-    unfolding Kept
-    compare-right = value-at compare-stands 6 (omega arith) ∙ value-back (compare-here .right) (compare-stands .kept .1)
-
-    module _ (r : Compared) (came : comparedAs r ≡ comparedHere 0 (valueIn columns around leftHere) (valueIn columns around rightHere)) where
-      abbrev left-value : Option Value
-      left-value = valueIn columns around (compare-here .left)
-
-      abbrev right-value : Option Value
-      right-value = valueIn columns around (compare-here .right)
-
-      came-compared : comparedAs r ≡ comparedHere 0 left-value right-value
-      came-compared = came ∙ ap₂ (λ (l w : WrittenValue). comparedHere 0 (valueIn columns around l) (valueIn columns around w)) compare-left compare-right
-
-      pub compare-missing : r ≡ NoValues → ruleIn columns around (q .tree) ≡ none
-      unfolding ruleIn testIn
-      compare-missing u =
-          missing-as compare-tree (compare-here .is)
-          (ap (_>>= (λ y. some (Atom y))) (one-missing kindHere opHere 0 e left-value right-value r came-compared u (λ v w. some (Compare (compare-here .op) v w))))
-
-      module _ (p : Fields) (u : r ≡ ComparedPart p) where
-        found-compared : BothValued kindHere opHere 0 e left-value right-value (partFields p)
-        found-compared = both-there kindHere opHere 0 e left-value right-value r came-compared p u
-
-        pub compare-placed : (new : List ℕ) → drop (8 * (e - 1)) new ≡ partFields p ++ drop (8 * (e - 1 + 1)) room
-            → PlacedAt file scope levels (q .tree) room new (e - 1) e
-        unfolding ruleIn testIn parts partsFrom
-        compare-placed new d =
-            let v = found-compared in
-            let y = compare-stands .fits in
-            let z : e - 1 + 1 ≡ e = omega arith in
-            placed-as compare-tree (compare-here .is) new (e - 1) record {
-              rule = Atom (Compare (compare-here .op) (v .left) (v .right));
-              named = rw (v .left-is, v .right-is);
-              same-parts = refl;
-              start = z;
+        pub pair-placed : (new own : List ℕ) → own ≡ plainPartNumbers (kindAt notes h) e → drop (partSize * (p2 - 1)) new ≡ own ++ drop (partSize * (p2 - 1 + 1)) mid2
+            → PlacedAt file scope levels (q .tree) room new (p2 - 1) e
+        unfolding ruleIn parts partsFrom
+        pair-placed new own o d =
+            let a = left-at .rule in
+            let b = right-at .rule in
+            let j = pair-here .joint in
+            let y = left-room in
+            let s1 = left-at .start in
+            let s2 = right-at .start in
+            let t1 = left-at .same-parts in
+            let t2 = right-at .same-parts in
+            let z : e ≡ p2 - 1 + (1 + parts a + parts b) = omega arith in
+            placed-as pair-tree (pair-here .is) new (p2 - 1) record {
+              rule = Join j a b;
+              named = rw (left-at .named, right-at .named);
+              same-parts = omega arith;
+              start = omega arith;
               written =
-                  part-alone-at (AtomHead (Compare (compare-here .op) (v .left) (v .right))) (partFields p) room new (e - 1) e z
-                  (v .are ∙ ap₂ (λ (a b : ℕ). a ∷ b ∷ 0 ∷ e ∷ (valueNumbers (v .left) ++ valueNumbers (v .right))) k (number-is compare-stands 1 (omega arith)))
+                  part-before _ _ own _ mid2 new (p2 - 1)
+                  (o ∙ (ap (λ (n : ℕ). plainPartNumbers n e) pair-kind ∙ ap (λ (m : ℕ). partNumbers (partOf m (JoinHead j))) z))
+                  both-written
                   d;
             }
 
-  -- ---- IS NULL and IS NOT NULL
+  -- ---- tests
 
-  module _ (k : (5 ≤ kindAt notes h) × (kindAt notes h ≤ 6)) where
-    null-here : NullShape (q .tree)
-    null-here = null-shape (q .tree) (rw (← kind-here) k)
+  -- what is noted here are a condition's own numbers
+  own-here : {before : List ℕ} {t : WrittenCondition} → Standing notes h before t e levels → (outside inside : Scope) (table : ℕ)
+      → ownPartNumbers kindHere opHere table e (valueIn columns outside leftHere) (valueIn columns inside rightHere) ≡ ownIn columns outside inside table e (ownNumbers t)
+  own-here {t = t} st outside inside table =
+      ap₂ (λ (a o : ℕ). ownPartNumbers a o table e (valueIn columns outside leftHere) (valueIn columns inside rightHere)) (kind-is st) (number-is st noteComparison (omega arith))
+      ∙ ap₂ (λ (l r : WrittenValue). ownPartNumbers (getD (ownNumbers t) 0 0) (getD (ownNumbers t) noteComparison 0) table e (valueIn columns outside l) (valueIn columns inside r))
+      (value-at st noteLeftLetter (omega arith))
+      (value-at st noteRightLetter (omega arith))
 
-    abbrev null-tree : WrittenCondition
-    null-tree = Atom (nullTest (null-here .null) (null-here .left))
+  module _ (k : (compareKind ≤ kindAt notes h) × (kindAt notes h ≤ notNullKind)) (r : Compared)
+      (came : comparedAs r ≡ ownPartNumbers kindHere opHere 0 e (valueIn columns around leftHere) (valueIn columns around rightHere)) where
+    test-here : TestShape (q .tree)
+    test-here = test-shape (q .tree) (rw (← kind-here) k)
 
-    null-stands : Standing notes h (q .before) null-tree e levels
-    null-stands = stands q null-tree (null-here .is)
+    test-stands : Standing notes h (q .before) (Atom (test-here .test)) e levels
+    test-stands = stands q (Atom (test-here .test)) (test-here .is)
 
-    null-kept : (b : Bool) (l : WrittenValue) → Kept (Atom (nullTest b l)) → ValueKept l
-    unfolding Kept
-    null-kept true l t = t
-    null-kept false l t = t
+    came-test : comparedAs r ≡ Option·map (λ y. partNumbers (partOf e (AtomHead y))) (testIn columns around (test-here .test))
+    came-test = came ∙ (own-here test-stands around around 0 ∙ own-test columns around e (test-here .test) (test-stands .kept))
 
-    null-numbers : (b : Bool) (l : WrittenValue) → ownNumbers (Atom (nullTest b l)) ≡ nullKind b ∷ 0 ∷ 0 ∷ 0 ∷ letterOf l ∷ numberOf l ∷ 0 ∷ 0 ∷ []
-    null-numbers true l = refl
-    null-numbers false l = refl
+    pub test-missing : r ≡ NoValues → ruleIn columns around (q .tree) ≡ none
+    unfolding ruleIn
+    test-missing u =
+        missing-as (Atom (test-here .test)) (test-here .is)
+        (ap (_>>= (λ y. some (Atom y))) (map-none _ (testIn columns around (test-here .test)) (sym (ap comparedAs u) ∙ came-test)))
 
-    null-kind : kindAt notes h ≡ nullKind (null-here .null)
-    null-kind = kind-is null-stands ∙ ap (λ (xs : List ℕ). getD xs 0 0) (null-numbers (null-here .null) (null-here .left))
+    module _ (own : Fields) (u : r ≡ ComparedPart own) where
+      found-test : Mapped (λ y. partNumbers (partOf e (AtomHead y))) (testIn columns around (test-here .test)) (partFields own)
+      found-test = map-some _ (testIn columns around (test-here .test)) (partFields own) (sym (ap comparedAs u) ∙ came-test)
 
-    null-left : leftHere ≡ null-here .left
-    null-left =
-        value-at null-stands 4 (omega arith)
-        ∙ (ap (λ (xs : List ℕ). writtenAt xs 4) (null-numbers (null-here .null) (null-here .left))
-        ∙ value-back (null-here .left) (null-kept (null-here .null) (null-here .left) (null-stands .kept)))
-
-    null-found : (b : Bool) (l : WrittenValue) (v : Value) → valueIn columns around l ≡ some v
-        → ruleIn columns around (Atom (nullTest b l)) ≡ some (Atom (nullTest b v))
-    unfolding ruleIn testIn
-    null-found true l v m = rw m
-    null-found false l v m = rw m
-
-    null-none : (b : Bool) (l : WrittenValue) → valueIn columns around l ≡ none → ruleIn columns around (Atom (nullTest b l)) ≡ none
-    unfolding ruleIn testIn
-    null-none true l m = rw m
-    null-none false l m = rw m
-
-    own-null : (b : Bool) (lt ln : ℕ) (v : Value) → valueNumbers v ≡ lt ∷ ln ∷ []
-        → nullKind b ∷ 0 ∷ 0 ∷ e ∷ lt ∷ ln ∷ 0 ∷ 0 ∷ [] ≡ partNumbers (partOf e (AtomHead (nullTest b v)))
-    own-null true lt ln v m = value-is 5 e lt ln v m
-    own-null false lt ln v m = value-is 6 e lt ln v m
-
-    module _ (r : Resolved) (came : resolvedAs r ≡ Option·map valueNumbers (valueIn columns around leftHere)) where
-      pub null-missing : r ≡ Unresolved → ruleIn columns around (q .tree) ≡ none
-      null-missing u =
-          missing-as null-tree (null-here .is)
-          (null-none (null-here .null) (null-here .left) (value-lost columns around null-left r came u))
-
-      pub null-placed : (lt ln : ℕ) → r ≡ ResolvedValue lt ln → (new : List ℕ)
-          → drop (8 * (e - 1)) new ≡ (kindAt notes h ∷ 0 ∷ 0 ∷ e ∷ lt ∷ ln ∷ 0 ∷ 0 ∷ []) ++ drop (8 * (e - 1 + 1)) room
+      pub test-placed : (new : List ℕ) → drop (partSize * (e - 1)) new ≡ partFields own ++ drop (partSize * (e - 1 + 1)) room
           → PlacedAt file scope levels (q .tree) room new (e - 1) e
-      unfolding parts partsFrom
-      null-placed lt ln u new d =
-          let v = value-found columns around null-left r came lt ln u in
-          let b = null-here .null in
-          let y = null-stands .fits in
+      unfolding ruleIn parts partsFrom
+      test-placed new d =
+          let y = test-stands .fits in
           let z : e - 1 + 1 ≡ e = omega arith in
-          placed-as null-tree (null-here .is) new (e - 1) record {
-            rule = Atom (nullTest b (v .value));
-            named = null-found b (null-here .left) (v .value) (v .is);
+          placed-as (Atom (test-here .test)) (test-here .is) new (e - 1) record {
+            rule = Atom (found-test .value);
+            named = rw (found-test .is);
             same-parts = refl;
             start = z;
-            written =
-                part-alone-at (AtomHead (nullTest b (v .value))) _ room new (e - 1) e z
-                (ap (λ (n : ℕ). n ∷ 0 ∷ 0 ∷ e ∷ lt ∷ ln ∷ 0 ∷ 0 ∷ []) null-kind ∙ own-null b lt ln (v .value) (v .numbers))
-                d;
+            written = part-alone-at (AtomHead (found-test .value)) (partFields own) room new (e - 1) e z (sym (found-test .image)) d;
           }
 
-  -- ---- a FROM: its table, and its letter one level deeper
+  -- ---- EXISTS, SOME and ALL
 
-  module _ (n : ℤ) (kept : fromExcess (toExcess n) ≡ n) (noted-as : getD notes (8 * (h - 1) + 2) 0 ≡ toExcess n) (most : ℕ) (count : most ≡ tableCount file) (t : ℕ)
-      (came : existingAs t ≡ existing most (fromExcess (getD notes (8 * (h - 1) + 2) 0))) where
-    table-is : existingAs t ≡ existing (length columns) n
-    table-is = came ∙ ap₂ existing (count ∙ sym (columns-count file)) (ap fromExcess noted-as ∙ kept)
+  module _ (k : existsKind ≤ kindAt notes h) where
+    pub from-here : FromShape (q .tree)
+    from-here = from-shape (q .tree) (rw (← kind-here) k)
 
-    table-missing : t ≡ 0 → existing (length columns) n ≡ none
-    table-missing z = none-there t table-is z
+    abbrev pub outer : Outer WrittenValue
+    outer = from-here .outer
 
-    table-there : (t ≡ 0 → ⊥) → existing (length columns) n ≡ some t
-    table-there z = some-there t table-is z
+    abbrev pub table : ℤ
+    table = from-here .table
 
-  abbrev pub insideOf : ℕ → List ℕ
-  insideOf t = binding scope levels (getD notes (8 * (h - 1) + 3) 0) t
+    abbrev pub letter : ℕ
+    letter = from-here .letter
 
-  module _ (few : levels < 4) (x : ℕ) (noted-as : getD notes (8 * (h - 1) + 3) 0 ≡ x) (t : ℕ) (inside : List ℕ) (made : inside ≡ insideOf t) where
-    inside-is : scopeIn inside (levels + 1) ≡ bound around x t
-    inside-is =
-        ap (λ (s : List ℕ). scopeIn s (levels + 1)) made
-        ∙ (bound-is scope levels (getD notes (8 * (h - 1) + 3) 0) t (room-for (q .scope-fits) (getD notes (8 * (h - 1) + 3) 0) t few)
-        ∙ ap (λ (x : ℕ). bound around x t) noted-as)
+    abbrev pub from-tree : WrittenCondition
+    from-tree = from-here .inside
 
-    inside-rule : (w : WrittenCondition) {o : Option Rule} → ruleIn columns (scopeIn inside (levels + 1)) w ≡ o → ruleIn columns (bound around x t) w ≡ o
-    inside-rule w m = ap (λ (s : Scope). ruleIn columns s w) (sym inside-is) ∙ m
+    abbrev from-whole : WrittenCondition
+    from-whole = enclosed outer (Over table letter) from-tree
 
-  module _ (few : levels < 4) (t : ℕ) (low : 1 ≤ t) (high : t ≤ tableCount file) (inside : List ℕ) (made : inside ≡ insideOf t) where
-    inside-fits : ScopeFits file inside (levels + 1)
-    inside-fits =
-        subst (λ (s : List ℕ). ScopeFits file s (levels + 1)) (sym made) (fits-deeper (q .scope-fits) (getD notes (8 * (h - 1) + 3) 0) t few low high)
+    pub from-stands : Standing notes h (q .before) from-whole e levels
+    from-stands = stands q from-whole (from-here .is)
 
-  pos-of : (t : ℕ) → (t ≡ 0 → ⊥) → 1 ≤ t
-  pos-of zero z = absurd (z refl)
-  pos-of (suc t) z = omega arith
+    pub from-few : levels < mostLevels
+    from-few = omega (arith, from-stands .deep, enclosed-deep outer (Over table letter) from-tree)
 
-  -- ---- EXISTS
+    table-is : (t : ℕ) → TableFound file notes h t → existingAs t ≡ existing (length columns) table
+    table-is t f =
+        f
+        ∙ ap₂ existing (sym (columns-count file))
+        (ap fromExcess (number-is from-stands noteTable (omega arith) ∙ from-own outer table letter from-tree .0)
+        ∙ from-kept outer (Over table letter) from-tree (from-stands .kept))
 
-  module _ (k : kindAt notes h ≡ 7) where
-    pub exists-here : ExistsShape (q .tree)
-    exists-here = exists-shape (q .tree) (sym kind-here ∙ k)
+    pub from-unknown : (t : ℕ) → TableFound file notes h t → t ≡ 0 → ruleIn columns around (q .tree) ≡ none
+    from-unknown t f z = missing-as from-whole (from-here .is) (enclosed-unknown columns around outer table letter from-tree (none-there t (table-is t f) z))
 
-    abbrev pub exists-tree : WrittenCondition
-    exists-tree = exists-here .inside
+    module _ {t : ℕ} {inside : List ℕ} (b : Bound file notes h scope levels t inside) where
+      pub from-fits : (seen : ℕ) → seen ≤ levels + 1 → ScopeFits file inside seen
+      from-fits seen l =
+          fits-fewer (rw (b .made) (fits-deeper (q .scope-fits) (letterAt notes h) t from-few (pos-of t (b .known)) (b .high))) seen l
 
-    abbrev exists-whole : WrittenCondition
-    exists-whole = Exists (Over (exists-here .table) (exists-here .letter)) exists-tree
+      abbrev pub from-run : Placeable file notes (h - 1) room e inside (levels + 1)
+      from-run = run-of (from-inner outer table letter from-tree from-stands) (from-fits (levels + 1) (omega arith)) (q .parts-size) (q .few-parts)
 
-    exists-stands : Standing notes h (q .before) exists-whole e levels
-    exists-stands = stands q exists-whole (exists-here .is)
+      -- the value left of a list does not see the letter that is bound here
+      outside-is : scopeIn inside levels ≡ around
+      outside-is = ap (λ (s : List ℕ). scopeIn s levels) (b .made) ∙ bound-below scope levels (letterAt notes h) t
 
-    pub exists-few : levels < 4
-    unfolding fromsDeep
-    exists-few = omega (arith, exists-stands .deep)
+      inside-is : scopeIn inside (levels + 1) ≡ bound around letter t
+      inside-is =
+          ap (λ (s : List ℕ). scopeIn s (levels + 1)) (b .made)
+          ∙ (bound-is scope levels (letterAt notes h) t (room-for (q .scope-fits) (letterAt notes h) t from-few)
+          ∙ ap (λ (x : ℕ). bound around x t) (number-is from-stands noteLetter (omega arith) ∙ from-own outer table letter from-tree .1))
 
-    pub exists-in : Standing notes (h - 1) (q .before) exists-tree e (levels + 1)
-    exists-in = exists-inner (exists-here .table) (exists-here .letter) exists-tree exists-stands
+      abbrev outer-here : Option (Outer Value)
+      outer-here = outerIn columns around (bound around letter t) outer
 
-    module _ (most : ℕ) (count : most ≡ tableCount file) (t : ℕ) (came : existingAs t ≡ existing most (fromExcess (getD notes (8 * (h - 1) + 2) 0))) where
-      pub exists-unknown : t ≡ 0 → ruleIn columns around (q .tree) ≡ none
-      unfolding ruleIn Kept
-      exists-unknown z =
-          missing-as exists-whole (exists-here .is)
-          (rw (table-missing (exists-here .table) (exists-stands .kept .0) (number-is exists-stands 2 (omega arith)) most count t came z))
+      from-rule : ruleIn columns around from-whole ≡ (outer-here >>= (λ v. ruleIn columns (scopeIn inside (levels + 1)) from-tree >>= (λ w. some (enclosed v t w))))
+      from-rule =
+          enclosed-known columns around outer table letter from-tree t (some-there t (table-is t (b .found)) (b .known))
+          ∙ ap (λ (s : Scope). outer-here >>= (λ v. ruleIn columns s from-tree >>= (λ w. some (enclosed v t w)))) (sym inside-is)
 
-      module _ (known : t ≡ 0 → ⊥) (high : t ≤ most) (inside : List ℕ) (made : inside ≡ insideOf t) where
-        exists-table : existing (length columns) (exists-here .table) ≡ some t
-        unfolding Kept
-        exists-table = table-there (exists-here .table) (exists-stands .kept .0) (number-is exists-stands 2 (omega arith)) most count t came known
+      pub from-missing : (mid : List ℕ) (r : Placed) → PlacedTo file notes (h - 1) room mid e inside (levels + 1) r → r ≡ Unplaced → ruleIn columns around (q .tree) ≡ none
+      from-missing mid r w u =
+          missing-as from-whole (from-here .is)
+          (from-rule ∙ bind-none outer-here _ (λ v. rw (was-missing file inside (levels + 1) from-tree room mid e r (w from-run) u)))
 
-        pub exists-fits : ScopeFits file inside (levels + 1)
-        exists-fits = inside-fits exists-few t (pos-of t known) (omega (arith, count)) inside made
+      module _ {mid : List ℕ} {p : ℕ} (i : Inner file notes (h - 1) room e inside (levels + 1) mid p) where
+        from-at : PlacedAt file inside (levels + 1) from-tree room mid p e
+        from-at = i .placed from-run
 
-        abbrev pub exists-run : Placeable file notes (h - 1) room e inside (levels + 1)
-        exists-run =
-            record {
-              sized = q .sized;
-              scope-fits = exists-fits;
-              notes-room = exists-in .notes-room;
-              parts-size = q .parts-size;
-              few-notes = exists-in .few-notes;
-              few-parts = q .few-parts;
-              before = q .before;
-              tree = exists-tree;
-              notes-are = exists-in .notes-are;
-              fits = exists-in .fits;
-              deep = exists-in .deep;
-              kept = exists-in .kept;
-            }
+        pub from-room : (1 ≤ p) × (p ≤ mostParts)
+        from-room =
+            (omega (arith, from-at .start, from-stands .fits, enclosed-parts outer (Over table letter) from-tree), omega (arith, from-at .start, q .few-parts))
 
-        module _ (mid : List ℕ) (r : Placed) (placed : PlacedAs file inside (levels + 1) exists-tree room mid e r) where
-          pub exists-missing : r ≡ Unplaced → ruleIn columns around (q .tree) ≡ none
-          unfolding ruleIn
-          exists-missing u =
-              missing-as exists-whole (exists-here .is)
-              (rw (
-                exists-table,
-                inside-rule exists-few (exists-here .letter) (number-is exists-stands 3 (omega arith)) t inside made exists-tree
-                    (was-missing file inside (levels + 1) exists-tree room mid e r placed u),
-              ))
+      module _ (r : Compared)
+          (came : comparedAs r ≡ ownPartNumbers kindHere opHere t e (valueIn columns (scopeIn inside levels) leftHere) (valueIn columns (scopeIn inside (levels + 1)) rightHere)) where
+        came-own : comparedAs r ≡ Option·map (λ v. partNumbers (partOf e (outerHead v t))) outer-here
+        came-own =
+            came
+            ∙ (ap₂ (λ (s w : Scope). ownPartNumbers kindHere opHere t e (valueIn columns s leftHere) (valueIn columns w rightHere)) outside-is inside-is
+            ∙ (own-here from-stands around (bound around letter t) t ∙ own-outer columns around (bound around letter t) t e outer table letter from-tree (from-stands .kept)))
 
-          module _ (p : ℕ) (u : r ≡ At p) where
-            exists-at : PlacedAt file inside (levels + 1) exists-tree room mid p e
-            exists-at = was-placed file inside (levels + 1) exists-tree room mid e r placed p u
+        pub values-missing : r ≡ NoValues → ruleIn columns around (q .tree) ≡ none
+        values-missing u =
+            let m : outer-here ≡ none = map-none _ outer-here (sym (ap comparedAs u) ∙ came-own) in
+            missing-as from-whole (from-here .is) (from-rule ∙ rw m)
 
-            pub exists-room : (1 ≤ p) × (p ≤ 64)
-            unfolding parts
-            exists-room = (omega (arith, exists-at .start, exists-stands .fits), omega (arith, exists-at .start, q .few-parts))
+        module _ (own : Fields) (u : r ≡ ComparedPart own) where
+          found-own : Mapped (λ v. partNumbers (partOf e (outerHead v t))) outer-here (partFields own)
+          found-own = map-some _ outer-here (partFields own) (sym (ap comparedAs u) ∙ came-own)
 
-            pub exists-placed : (new : List ℕ) → drop (8 * (p - 1)) new ≡ (7 ∷ 0 ∷ t ∷ e ∷ 0 ∷ 0 ∷ 0 ∷ 0 ∷ []) ++ drop (8 * (p - 1 + 1)) mid
-                → PlacedAt file scope levels (q .tree) room new (p - 1) e
-            unfolding ruleIn parts partsFrom
-            exists-placed new d =
-                let w = exists-at in
-                let s = w .start in
-                let y = exists-room in
-                let sp = w .same-parts in
-                placed-as exists-whole (exists-here .is) new (p - 1) record {
-                  rule = Exists t (w .rule);
-                  named = rw (exists-table, inside-rule exists-few (exists-here .letter) (number-is exists-stands 3 (omega arith)) t inside made exists-tree (w .named));
-                  same-parts = ap (1 +_) sp;
-                  start = omega arith;
-                  written =
-                      around-written room mid new (p - 1) e p (omega arith) (w .rule) (ExistsHead t) (7 ∷ 0 ∷ t ∷ e ∷ 0 ∷ 0 ∷ 0 ∷ 0 ∷ []) (omega arith) (w .written) refl d;
-                }
-
-  -- ---- SOME and ALL
-
-  module _ (k : 8 ≤ kindAt notes h) where
-    pub list-here : ListShape (q .tree)
-    list-here = list-shape (q .tree) (rw (← kind-here) k)
-
-    abbrev pub list-tree : WrittenCondition
-    list-tree = list-here .inside
-
-    abbrev list-whole : WrittenCondition
-    list-whole = Listed (list-here .quantifier) (list-here .op) (list-here .left) (list-here .selected) (Over (list-here .table) (list-here .letter)) list-tree
-
-    list-stands : Standing notes h (q .before) list-whole e levels
-    list-stands = stands q list-whole (list-here .is)
-
-    pub list-few : levels < 4
-    unfolding fromsDeep
-    list-few = omega (arith, list-stands .deep)
-
-    pub list-in : Standing notes (h - 1) (q .before) list-tree e (levels + 1)
-    list-in = list-inner (list-here .quantifier) (list-here .op) (list-here .left) (list-here .selected) (list-here .table) (list-here .letter) list-tree list-stands
-
-    list-left : leftHere ≡ list-here .left
-    unfolding Kept
-    list-left = value-at list-stands 4 (omega arith) ∙ value-back (list-here .left) (list-stands .kept .0)
-
-    list-right : rightHere ≡ list-here .selected
-    unfolding Kept
-    list-right = value-at list-stands 6 (omega arith) ∙ value-back (list-here .selected) (list-stands .kept .1)
-
-    module _ (most : ℕ) (count : most ≡ tableCount file) (t : ℕ) (came : existingAs t ≡ existing most (fromExcess (getD notes (8 * (h - 1) + 2) 0))) where
-      pub list-unknown : t ≡ 0 → ruleIn columns around (q .tree) ≡ none
-      unfolding ruleIn Kept
-      list-unknown z =
-          missing-as list-whole (list-here .is)
-          (rw (table-missing (list-here .table) (list-stands .kept .2) (number-is list-stands 2 (omega arith)) most count t came z))
-
-      module _ (known : t ≡ 0 → ⊥) (high : t ≤ most) (inside : List ℕ) (made : inside ≡ insideOf t) where
-        list-table : existing (length columns) (list-here .table) ≡ some t
-        unfolding Kept
-        list-table = table-there (list-here .table) (list-stands .kept .2) (number-is list-stands 2 (omega arith)) most count t came known
-
-        list-scope : scopeIn inside (levels + 1) ≡ bound around (list-here .letter) t
-        list-scope = inside-is list-few (list-here .letter) (number-is list-stands 3 (omega arith)) t inside made
-
-        pub list-fits : (seen : ℕ) → seen ≤ levels + 1 → ScopeFits file inside seen
-        list-fits seen l =
-            fits-fewer (inside-fits list-few t (pos-of t known) (omega (arith, count)) inside made) seen l
-
-        abbrev pub list-run : Placeable file notes (h - 1) room e inside (levels + 1)
-        list-run =
-            record {
-              sized = q .sized;
-              scope-fits = list-fits (levels + 1) (omega arith);
-              notes-room = list-in .notes-room;
-              parts-size = q .parts-size;
-              few-notes = list-in .few-notes;
-              few-parts = q .few-parts;
-              before = q .before;
-              tree = list-tree;
-              notes-are = list-in .notes-are;
-              fits = list-in .fits;
-              deep = list-in .deep;
-              kept = list-in .kept;
-            }
-
-        module _ (both : Compared)
-            (came-both : comparedAs both ≡ comparedHere t (valueIn columns (scopeIn inside levels) leftHere) (valueIn columns (scopeIn inside (levels + 1)) rightHere)) where
-          -- the left value does not see the letter that is bound here
-          left-scope : scopeIn inside levels ≡ around
-          left-scope = ap (λ (s : List ℕ). scopeIn s levels) made ∙ bound-below scope levels (getD notes (8 * (h - 1) + 3) 0) t
-
-          abbrev outer-value : Option Value
-          outer-value = valueIn columns around (list-here .left)
-
-          abbrev selected-value : Option Value
-          selected-value = valueIn columns (bound around (list-here .letter) t) (list-here .selected)
-
-          came-listed : comparedAs both ≡ comparedHere t outer-value selected-value
-          came-listed = came-both ∙ ap₂ (comparedHere t) (ap₂ (valueIn columns) left-scope list-left) (ap₂ (valueIn columns) list-scope list-right)
-
-          pub list-values-missing : both ≡ NoValues → ruleIn columns around (q .tree) ≡ none
-          unfolding ruleIn
-          list-values-missing u =
-              missing-as list-whole (list-here .is)
-              (rw list-table
-              (one-missing kindHere opHere t e outer-value selected-value both came-listed u (λ v w. ruleIn columns (bound around (list-here .letter) t) list-tree >>= (λ x. some (Listed (list-here .quantifier) (list-here .op) v w t x)))))
-
-          module _ (own : Fields) (u1 : both ≡ ComparedPart own) where
-            found-both : BothValued kindHere opHere t e outer-value selected-value (partFields own)
-            found-both = both-there kindHere opHere t e outer-value selected-value both came-listed own u1
-
-            module _ (mid : List ℕ) (r : Placed) (placed : PlacedAs file inside (levels + 1) list-tree room mid e r) where
-              pub list-missing : r ≡ Unplaced → ruleIn columns around (q .tree) ≡ none
-              unfolding ruleIn
-              list-missing u =
-                  missing-as list-whole (list-here .is)
-                  (rw (
-                    list-table,
-                    found-both .left-is,
-                    found-both .right-is,
-                    inside-rule list-few (list-here .letter) (number-is list-stands 3 (omega arith)) t inside made list-tree
-                        (was-missing file inside (levels + 1) list-tree room mid e r placed u),
-                  ))
-
-              module _ (p : ℕ) (u : r ≡ At p) where
-                list-at : PlacedAt file inside (levels + 1) list-tree room mid p e
-                list-at = was-placed file inside (levels + 1) list-tree room mid e r placed p u
-
-                pub list-room : (1 ≤ p) × (p ≤ 64)
-                unfolding parts
-                list-room = (omega (arith, list-at .start, list-stands .fits), omega (arith, list-at .start, q .few-parts))
-
-                own-list : (j : Quantifier) (op : Comparison) (v w : Value)
-                    → listKind j ∷ comparisonNumber op ∷ t ∷ e ∷ (valueNumbers v ++ valueNumbers w) ≡ partNumbers (partOf e (ListedHead j op v w t))
-                own-list Some op v w = refl
-                own-list All op v w = refl
-
-                pub list-placed : (new : List ℕ) → drop (8 * (p - 1)) new ≡ partFields own ++ drop (8 * (p - 1 + 1)) mid
-                    → PlacedAt file scope levels (q .tree) room new (p - 1) e
-                unfolding ruleIn parts partsFrom
-                list-placed new d =
-                    let w = list-at in
-                    let s = w .start in
-                    let y = list-room in
-                    let sp = w .same-parts in
-                    let j = list-here .quantifier in
-                    let op = list-here .op in
-                    let v = found-both in
-                    placed-as list-whole (list-here .is) new (p - 1) record {
-                      rule = Listed j op (v .left) (v .right) t (w .rule);
-                      named =
-                          rw (
-                            list-table,
-                            v .left-is,
-                            v .right-is,
-                            inside-rule list-few (list-here .letter) (number-is list-stands 3 (omega arith)) t inside made list-tree (w .named),
-                          );
-                      same-parts = ap (1 +_) sp;
-                      start = omega arith;
-                      written =
-                          around-written room mid new (p - 1) e p (omega arith) (w .rule) (ListedHead j op (v .left) (v .right) t) (partFields own) (omega arith) (w .written)
-                          (v .are
-                          ∙ (ap₂ (λ (a b : ℕ). a ∷ b ∷ t ∷ e ∷ (valueNumbers (v .left) ++ valueNumbers (v .right))) (kind-is list-stands) (number-is list-stands 1 (omega arith))
-                          ∙ own-list j op (v .left) (v .right)))
-                          d;
-                    }
+          pub from-placed : {mid : List ℕ} {p : ℕ} → Inner file notes (h - 1) room e inside (levels + 1) mid p → (new : List ℕ) → drop (partSize * (p - 1)) new ≡ partFields own ++ drop (partSize * (p - 1 + 1)) mid
+              → PlacedAt file scope levels (q .tree) room new (p - 1) e
+          from-placed {mid} {p} i new d =
+              let w = from-at i in
+              let s = w .start in
+              let y = from-room i in
+              let sp = w .same-parts in
+              let n = enclosed-parts outer (Over table letter) from-tree in
+              let v = found-own in
+              let n2 = enclosed-parts (v .value) t (w .rule) in
+              placed-as from-whole (from-here .is) new (p - 1) record {
+                rule = enclosed (v .value) t (w .rule);
+                named = from-rule ∙ rw (v .is, w .named);
+                same-parts = omega arith;
+                start = omega arith;
+                written =
+                    around-written room mid new (p - 1) e p (omega arith) (w .rule) (outerHead (v .value) t) (partFields own) (omega arith) (w .written) (sym (v .image)) d
+                    ∙ ap (λ (ps : List Part). partsNumbers ps ++ drop (partSize * e) room) (sym (enclosed-from (p - 1) (v .value) t (w .rule)));
+              }
 
 -- ---- a whole rule
 
-pub parts-numbers-length : (ps : List Part) → length (partsNumbers ps) ≡ 8 * length ps
+pub parts-numbers-length : (ps : List Part) → length (partsNumbers ps) ≡ partSize * length ps
 unfolding partsNumbers
 parts-numbers-length [] = refl
 parts-numbers-length (p ∷ ps) = omega (arith, parts-numbers-length ps)
 
-module _ {file notes : List ℕ} {n : ℕ} (q : Nameable file notes n) (room : List ℕ) (size : length room ≡ 512) where
-  pub outer-fitting : ScopeFits file outerScope 1
-  outer-fitting = outer-fits file (q .sized .tables-low)
+module _ {file notes : List ℕ} {n : ℕ} (q : Nameable file notes n) (room : List ℕ) (size : length room ≡ partsSize) (scope : List ℕ) (made : scope ≡ outerScope) where
+  whole-scope : scopeIn scope 1 ≡ outermost
+  whole-scope = ap (λ (s : List ℕ). scopeIn s 1) made ∙ outer-is
+
+  pub outer-fitting : ScopeFits file scope 1
+  outer-fitting = rw made (outer-fits file (q .sized .tables-low))
 
   pub whole-fits : parts (q .tree) ≤ n
   whole-fits = omega (arith, q .count)
 
-  pub whole-deep : 1 + fromsDeep (q .tree) ≤ 4
+  pub whole-deep : 1 + fromsDeep (q .tree) ≤ mostLevels
   whole-deep = omega (arith, q .shallow)
 
-  abbrev pub whole-run : Placeable file notes n room n outerScope 1
+  abbrev pub whole-run : Placeable file notes n room n scope 1
   whole-run =
       record {
         sized = q .sized;
@@ -782,20 +610,20 @@ module _ {file notes : List ℕ} {n : ℕ} (q : Nameable file notes n) (room : L
         kept = q .kept;
       }
 
-  module _ (new : List ℕ) (r : Placed) (came : PlacedAs file outerScope 1 (q .tree) room new n r) where
+  module _ (new : List ℕ) (r : Placed) (came : PlacedAs file scope 1 (q .tree) room new n r) where
     pub whole-missing : r ≡ Unplaced → ruleIn (columnsOf file) outermost (q .tree) ≡ none
-    whole-missing u = ap (λ (s : Scope). ruleIn (columnsOf file) s (q .tree)) (sym outer-is) ∙ was-missing file outerScope 1 (q .tree) room new n r came u
+    whole-missing u = ap (λ (s : Scope). ruleIn (columnsOf file) s (q .tree)) (sym whole-scope) ∙ was-missing file scope 1 (q .tree) room new n r came u
 
     module _ (p : ℕ) (u : r ≡ At p) where
-      whole-at : PlacedAt file outerScope 1 (q .tree) room new p n
-      whole-at = was-placed file outerScope 1 (q .tree) room new n r came p u
+      whole-at : PlacedAt file scope 1 (q .tree) room new p n
+      whole-at = subst (PlacedAs file scope 1 (q .tree) room new n) u came
 
-      whole-written : new ≡ partsNumbers (partsOf (whole-at .rule)) ++ drop (8 * n) room
+      whole-written : new ≡ partsNumbers (partsOf (whole-at .rule)) ++ drop (partSize * n) room
       whole-written =
           let z : p ≡ 0 = omega (arith, whole-at .start, q .count) in
-          subst (λ (m : ℕ). drop (8 * m) new ≡ partsNumbers (partsFrom m (whole-at .rule)) ++ drop (8 * n) room) z (whole-at .written)
+          subst (λ (m : ℕ). drop (partSize * m) new ≡ partsNumbers (partsFrom m (whole-at .rule)) ++ drop (partSize * n) room) z (whole-at .written)
 
-      whole-length : length (partsNumbers (partsOf (whole-at .rule))) ≡ 8 * n
+      whole-length : length (partsNumbers (partsOf (whole-at .rule))) ≡ partSize * n
       whole-length =
           let r = whole-at .rule in
           omega (arith, parts-numbers-length (partsOf r), parts-length r 0, whole-at .same-parts, q .count)
@@ -804,8 +632,8 @@ module _ {file notes : List ℕ} {n : ℕ} (q : Nameable file notes n) (room : L
       whole-named =
           record {
             rule = whole-at .rule;
-            named = ap (λ (s : Scope). ruleIn (columnsOf file) s (q .tree)) (sym outer-is) ∙ whole-at .named;
+            named = ap (λ (s : Scope). ruleIn (columnsOf file) s (q .tree)) (sym whole-scope) ∙ whole-at .named;
             written =
-                ap (take (8 * n)) whole-written
-                ∙ take-at (partsNumbers (partsOf (whole-at .rule))) (drop (8 * n) room) (8 * n) whole-length;
+                ap (take (partSize * n)) whole-written
+                ∙ take-at (partsNumbers (partsOf (whole-at .rule))) (drop (partSize * n) room) (partSize * n) whole-length;
           }

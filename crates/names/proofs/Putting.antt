@@ -1,46 +1,43 @@
--- Writing a part's eight numbers.
-use mathlib.Core.Path.{_≡_, refl, ap, _∙_}
-use mathlib.Core.List.{List, [], _∷_}
+-- Writing a part's numbers, one after the other.
+use mathlib.Core.Path.{_≡_, refl, sym, ap, ap₂, _∙_}
+use mathlib.Core.List.{List, [], _∷_, _++_}
 use Prim.Native.Nat.{ℕ, _+_, _*_, _<_, _≤_}
 use native.Mathlib.Nat.{add-zero}
+use native.Mathlib.Numerals.{add-one}
 use native.Mathlib.Omega.{arith}
 use lib.ListN.{length, drop, set, length-set, length-drop}
-use lib.Seq.{drop-set-add, drop-drop}
+use lib.Seq.{drop-set-add, drop-drop, sets, sets-eq}
+use Rattle.rule.specs.Names.{mostParts}
+use Rattle.names.specs.Code.{partSize, partsSize}
 
-module _ (a b c d e f g h : ℕ) where
-  -- the first eight
-  first-eight : (l : List ℕ) → 8 ≤ length l
-      → set (set (set (set (set (set (set (set l 0 a) 1 b) 2 c) 3 d) 4 e) 5 f) 6 g) 7 h ≡ a ∷ b ∷ c ∷ d ∷ e ∷ f ∷ g ∷ h ∷ drop 8 l
-  first-eight [] p = absurd (omega arith)
-  first-eight (x0 ∷ []) p = absurd (omega arith)
-  first-eight (x0 ∷ x1 ∷ []) p = absurd (omega arith)
-  first-eight (x0 ∷ x1 ∷ x2 ∷ []) p = absurd (omega arith)
-  first-eight (x0 ∷ x1 ∷ x2 ∷ x3 ∷ []) p = absurd (omega arith)
-  first-eight (x0 ∷ x1 ∷ x2 ∷ x3 ∷ x4 ∷ []) p = absurd (omega arith)
-  first-eight (x0 ∷ x1 ∷ x2 ∷ x3 ∷ x4 ∷ x5 ∷ []) p = absurd (omega arith)
-  first-eight (x0 ∷ x1 ∷ x2 ∷ x3 ∷ x4 ∷ x5 ∷ x6 ∷ []) p = absurd (omega arith)
-  first-eight (x0 ∷ x1 ∷ x2 ∷ x3 ∷ x4 ∷ x5 ∷ x6 ∷ x7 ∷ l) p = refl
+-- numbers from element at + k on
+abbrev pub fill : List ℕ → ℕ → ℕ → List ℕ → List ℕ
+fill l at k [] = l
+fill l at k (a ∷ y) = fill (set l (at + k) a) at (k + 1) y
 
-  module _ (l : List ℕ) (q : ℕ) where
-    -- eight from number q on
-    abbrev put-at : List ℕ
-    put-at = set (set (set (set (set (set (set (set l q a) (q + 1) b) (q + 2) c) (q + 3) d) (q + 4) e) (q + 5) f) (q + 6) g) (q + 7) h
+fill-length : (y l : List ℕ) (at k : ℕ) → length (fill l at k y) ≡ length l
+fill-length [] l at k = refl
+fill-length (a ∷ y) l at k = fill-length y (set l (at + k) a) at (k + 1) ∙ length-set l (at + k) a
 
-    abbrev put-from : List ℕ
-    put-from = set (set (set (set (set (set (set (set l (q + 0) a) (q + 1) b) (q + 2) c) (q + 3) d) (q + 4) e) (q + 5) f) (q + 6) g) (q + 7) h
+fill-drop : (y l : List ℕ) (at k : ℕ) → drop at (fill l at k y) ≡ sets (drop at l) k y
+fill-drop [] l at k = refl
+fill-drop (a ∷ y) l at k =
+    fill-drop y (set l (at + k) a) at (k + 1) ∙ ap₂ (λ (d : List ℕ) (j : ℕ). sets d j y) (drop-set-add at l k a) (add-one k)
 
-    pub put-length : length put-at ≡ length l
-    put-length = simp length-set
+-- those of part number p: the kind a, and the others
+module _ (l : List ℕ) (p a : ℕ) (y : List ℕ) where
+  abbrev pub put : List ℕ
+  put = fill (set l (partSize * p) a) (partSize * p) 1 y
 
-    put-drop : 8 ≤ length (drop q l) → drop q put-from ≡ a ∷ b ∷ c ∷ d ∷ e ∷ f ∷ g ∷ h ∷ drop 8 (drop q l)
-    put-drop p = simp drop-set-add (first-eight (drop q l) p)
+  pub put-length : length put ≡ length l
+  put-length = fill-length y (set l (partSize * p) a) (partSize * p) 1 ∙ length-set l (partSize * p) a
 
-    put-same : drop q put-at ≡ drop q put-from
-    put-same = rw (add-zero q)
-
-  pub put-written : (l : List ℕ) (p : ℕ) → length l ≡ 512 → p < 64
-      → drop (8 * p) (put-at l (8 * p)) ≡ a ∷ b ∷ c ∷ d ∷ e ∷ f ∷ g ∷ h ∷ drop (8 * (p + 1)) l
-  put-written l p s k =
-      let room : 8 ≤ length (drop (8 * p) l) = simp length-drop (omega arith) in
-      let z : 8 * p + 8 ≡ 8 * (p + 1) = omega arith in
-      put-same l (8 * p) ∙ (put-drop l (8 * p) room ∙ ap (λ r. a ∷ b ∷ c ∷ d ∷ e ∷ f ∷ g ∷ h ∷ r) (drop-drop 8 (8 * p) l ∙ ap (λ (n : ℕ). drop n l) z))
+  pub put-written : 1 + length y ≡ partSize → length l ≡ partsSize → p < mostParts → drop (partSize * p) put ≡ (a ∷ y) ++ drop (partSize * (p + 1)) l
+  put-written e s k =
+      let q = partSize * p in
+      let room : 0 + length (a ∷ y) ≤ length (drop q l) = simp length-drop (omega arith) in
+      let first : drop q (set l q a) ≡ set (drop q l) 0 a = ap (λ (i : ℕ). drop q (set l i a)) (sym (add-zero q)) ∙ drop-set-add q l 0 a in
+      let z : q + (0 + length (a ∷ y)) ≡ partSize * (p + 1) = omega arith in
+      fill-drop y (set l q a) q 1
+      ∙ (ap (λ (d : List ℕ). sets d 1 y) first
+      ∙ (sets-eq (a ∷ y) (drop q l) 0 room ∙ ap ((a ∷ y) ++_) (drop-drop (0 + length (a ∷ y)) q l ∙ ap (λ (n : ℕ). drop n l) z)))

@@ -27,9 +27,9 @@ use Rattle.rule.specs.Calls.{mostBytes, conditionOf, ruleOf, textRefusals, toke
 use Rattle.rule.proofs.Accepted.{limits-of}
 use Rattle.lexer.specs.Code.{tokensIn, tokenizedAs, tokensFit}
 use Rattle.lexer.specs.declared.Tokenized.{Tokenized}
-use Rattle.grammar.specs.Code.{WholeReading, ReadsAll}
+use Rattle.grammar.specs.Code.{notesSize, WholeReading, ReadsAll}
 use Rattle.grammar.specs.declared.Step.{Step}
-use Rattle.names.specs.Code.{Nameable, NamedAt, NamedTo}
+use Rattle.names.specs.Code.{partsSize, Nameable, NamedAt, NamedTo}
 use Rattle.names.proofs.Keeping.{read-kept}
 use Rattle.parser.specs.Code.{TextReady, TokensParsing, TokensParsedTo, parsedAnswer, parseCall, Parsing, ParsedTo}
 use Rattle.parser.proofs.Sizes.{written-count}
@@ -81,13 +81,13 @@ module _ (s file : List ℕ) where
       unfolding firstApplying
       over-limits e = rw (b, w .reads, e)
 
-      pub too-many : 64 < n → FirstOfTokens 7
+      pub too-many : mostParts < n → FirstOfTokens 7
       too-many h = over-limits (limits-count (w .tree) (omega (arith, w .count)))
 
-      pub too-deep : n ≤ 64 → 3 < deep → FirstOfTokens 7
+      pub too-deep : n ≤ mostParts → mostFroms < deep → FirstOfTokens 7
       too-deep h d = over-limits (limits-deep (w .tree) (omega (arith, w .count)) (omega (arith, w .froms)))
 
-      module _ (sized : Sized file) (size : length notes ≡ 512) (few : n ≤ 64) (shallow : deep ≤ 3) where
+      module _ (sized : Sized file) (size : length notes ≡ notesSize) (few : n ≤ mostParts) (shallow : deep ≤ mostFroms) where
         pub nameable : Nameable file notes n
         nameable =
             record {
@@ -112,7 +112,7 @@ module _ (s file : List ℕ) where
         unfolding nameable
         unnamed new r e f = no-rule (rw e at (f nameable))
 
-        pub parsed-tokens : (new : List ℕ) (r : Bool) → r ≡ true → length new ≡ 512 → NamedTo file notes n new r → TokensParsing s file new n
+        pub parsed-tokens : (new : List ℕ) (r : Bool) → r ≡ true → length new ≡ partsSize → NamedTo file notes n new r → TokensParsing s file new n
         unfolding nameable
         parsed-tokens new r e l f =
             let named : NamedAt file (w .tree) n new = rw e at (f nameable) in

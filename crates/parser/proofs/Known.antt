@@ -2,7 +2,9 @@
 use mathlib.Core.Path.{_≡_, sym, ap, subst, _∙_}
 use mathlib.Core.List.{List}
 use mathlib.Core.Option.{some}
-use Prim.Native.Nat.{ℕ, _≤_}
+use Prim.Native.Nat.{ℕ, _*_, _≤_}
+use native.Mathlib.Omega.{arith}
+use lib.ListN.{take}
 use Rattle.tables.specs.Tables.{columnsOf}
 use Rattle.tables.specs.Values.{judgedLevels}
 use Rattle.tables.specs.Refusals.{firstApplying}
@@ -12,17 +14,22 @@ use Rattle.cells.specs.declared.Reason.{Reason}
 use Rattle.cells.proofs.Cells.{sized-is}
 use Rattle.cells.proofs.Valid.{refused-some}
 use Rattle.rule.specs.Condition.{Rule, parts, fromsDeep}
-use Rattle.rule.specs.Names.{Fits}
+use Rattle.rule.specs.Names.{mostParts, Fits}
+use Rattle.rule.specs.Parts.{partsOf}
 use Rattle.rule.specs.Calls.{ruleOf, readingRefusals, Accepted}
+use Rattle.rule.proofs.Parts.{parts-length}
 use Rattle.rule.proofs.Accepted.{accepted-claim, parts-claim}
-use Rattle.parser.specs.Code.{parsedAnswer, parseCall, Parsing, ParsedTo}
+use Rattle.names.specs.Code.{partSize, partsNumbers}
+use Rattle.parser.specs.Code.{parsedAnswer, refusalIn, parseCall, Parsing, ParsedTo}
+use Rattle.parser.specs.Parts.{partsIn, SmallParts}
 use Rattle.parser.specs.declared.Parsed.{Parsed}
+use Rattle.parser.proofs.Small.{rule-small, few-tables, few-columns, written-parts}
 
 -- the rule of an accepted text
 pub record Known (file : List ℕ) (rule : Rule) : Type 0 where
   pub sized : Sized file
   pub fits : Fits (columnsOf file) judgedLevels rule
-  pub few-parts : parts rule ≤ 64
+  pub few-parts : parts rule ≤ mostParts
   pub few-froms : fromsDeep rule ≤ 3
 
 pub known : (text file : List ℕ) (rule : Rule) → Accepted text file → ruleOf text (columnsOf file) ≡ some rule → Known file rule
@@ -42,9 +49,46 @@ known text file rule a e =
 
 -- what `parse` gave
 module _ (text file : List ℕ) (r : Parsed) where
-  pub parse-refused : (x : Reason) → parsedAnswer r ≡ parseCall text file → r ≡ Parsed.Refused x → firstApplying (readingRefusals text file) ≡ some (reasonNumber x)
+  pub parse-refused : (x y : Reason) → parsedAnswer r ≡ parseCall text file → r ≡ Parsed.Refused x → y ≡ refusalIn r
+      → firstApplying (readingRefusals text file) ≡ some (reasonNumber y)
   unfolding parseCall
-  parse-refused x p e = refused-some _ (firstApplying (readingRefusals text file)) (sym (ap parsedAnswer e) ∙ p)
+  parse-refused x y p e u = rw (u ∙ ap refusalIn e) (refused-some _ (firstApplying (readingRefusals text file)) (sym (ap parsedAnswer e) ∙ p))
 
   pub parse-given : (new : List ℕ) (n : ℕ) → ParsedTo text file new r → r ≡ Parsed.Rule n → Parsing text file new n
   parse-given new n told e = rw e at told
+
+-- a rule that it gave, with its parts at the front of an array
+pub record Read (text file new : List ℕ) (n : ℕ) : Type 0 where
+  pub accepted : Accepted text file
+  pub rule : Rule
+  pub is-rule : ruleOf text (columnsOf file) ≡ some rule
+  pub count : n ≡ parts rule
+  pub written : take (partSize * parts rule) new ≡ partsNumbers (partsOf rule)
+  pub sized : Sized file
+  pub fits : Fits (columnsOf file) judgedLevels rule
+  pub few-parts : n ≤ mostParts
+  pub few-froms : fromsDeep rule ≤ 3
+
+pub rule-read : (text file new : List ℕ) {r : Parsed} {n : ℕ} → r ≡ Parsed.Rule n → ParsedTo text file new r → Read text file new n
+rule-read text file new {r} {n} e told =
+    let q = parse-given text file r new n told e in
+    let k = known text file (q .rule) (q .accepted) (q .is-rule) in
+    let few = k .few-parts in
+    record {
+      accepted = q .accepted;
+      rule = q .rule;
+      is-rule = q .is-rule;
+      count = q .count;
+      written = sym (ap (λ (k : ℕ). take (partSize * k) new) (q .count)) ∙ q .written;
+      sized = k .sized;
+      fits = k .fits;
+      few-parts = omega (arith, q .count);
+      few-froms = k .few-froms;
+    }
+
+-- the parts of a rule that fits its tables, as READ and CARD want them
+pub rule-parts : (file p : List ℕ) (rule : Rule) → Sized file → parts rule ≤ mostParts → fromsDeep rule ≤ 3 → Fits (columnsOf file) judgedLevels rule
+    → take (partSize * parts rule) p ≡ partsNumbers (partsOf rule) → SmallParts p (parts rule) × (partsIn p (parts rule) ≡ partsOf rule)
+rule-parts file p rule sized few deep fits written =
+    let each = rule-small (columnsOf file) (few-tables file sized) (few-columns file sized) rule 0 judgedLevels (omega arith) (omega arith) fits in
+    written-parts p (partsOf rule) (parts rule) (sym (parts-length rule 0)) each written

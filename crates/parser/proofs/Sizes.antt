@@ -8,10 +8,10 @@ use lib.Seq.{length-take-le}
 use Rattle.rule.specs.Condition.{Rule, parts}
 use Rattle.rule.specs.Parts.{partsOf}
 use Rattle.rule.proofs.Parts.{parts-length}
-use Rattle.names.specs.Code.{partsNumbers}
+use Rattle.names.specs.Code.{partSize, partsNumbers}
 use Rattle.names.proofs.Placing.{parts-numbers-length}
 
 -- where the first n parts of an array are those of a rule, the rule has n parts
-pub written-count : (new : List ℕ) (n : ℕ) (rule : Rule) → 8 * n ≤ length new → take (8 * n) new ≡ partsNumbers (partsOf rule) → n ≡ parts rule
+pub written-count : (new : List ℕ) (n : ℕ) (rule : Rule) → partSize * n ≤ length new → take (partSize * n) new ≡ partsNumbers (partsOf rule) → n ≡ parts rule
 written-count new n rule h e =
-    omega (arith, length-take-le (8 * n) new h, ap length e, parts-numbers-length (partsOf rule), parts-length rule 0)
+    omega (arith, length-take-le (partSize * n) new h, ap length e, parts-numbers-length (partsOf rule), parts-length rule 0)

@@ -1,6 +1,6 @@
 -- The parts of a rule that fits its tables have small numbers; and numbers that are noted as naturals come back as they are published.
 use mathlib.Core.Path.{_≡_, refl, sym, ap, ap₂, subst, _∙_}
-use mathlib.Core.Bool.{Bool, true, false, cond}
+use mathlib.Core.Bool.{Bool, true, false}
 use mathlib.Core.List.{List, [], _∷_, _++_, append-assoc, append-nil}
 use mathlib.Core.Logic.{⊎-elim}
 use Prim.Native.Nat.{ℕ, zero, suc, _+_, _*_, _<_, _≤_}
@@ -9,26 +9,22 @@ use native.Mathlib.Omega.{arith}
 use borrow.Author.Tests.{ne-eqb, ltb-true, ltb-false}
 use lib.Dec.{eqb, ltb}
 use lib.IntN.{ℤ}
-use lib.ListN.{length, getD, take, drop, length-append, length-take, List·getD-eq-default}
-use lib.Seq.{take-take, take-at, drop-at, take-add, drop-drop, getD-take, getD-drop, length-take-le}
+use lib.ListN.{length, getD, take, drop, length-append, List·getD-eq-default}
 use Rattle.tables.specs.Lists.{numbered}
 use Rattle.tables.specs.Tables.{tableCount, columnsOf}
-use Rattle.tables.specs.Values.{constantTag, Value, Constant, Column, Comparison, Eq, Ne, Lt, Le, Gt, Ge, comparisonNumber, And, Or, Some, All}
+use Rattle.tables.specs.Values.{constantTag, Value, Constant, Column, Comparison, Eq, Ne, Lt, Le, Gt, Ge, comparisonNumber}
 use Rattle.tables.proofs.Tests.{bounds}
 use Rattle.tables.proofs.Sizes.{columns-count, column-at}
-use Rattle.cells.specs.Code.{toExcess, Sized}
+use Rattle.cells.specs.Code.{Sized}
 use Rattle.rule.specs.Condition.{Compare, IsNull, IsNotNull, Atom, Join, Not, Exists, Listed, Rule, parts, fromsDeep}
 use Rattle.rule.specs.Names.{ValueFits, Fits}
-use Rattle.rule.specs.Parts.{taggedOf, unused, Head, AtomHead, JoinHead, NotHead, ExistsHead, ListedHead, kindOf, partWith, naturalOf, partsFrom}
+use Rattle.rule.specs.Parts.{taggedOf, unused, Head, JoinHead, NotHead, ExistsHead, ListedHead, compareKind, nullKind, notNullKind, kindOf, partWith, partsFrom}
 use Rattle.rule.specs.declared.TaggedValue.{TaggedValue}
 use Rattle.rule.specs.declared.Part.{Part}
-use Rattle.names.specs.Code.{partNumbers, partsNumbers}
-use Rattle.parser.specs.Parts.{signedOf, taggedFrom, partIn, partsIn, Signable, SmallPart}
+use Rattle.names.specs.Code.{partSize, partsNumbers}
+use Rattle.parser.specs.Parts.{PartAt, signedOf, taggedFrom, partIn, partsIn, Signable, SmallPart}
+use Rattle.parser.proofs.Parts.{heldNumber, one-from, kind-bounds, part-kind, part-comparison, part-table, part-end, part-left-tag, part-left-number, part-right-tag, part-right-number}
 use Rattle.cells.proofs.Signed.{from-to, excess-small}
-
--- a value's number as it is noted
-abbrev pub heldNumber : TaggedValue → ℕ
-heldNumber v = cond (eqb (v .tag) constantTag) (toExcess (v .number)) (naturalOf (v .number))
 
 pub record SmallValue (v : TaggedValue) : Type 0 where
   pub tag-small : v .tag < 256
@@ -58,15 +54,7 @@ unused-small =
     record { tag-small = omega arith; signable = record { whole = omega arith; column = λ f. omega arith }; back = refl }
 
 kind-small : (x : Head) → kindOf x < 256
-kind-small (JoinHead And) = omega arith
-kind-small (JoinHead Or) = omega arith
-kind-small NotHead = omega arith
-kind-small (AtomHead (Compare op l r)) = omega arith
-kind-small (AtomHead (IsNull l)) = omega arith
-kind-small (AtomHead (IsNotNull l)) = omega arith
-kind-small (ExistsHead t) = omega arith
-kind-small (ListedHead Some op l s t) = omega arith
-kind-small (ListedHead All op l s t) = omega arith
+kind-small x = omega (arith, kind-bounds x)
 
 pub comparison-small : (op : Comparison) → comparisonNumber op < 256
 comparison-small Eq = omega arith
@@ -85,7 +73,7 @@ plain-small : (x : Head) (e t : ℕ) → e < 256 → t < 256 → SmallFields (pa
 plain-small x e t h g = with-small (kindOf x) e 0 t unused unused (kind-small x) h (omega arith) g unused-small unused-small
 
 module _ (columns : List ℕ) (few : length columns < 256) (narrow : (t : ℕ) → numbered columns t 0 < 256) where
-  value-small : (levels : List ℕ) (v : Value) → length levels < 255 → ValueFits columns levels v → SmallValue (taggedOf v)
+  value-small : (levels : List ℕ) (v : Value) → length levels < constantTag → ValueFits columns levels v → SmallValue (taggedOf v)
   value-small levels (Constant k) h f =
       record {
         tag-small = omega arith;
@@ -96,7 +84,7 @@ module _ (columns : List ℕ) (few : length columns < 256) (narrow : (t : ℕ) �
       let level = f .0 in
       let column = bounds 1 (numbered columns (getD levels l 0) 0) c (f .1) .1 in
       let few-columns = narrow (getD levels l 0) in
-      let other : eqb l 255 ≡ false = ne-eqb l 255 (λ e. omega arith) in
+      let other : eqb l constantTag ≡ false = ne-eqb l constantTag (λ e. omega arith) in
       record {
         tag-small = omega arith;
         signable = record { whole = rw other (omega arith); column = λ g. rw other (omega arith) };
@@ -104,18 +92,18 @@ module _ (columns : List ℕ) (few : length columns < 256) (narrow : (t : ℕ) �
       }
 
   -- with so many levels around it, from part k on
-  pub rule-small : (r : Rule) (k : ℕ) (levels : List ℕ) → k + parts r < 256 → length levels + fromsDeep r < 255 → Fits columns levels r → EachSmall (partsFrom k r)
+  pub rule-small : (r : Rule) (k : ℕ) (levels : List ℕ) → k + parts r < 256 → length levels + fromsDeep r < constantTag → Fits columns levels r → EachSmall (partsFrom k r)
   unfolding partsFrom parts fromsDeep Fits
   rule-small (Atom (Compare op x y)) k levels h d f =
       let l = value-small levels x (omega arith) (f .0) in
       let r = value-small levels y (omega arith) (f .1) in
-      (with-small 4 (k + 1) (comparisonNumber op) 0 _ _ (omega arith) (omega arith) (comparison-small op) (omega arith) l r, tt)
+      (with-small compareKind (k + 1) (comparisonNumber op) 0 _ _ (omega arith) (omega arith) (comparison-small op) (omega arith) l r, tt)
   rule-small (Atom (IsNull x)) k levels h d f =
       let l = value-small levels x (omega arith) f in
-      (with-small 5 (k + 1) 0 0 _ _ (omega arith) (omega arith) (omega arith) (omega arith) l unused-small, tt)
+      (with-small nullKind (k + 1) 0 0 _ _ (omega arith) (omega arith) (omega arith) (omega arith) l unused-small, tt)
   rule-small (Atom (IsNotNull x)) k levels h d f =
       let l = value-small levels x (omega arith) f in
-      (with-small 6 (k + 1) 0 0 _ _ (omega arith) (omega arith) (omega arith) (omega arith) l unused-small, tt)
+      (with-small notNullKind (k + 1) 0 0 _ _ (omega arith) (omega arith) (omega arith) (omega arith) l unused-small, tt)
   rule-small (Join j a b) k levels h d f = (
     plain-small (JoinHead j) _ 0 (omega arith) (omega arith),
     each-append (partsFrom (k + 1) a) _ (rule-small a (k + 1) levels (omega arith) (omega arith) (f .0))
@@ -161,77 +149,55 @@ same-part a b c d e f = cc
 value-is : {tag n : ℕ} {v : TaggedValue} → tag ≡ v .tag → n ≡ heldNumber v → signedOf (v .tag) (heldNumber v) ≡ v .number → taggedFrom tag n ≡ v
 value-is {v = v} e f back = ap₂ taggedFrom e f ∙ ap (λ (z : ℤ). record { tag = v .tag; number = z }) back
 
--- a list that starts with xs: its front and what is behind it
-module _ (l xs rest : List ℕ) (a b : ℕ) (size : length xs ≡ a) (e : take (a + b) l ≡ xs ++ rest) where
-  long : a ≤ length l
-  long = omega (arith, length-take (a + b) l, ap length e, length-append xs rest)
-
-  pub front : take a l ≡ xs
-  front = sym (take-take a (a + b) l (omega arith)) ∙ ap (take a) e ∙ take-at xs rest a size
-
-  pub behind : take b (drop a l) ≡ rest
-  behind =
-      sym (drop-at (take a l) (take b (drop a l)) a (length-take-le a l long)) ∙ ap (drop a) (sym (take-add a b l) ∙ e) ∙ drop-at xs rest a size
-
 module _ (l : List ℕ) where
   -- one part
-  module _ (k : ℕ) (p : Part) (e : take 8 (drop (8 * k) l) ≡ partNumbers p) (s : SmallFields p) where
-    at : (j : ℕ) → j < 8 → getD l (8 * k + j) 0 ≡ getD (partNumbers p) j 0
-    at j h = sym (getD-drop (8 * k) l j 0) ∙ sym (getD-take 8 (drop (8 * k) l) j 0 h) ∙ ap (λ (x : List ℕ). getD x j 0) e
-
-    first : getD l (8 * k) 0 ≡ p .kind
-    first = let z : 8 * k ≡ 8 * k + 0 = omega arith in ap (λ (n : ℕ). getD l n 0) z ∙ at 0 (omega arith)
-
+  module _ (k : ℕ) (p : Part) (at : PartAt l k p) (s : SmallFields p) where
     part-small : SmallPart l k
     part-small =
         record {
-          kind = rw first (s .kind-small);
-          comparison = rw (at 1 (omega arith)) (s .comparison-small);
-          table = rw (at 2 (omega arith)) (s .table-small);
-          end = rw (at 3 (omega arith)) (s .end-small);
-          left-tag = rw (at 4 (omega arith)) (s .left-small .tag-small);
-          left-number = rw (at 4 (omega arith), at 5 (omega arith)) (s .left-small .signable);
-          right-tag = rw (at 6 (omega arith)) (s .right-small .tag-small);
-          right-number = rw (at 6 (omega arith), at 7 (omega arith)) (s .right-small .signable);
+          kind = rw (part-kind at) (s .kind-small);
+          comparison = rw (part-comparison at) (s .comparison-small);
+          table = rw (part-table at) (s .table-small);
+          end = rw (part-end at) (s .end-small);
+          left-tag = rw (part-left-tag at) (s .left-small .tag-small);
+          left-number = rw (part-left-tag at, part-left-number at) (s .left-small .signable);
+          right-tag = rw (part-right-tag at) (s .right-small .tag-small);
+          right-number = rw (part-right-tag at, part-right-number at) (s .right-small .signable);
         }
 
-    -- the record that the eight numbers stand for
+    -- the record that its numbers stand for
     part-is : partIn l k ≡ p
     part-is =
         same-part
-        first
-        (at 1 (omega arith))
-        (at 2 (omega arith))
-        (at 3 (omega arith))
-        (value-is (at 4 (omega arith)) (at 5 (omega arith)) (s .left-small .back))
-        (value-is (at 6 (omega arith)) (at 7 (omega arith)) (s .right-small .back))
+        (part-kind at)
+        (part-comparison at)
+        (part-table at)
+        (part-end at)
+        (value-is (part-left-tag at) (part-left-number at) (s .left-small .back))
+        (value-is (part-right-tag at) (part-right-number at) (s .right-small .back))
 
   -- those from part k on
-  from-part : (ps : List Part) (k : ℕ) → EachSmall ps → take (8 * length ps) (drop (8 * k) l) ≡ partsNumbers ps
+  from-part : (ps : List Part) (k : ℕ) → EachSmall ps → take (partSize * length ps) (drop (partSize * k) l) ≡ partsNumbers ps
       → ((i : ℕ) → k ≤ i → i < k + length ps → SmallPart l i) × (partsIn l (k + length ps) ≡ partsIn l k ++ ps)
   unfolding partsNumbers partsIn
   from-part [] k s e = (λ i h g. absurd (omega arith), ap (partsIn l) (add-zero k) ∙ sym (append-nil (partsIn l k)))
   from-part (p ∷ ps) k s e =
       let m = length ps in
-      let here = drop (8 * k) l in
-      let z : 8 + 8 * m ≡ 8 * suc m = omega arith in
-      let y : 8 * k + 8 ≡ 8 * suc k = omega arith in
+      let z : 1 + m ≡ suc m = omega arith in
+      let y : suc k ≡ k + 1 = omega arith in
       let x : k + suc m ≡ suc k + m = omega arith in
-      let all : take (8 + 8 * m) here ≡ partNumbers p ++ partsNumbers ps = ap (λ (n : ℕ). take n here) z ∙ e in
-      let one = front here (partNumbers p) (partsNumbers ps) 8 (8 * m) refl all in
-      let rest = behind here (partNumbers p) (partsNumbers ps) 8 (8 * m) refl all in
-      let next : drop 8 here ≡ drop (8 * suc k) l = drop-drop 8 (8 * k) l ∙ ap (λ (n : ℕ). drop n l) y in
-      let others = from-part ps (suc k) (s .1) (ap (take (8 * m)) (sym next) ∙ rest) in (
-        λ i h g. ⊎-elim (λ (q : k ≡ i). subst (SmallPart l) q (part-small k p one (s .0))) (λ q. others .0 i q (omega arith)) (eq-or-lt-of-le {n = k} {m = i} h),
+      let (here, rest) = one-from l k m p ps (ap (λ (n : ℕ). take (partSize * n) (drop (partSize * k) l)) z ∙ e) in
+      let others = from-part ps (suc k) (s .1) (ap (λ (n : ℕ). take (partSize * m) (drop (partSize * n) l)) y ∙ rest) in (
+        λ i h g. ⊎-elim (λ (q : k ≡ i). subst (SmallPart l) q (part-small k p here (s .0))) (λ q. others .0 i q (omega arith)) (eq-or-lt-of-le {n = k} {m = i} h),
         ap (partsIn l) x ∙ others .1
             ∙ append-assoc (partsIn l k) (partIn l k ∷ []) ps
-            ∙ ap (λ (q : Part). partsIn l k ++ (q ∷ ps)) (part-is k p one (s .0)),
+            ∙ ap (λ (q : Part). partsIn l k ++ (q ∷ ps)) (part-is k p here (s .0)),
       )
 
-pub written-parts : (l : List ℕ) (ps : List Part) (n : ℕ) → n ≡ length ps → EachSmall ps → take (8 * n) l ≡ partsNumbers ps
+pub written-parts : (l : List ℕ) (ps : List Part) (n : ℕ) → n ≡ length ps → EachSmall ps → take (partSize * n) l ≡ partsNumbers ps
     → ((i : ℕ) → i < n → SmallPart l i) × (partsIn l n ≡ ps)
 unfolding partsIn
 written-parts l ps n c s e =
     let z : n ≡ 0 + length ps = omega arith in
-    let all = from-part l ps 0 s (sym (ap (λ (m : ℕ). take (8 * m) l) c) ∙ e) in
+    let all = from-part l ps 0 s (sym (ap (λ (m : ℕ). take (partSize * m) l) c) ∙ e) in
     (λ i h. all .0 i (omega arith) (omega arith), ap (partsIn l) z ∙ all .1)

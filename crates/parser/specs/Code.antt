@@ -9,6 +9,8 @@ use lib.ListN.{length, take}
 use Rattle.tables.specs.Tables.{columnsOf}
 use Rattle.tables.specs.Refusals.{firstApplying, Answer, Refused, Given, unless, tablesRefusals}
 use Rattle.cells.specs.Reasons.{reasonNumber}
+use Rattle.cells.specs.declared.Reason.{Reason}
+use Rattle.cells.specs.declared.Reason.the-variants.{Short}
 use Rattle.cells.specs.Code.{Sized}
 use Rattle.rule.specs.Tokens.{opensFit}
 use Rattle.rule.specs.Condition.{WrittenCondition, Rule, parts}
@@ -17,9 +19,20 @@ use Rattle.rule.specs.Names.{limitsFit, outermost, ruleIn}
 use Rattle.rule.specs.Parts.{partsOf}
 use Rattle.rule.specs.Calls.{mostBytes, tokensRefusals, ruleOf, readingRefusals, Accepted, withRule}
 use Rattle.lexer.specs.Code.{tokensIn}
+use Rattle.grammar.specs.Code.{noteSize}
 use Rattle.names.specs.Code.{partSize, partsNumbers}
 use Rattle.parser.specs.declared.Parsed.{Parsed}
 use Rattle.parser.specs.declared.Parsed.the-variants.{Rule as ParsedRule, Refused as ParsedRefused}
+
+-- ---- the room for the notes of a rule of few parts
+
+abbrev pub fewParts : ℕ
+fewParts = 16
+
+abbrev pub fewNotes : ℕ
+fewNotes = noteSize * fewParts
+
+-- ---- reading step by step
 
 -- a text that is not too long, with tables that are not refused
 pub record TextReady (text file : List ℕ) : Type 0 where
@@ -48,6 +61,11 @@ TokensParsedTo s file new (ParsedRefused x) = firstApplying (tokensRefusals (col
 abbrev pub parsedAnswer : Parsed → Answer ℕ
 parsedAnswer (ParsedRule n) = Given n
 parsedAnswer (ParsedRefused x) = Refused (reasonNumber x)
+
+-- why there is no rule; of a rule, which nothing refuses, the last reason
+abbrev pub refusalIn : Parsed → Reason
+refusalIn (ParsedRule n) = Short
+refusalIn (ParsedRefused x) = x
 
 unfoldable pub parseCall : List ℕ → List ℕ → Answer ℕ
 parseCall text file = unless (firstApplying (readingRefusals text file)) (λ _. withRule (ruleOf text (columnsOf file)) 0 parts)

@@ -1,4 +1,4 @@
--- The parts of a rule in an array, as `parse` leaves them, eight numbers for each: for READ, JUDGE and CARD. The contract of a public
+-- The parts of a rule in an array, as `parse` leaves them, `partSize` numbers for each: for READ, JUDGE and CARD. The contract of a public
 -- call cites nothing of this file.
 use mathlib.Core.Path.{_≡_}
 use mathlib.Core.Bool.{cond}
@@ -8,12 +8,12 @@ use lib.Dec.{eqb}
 use lib.IntN.{ℤ, pos}
 use lib.ListN.{getD}
 use Rattle.tables.specs.Values.{constantTag}
-use Rattle.cells.specs.Code.{fromExcess}
+use Rattle.cells.specs.Code.{words32, fromExcess}
 use Rattle.rule.specs.Condition.{Atom, Join, Not, Exists, Listed, Rule, parts}
 use Rattle.rule.specs.Parts.{AtomHead, JoinHead, NotHead, ExistsHead, ListedHead, partOf}
 use Rattle.rule.specs.declared.TaggedValue.{TaggedValue}
 use Rattle.rule.specs.declared.Part.{Part}
-use Rattle.names.specs.Code.{partSize, partNumbers}
+use Rattle.names.specs.Code.{partSize, partComparison, partTable, partEnd, partLeftTag, partLeftNumber, partRightTag, partRightNumber, partNumbers}
 
 -- part s is this one
 pub record PartAt (p : List ℕ) (s : ℕ) (x : Part) : Type 0 where
@@ -41,11 +41,11 @@ taggedFrom tag n = record { tag = tag; number = signedOf tag n }
 abbrev pub partIn : List ℕ → ℕ → Part
 partIn l i = record {
   kind = getD l (partSize * i) 0;
-  comparison = getD l (partSize * i + 1) 0;
-  table = getD l (partSize * i + 2) 0;
-  end = getD l (partSize * i + 3) 0;
-  left = taggedFrom (getD l (partSize * i + 4) 0) (getD l (partSize * i + 5) 0);
-  right = taggedFrom (getD l (partSize * i + 6) 0) (getD l (partSize * i + 7) 0);
+  comparison = getD l (partSize * i + partComparison) 0;
+  table = getD l (partSize * i + partTable) 0;
+  end = getD l (partSize * i + partEnd) 0;
+  left = taggedFrom (getD l (partSize * i + partLeftTag) 0) (getD l (partSize * i + partLeftNumber) 0);
+  right = taggedFrom (getD l (partSize * i + partRightTag) 0) (getD l (partSize * i + partRightNumber) 0);
 }
 
 unfoldable pub partsIn : List ℕ → ℕ → List Part
@@ -54,19 +54,19 @@ partsIn l (suc n) = partsIn l n ++ (partIn l n ∷ [])
 
 -- a number that a value can have: 32 bits, and a byte where it is a column
 pub record Signable (tag n : ℕ) : Type 0 where
-  pub whole : n < 4294967296
-  pub column : (tag ≡ 255 → ⊥) → n < 256
+  pub whole : n < words32
+  pub column : (tag ≡ constantTag → ⊥) → n < 256
 
 -- its fields have a byte each, but for the numbers of its values
 pub record SmallPart (l : List ℕ) (i : ℕ) : Type 0 where
   pub kind : getD l (partSize * i) 0 < 256
-  pub comparison : getD l (partSize * i + 1) 0 < 256
-  pub table : getD l (partSize * i + 2) 0 < 256
-  pub end : getD l (partSize * i + 3) 0 < 256
-  pub left-tag : getD l (partSize * i + 4) 0 < 256
-  pub left-number : Signable (getD l (partSize * i + 4) 0) (getD l (partSize * i + 5) 0)
-  pub right-tag : getD l (partSize * i + 6) 0 < 256
-  pub right-number : Signable (getD l (partSize * i + 6) 0) (getD l (partSize * i + 7) 0)
+  pub comparison : getD l (partSize * i + partComparison) 0 < 256
+  pub table : getD l (partSize * i + partTable) 0 < 256
+  pub end : getD l (partSize * i + partEnd) 0 < 256
+  pub left-tag : getD l (partSize * i + partLeftTag) 0 < 256
+  pub left-number : Signable (getD l (partSize * i + partLeftTag) 0) (getD l (partSize * i + partLeftNumber) 0)
+  pub right-tag : getD l (partSize * i + partRightTag) 0 < 256
+  pub right-number : Signable (getD l (partSize * i + partRightTag) 0) (getD l (partSize * i + partRightNumber) 0)
 
 abbrev pub SmallParts : List ℕ → ℕ → Type 0
 SmallParts l n = (i : ℕ) → i < n → SmallPart l i

@@ -3,9 +3,10 @@ ghost use mathlib.Core.Path.{_≡_};
 ghost use Prim.Native.Nat.{_≤_};
 ghost use lib.ListN.{length, take};
 ghost use Rattle.cells.specs.Code.{Sized};
+ghost use Rattle.lexer.specs.Code.{mostTokens};
 ghost use Rattle.grammar.specs.Code.{notesSize};
 ghost use Rattle.names.specs.Code.{partsSize, Nameable, NamedTo};
-ghost use Rattle.parser.specs.Code.{TextReady, TokensParsedTo, parsedAnswer, parseCall, ParsedTo};
+ghost use Rattle.parser.specs.Code.{fewNotes, TextReady, TokensParsedTo, parsedAnswer, parseCall, ParsedTo, refusalIn};
 use cells::Reason;
 use cells::Validity;
 use grammar::MOST_FROMS;
@@ -35,11 +36,21 @@ pub enum Parsed {
     Refused(Reason),
 }
 
+// Why there is no rule, for the calls that pass a refusal up; it is asked of refusals alone, so what a rule gives here does not matter.
+pub fn refusal(parsed: Parsed) -> Reason
+    ensures { λ r. ⌜ r ≡ refusalIn parsed ⌝ }
+{
+    match parsed {
+        Parsed::Rule(_) => Reason::Short,
+        Parsed::Refused(x) => x,
+    }
+}
+
 // The first n numbers of from, at the start of notes.
 fn copy_few(from: &[usize; NOTE_NUMBERS], n: usize, notes: &mut [usize; FEW_NOTES])
-    requires { ⌜ length (now from) ≡ notesSize ⌝ ∗ ⌜ n ≤ 128 ⌝ ∗ ⌜ length (now notes) ≡ 128 ⌝ }
+    requires { ⌜ length (now from) ≡ notesSize ⌝ ∗ ⌜ n ≤ fewNotes ⌝ ∗ ⌜ length (now notes) ≡ fewNotes ⌝ }
     ensures copied { λ _. ⌜ take n (now (notes .exit)) ≡ take n (now (from .entry)) ⌝ }
-    ensures size { λ _. ⌜ length (now (notes .exit)) ≡ 128 ⌝ }
+    ensures size { λ _. ⌜ length (now (notes .exit)) ≡ fewNotes ⌝ }
 {
     let mut k: usize = 0;
     while k < n {
@@ -67,7 +78,7 @@ fn name_noted(file: &[u8], count: usize, parts: &mut [usize; PART_NUMBERS]) -> b
 // The rule of some tokens: refusals 5 to 8. The grammar is judged to the end before the limits, and these before the names. The grammar writes its notes
 // where the parts are to stand.
 fn parse_tokens(s: &[usize], file: &[u8], parts: &mut [usize; PART_NUMBERS]) -> Parsed
-    requires { ⌜ length (now s) ≤ 4096 ⌝ ∗ ⌜ Sized (now file) ⌝ ∗ ⌜ length (now parts) ≡ partsSize ⌝ }
+    requires { ⌜ length (now s) ≤ mostTokens ⌝ ∗ ⌜ Sized (now file) ⌝ ∗ ⌜ length (now parts) ≡ partsSize ⌝ }
     ensures parsed { λ r. ⌜ TokensParsedTo (now (s .entry)) (now (file .entry)) (now (parts .exit)) r ⌝ }
     ensures size { λ _. ⌜ length (now (parts .exit)) ≡ partsSize ⌝ }
 {

@@ -7,16 +7,9 @@ use Rattle.rule.specs.Names.{mostParts}
 use Rattle.rule.specs.declared.Part.{Part}
 use Rattle.rule.specs.Calls.{readCall}
 use Rattle.parser.specs.Parts.{partsIn, SmallParts}
-use Rattle.parser.specs.declared.Parsed.{Parsed}
-use Rattle.parser.specs.declared.Parsed.the-variants.{Rule as ParsedRule, Refused as ParsedRefused}
 use Rattle.reader.specs.Answers.{readAnswer}
 use Rattle.reader.specs.declared.Reading.{Reading}
 use Rattle.reader.specs.declared.Reading.the-variants.{Parts, NotRead}
-
--- what reading gave, as READ answers it
-abbrev pub passedUp : Parsed → Reading
-passedUp (ParsedRule n) = Parts n
-passedUp (ParsedRefused x) = NotRead x
 
 -- how many parts an answer says stand in the list
 abbrev pub storedBy : Reading → ℕ

@@ -4,12 +4,12 @@
 ghost use mathlib.Core.Path.{_≡_};
 ghost use mathlib.Core.List.{_++_};
 ghost use Prim.Native.Nat.{_+_, _*_, _<_, _≤_};
-ghost use lib.ListN.{length, drop};
+ghost use lib.ListN.{length, drop, getD};
 ghost use Rattle.rule.specs.Calls.{readCall};
 ghost use Rattle.names.specs.Code.{partSize, partsSize};
 ghost use Rattle.parser.specs.Parts.{signedOf, taggedFrom, partIn, partsIn, Signable, SmallPart, SmallParts};
 ghost use Rattle.reader.specs.Answers.{readAnswer};
-ghost use Rattle.reader.specs.Code.{passedUp, storedBy, ReadTo};
+ghost use Rattle.reader.specs.Code.{storedBy, ReadTo};
 use cells::EXCESS;
 use cells::Reason;
 use names::PART_COMPARISON;
@@ -32,16 +32,6 @@ pub enum Reading {
     NotRead(Reason),
 }
 
-// What reading gave, as READ answers it.
-fn passed_up(parsed: Parsed) -> Reading
-    ensures { λ r. ⌜ r ≡ passedUp parsed ⌝ }
-{
-    match parsed {
-        Parsed::Rule(n) => Reading::Parts(n),
-        Parsed::Refused(x) => Reading::NotRead(x),
-    }
-}
-
 // READ but for its list: what it answers with room for so many parts, and the parts as numbers.
 fn read_numbers(
     text: &[u8],
@@ -55,7 +45,7 @@ fn read_numbers(
 {
     let parsed = parser::parse(text, file, numbers);
     let Parsed::Rule(n) = parsed else {
-        return passed_up(parsed);
+        return Reading::NotRead(parser::refusal(parsed));
     };
     if room < n {
         return Reading::NotRead(Reason::Short);
@@ -99,21 +89,35 @@ fn tagged_value(tag: usize, n: usize) -> TaggedValue
     }
 }
 
+// Number k of part i, which has a byte.
+fn byte_field(numbers: &[usize], i: usize, k: usize) -> u8
+    requires { ⌜ partSize * i + k < length (now numbers) ⌝ ∗ ⌜ getD (now numbers) (partSize * i + k) 0 < 256 ⌝ }
+    ensures { λ r. ⌜ r ≡ getD (now (numbers .entry)) (partSize * i + k) 0 ⌝ }
+{
+    numbers[PART_FIELDS * i + k] as u8
+}
+
+// The value of two numbers of part i.
+fn value_field(numbers: &[usize], i: usize, tag: usize, number: usize) -> TaggedValue
+    requires { ⌜ partSize * i + tag < length (now numbers) ⌝ ∗ ⌜ partSize * i + number < length (now numbers) ⌝ ∗ ⌜ getD (now numbers) (partSize * i + tag) 0 < 256 ⌝ ∗ ⌜ Signable (getD (now numbers) (partSize * i + tag) 0) (getD (now numbers) (partSize * i + number) 0) ⌝ }
+    ensures { λ r. ⌜ r ≡ taggedFrom (getD (now (numbers .entry)) (partSize * i + tag) 0) (getD (now (numbers .entry)) (partSize * i + number) 0) ⌝ }
+{
+    let p = PART_FIELDS * i;
+    tagged_value(numbers[p + tag], numbers[p + number])
+}
+
 // Part i.
 fn part_at(numbers: &[usize], i: usize) -> Part
     requires { ⌜ partSize * i + partSize ≤ length (now numbers) ⌝ ∗ ⌜ SmallPart (now numbers) i ⌝ }
     ensures { λ r. ⌜ r ≡ partIn (now (numbers .entry)) i ⌝ }
 {
-    let p = PART_FIELDS * i;
-    let left = tagged_value(numbers[p + PART_LEFT_TAG], numbers[p + PART_LEFT_NUMBER]);
-    let right = tagged_value(numbers[p + PART_RIGHT_TAG], numbers[p + PART_RIGHT_NUMBER]);
     Part {
-        kind: numbers[p] as u8,
-        comparison: numbers[p + PART_COMPARISON] as u8,
-        table: numbers[p + PART_TABLE] as u8,
-        end: numbers[p + PART_END] as u8,
-        left,
-        right,
+        kind: numbers[PART_FIELDS * i] as u8,
+        comparison: byte_field(numbers, i, PART_COMPARISON),
+        table: byte_field(numbers, i, PART_TABLE),
+        end: byte_field(numbers, i, PART_END),
+        left: value_field(numbers, i, PART_LEFT_TAG, PART_LEFT_NUMBER),
+        right: value_field(numbers, i, PART_RIGHT_TAG, PART_RIGHT_NUMBER),
     }
 }
 

@@ -4,6 +4,10 @@ use mathlib.Core.Bool.{Bool, true, false, not, cond, Bool·beq, false≢true}
 use Prim.Native.Nat.{ℕ, zero, suc, _<_}
 use native.Mathlib.Omega.{arith}
 use lib.Dec.{eqb}
+use Rattle.tables.specs.Values.{And, Or}
+use Rattle.card.specs.Card.{AsNo, AsYes}
+use Rattle.card.specs.Layout.{pairKind, comparisonKind, blankKind, notBlankKind}
+use Rattle.rule.specs.Parts.{joinKind, nullKind, notNullKind}
 use Rattle.records.specs.Code.{comparisonAs, pairKindAs, rowKindAs, compareKindAs, nullKindAs}
 
 -- the one number where two flags are the same, else the other
@@ -15,15 +19,15 @@ other-flag : (a b : ℕ) (t : Bool) → cond (Bool·beq t false) a b ≡ cond t 
 other-flag a b true = refl
 other-flag a b false = refl
 
-pub pair-kind : (kind : ℕ) (negate : Bool) → cond (Bool·beq (eqb kind 2) negate) 1 2 ≡ pairKindAs negate kind
-pair-kind kind false = other-flag 1 2 (eqb kind 2)
-pair-kind kind true = same-flag 1 2 (eqb kind 2)
+pub pair-kind : (kind : ℕ) (negate : Bool) → cond (Bool·beq (eqb kind (joinKind Or)) negate) (pairKind And) (pairKind Or) ≡ pairKindAs negate kind
+pair-kind kind false = other-flag (pairKind And) (pairKind Or) (eqb kind (joinKind Or))
+pair-kind kind true = same-flag (pairKind And) (pairKind Or) (eqb kind (joinKind Or))
 
-pub null-kind : (kind : ℕ) (negate : Bool) → cond (Bool·beq (eqb kind 6) negate) 7 8 ≡ nullKindAs negate kind
-null-kind kind false = other-flag 7 8 (eqb kind 6)
-null-kind kind true = same-flag 7 8 (eqb kind 6)
+pub null-kind : (kind : ℕ) (negate : Bool) → cond (Bool·beq (eqb kind notNullKind) negate) blankKind notBlankKind ≡ nullKindAs negate kind
+null-kind kind false = other-flag blankKind notBlankKind (eqb kind notNullKind)
+null-kind kind true = same-flag blankKind notBlankKind (eqb kind notNullKind)
 
-pub compare-kind : (negate unknown : Bool) → cond (Bool·beq negate unknown) 5 6 ≡ compareKindAs negate unknown
+pub compare-kind : (negate unknown : Bool) → cond (Bool·beq negate unknown) (comparisonKind AsNo) (comparisonKind AsYes) ≡ compareKindAs negate unknown
 compare-kind false false = refl
 compare-kind false true = refl
 compare-kind true false = refl
@@ -63,7 +67,7 @@ compare-kind-small false true = omega arith
 compare-kind-small true false = omega arith
 compare-kind-small true true = omega arith
 
-pub null-kind-small : (negate blank : Bool) → nullKindAs negate (cond blank 5 6) < 256
+pub null-kind-small : (negate blank : Bool) → nullKindAs negate (cond blank nullKind notNullKind) < 256
 null-kind-small false false = omega arith
 null-kind-small false true = omega arith
 null-kind-small true false = omega arith

@@ -8,7 +8,9 @@ use borrow.Author.Tests.{eq-eqb, ne-eqb}
 use lib.ListN.{length, set, length-set}
 use Rattle.tables.specs.Lists.{placed}
 use Rattle.tables.specs.Bytes.{bytes16, bytes32}
+use Rattle.tables.specs.Values.{constantTag}
 use Rattle.cells.specs.Code.{excess}
+use Rattle.card.specs.Layout.{recordSize, valueSize, tablePlace, comparisonPlace, leftPlace, rightPlace}
 use Rattle.tables.proofs.Placed.{placed-length, placed-one, placed-next}
 use Rattle.card.proofs.Places.{to16}
 use Rattle.records.specs.Code.{byteNumber}
@@ -43,56 +45,56 @@ put-32 old x y i n l p q =
 
 -- ---- a value
 
-put-tagged : (old x : List ℕ) (i tag m : ℕ) → i + 5 ≤ length old → x ≡ placed (set old i tag) (i + 1) (bytes32 m) → x ≡ placed old i (tag ∷ bytes32 m)
+put-tagged : (old x : List ℕ) (i tag m : ℕ) → i + valueSize ≤ length old → x ≡ placed (set old i tag) (i + 1) (bytes32 m) → x ≡ placed old i (tag ∷ bytes32 m)
 put-tagged old x i tag m l p =
     p
     ∙ ap (λ (z : List ℕ). placed z (i + 1) (bytes32 m)) (placed-one old i tag (omega arith))
     ∙ placed-next old i (tag ∷ []) (i + 1) (bytes32 m) (omega arith) refl
 
-pub put-constant : (old x : List ℕ) (i tag n : ℕ) → i + 5 ≤ length old → tag ≡ 255 → x ≡ placed (set old i tag) (i + 1) (bytes32 (excess n))
+pub put-constant : (old x : List ℕ) (i tag n : ℕ) → i + valueSize ≤ length old → tag ≡ constantTag → x ≡ placed (set old i tag) (i + 1) (bytes32 (excess n))
     → x ≡ placed old i (tag ∷ bytes32 (byteNumber tag n))
 put-constant old x i tag n l e p =
-    put-tagged old x i tag (excess n) l p ∙ ap (λ (t : Bool). placed old i (tag ∷ bytes32 (cond t (excess n) n))) (sym (eq-eqb tag 255 e))
+    put-tagged old x i tag (excess n) l p ∙ ap (λ (t : Bool). placed old i (tag ∷ bytes32 (cond t (excess n) n))) (sym (eq-eqb tag constantTag e))
 
-pub put-column : (old x : List ℕ) (i tag n : ℕ) → i + 5 ≤ length old → (tag ≡ 255 → ⊥) → x ≡ placed (set old i tag) (i + 1) (bytes32 n)
+pub put-column : (old x : List ℕ) (i tag n : ℕ) → i + valueSize ≤ length old → (tag ≡ constantTag → ⊥) → x ≡ placed (set old i tag) (i + 1) (bytes32 n)
     → x ≡ placed old i (tag ∷ bytes32 (byteNumber tag n))
 put-column old x i tag n l e p =
-    put-tagged old x i tag n l p ∙ ap (λ (t : Bool). placed old i (tag ∷ bytes32 (cond t (excess n) n))) (sym (ne-eqb tag 255 e))
+    put-tagged old x i tag n l p ∙ ap (λ (t : Bool). placed old i (tag ∷ bytes32 (cond t (excess n) n))) (sym (ne-eqb tag constantTag e))
 
-pub value-length : (old x : List ℕ) (i tag : ℕ) (m : ℕ) → i + 5 ≤ length old → x ≡ placed (set old i tag) (i + 1) (bytes32 m) → length x ≡ length old
+pub value-length : (old x : List ℕ) (i tag : ℕ) (m : ℕ) → i + valueSize ≤ length old → x ≡ placed (set old i tag) (i + 1) (bytes32 m) → length x ≡ length old
 value-length old x i tag m l p = ap length (put-tagged old x i tag m l p) ∙ placed-length old i (tag ∷ bytes32 m) l
 
 -- ---- a record
 
-module _ (old : List ℕ) (r end table op : ℕ) (room : r + 14 ≤ length old) (x1 : List ℕ) (p1 : x1 ≡ placed old r (bytes16 end)) where
+module _ (old : List ℕ) (r end table op : ℕ) (room : r + recordSize ≤ length old) (x1 : List ℕ) (p1 : x1 ≡ placed old r (bytes16 end)) where
   pub end-length : length x1 ≡ length old
   end-length = ap length p1 ∙ placed-length old r (bytes16 end) (omega arith)
 
-  pub fields-length : length (set (set x1 (r + 2) table) (r + 3) op) ≡ length old
+  pub fields-length : length (set (set x1 (r + tablePlace) table) (r + comparisonPlace) op) ≡ length old
   fields-length = simp length-set end-length
 
-  fields-put : set (set x1 (r + 2) table) (r + 3) op ≡ placed old r (bytes16 end ++ (table ∷ op ∷ []))
+  fields-put : set (set x1 (r + tablePlace) table) (r + comparisonPlace) op ≡ placed old r (bytes16 end ++ (table ∷ op ∷ []))
   fields-put =
-      ap (λ (z : List ℕ). set (set z (r + 2) table) (r + 3) op) p1
-      ∙ ap (λ (z : List ℕ). set z (r + 3) op) (set-next old r (bytes16 end) (r + 2) table (omega arith) refl)
-      ∙ set-next old r (bytes16 end ++ (table ∷ [])) (r + 3) op (omega arith) refl
+      ap (λ (z : List ℕ). set (set z (r + tablePlace) table) (r + comparisonPlace) op) p1
+      ∙ ap (λ (z : List ℕ). set z (r + comparisonPlace) op) (set-next old r (bytes16 end) (r + tablePlace) table (omega arith) refl)
+      ∙ set-next old r (bytes16 end ++ (table ∷ [])) (r + comparisonPlace) op (omega arith) refl
 
-  module _ (tag m : ℕ) (x2 : List ℕ) (p2 : x2 ≡ placed (set (set x1 (r + 2) table) (r + 3) op) (r + 4) (tag ∷ bytes32 m)) where
+  module _ (tag m : ℕ) (x2 : List ℕ) (p2 : x2 ≡ placed (set (set x1 (r + tablePlace) table) (r + comparisonPlace) op) (r + leftPlace) (tag ∷ bytes32 m)) where
     left-put : x2 ≡ placed old r (bytes16 end ++ (table ∷ op ∷ tag ∷ bytes32 m))
     left-put =
         p2
-        ∙ ap (λ (z : List ℕ). placed z (r + 4) (tag ∷ bytes32 m)) fields-put
-        ∙ placed-next old r (bytes16 end ++ (table ∷ op ∷ [])) (r + 4) (tag ∷ bytes32 m) (omega arith) refl
+        ∙ ap (λ (z : List ℕ). placed z (r + leftPlace) (tag ∷ bytes32 m)) fields-put
+        ∙ placed-next old r (bytes16 end ++ (table ∷ op ∷ [])) (r + leftPlace) (tag ∷ bytes32 m) (omega arith) refl
 
     pub left-length : length x2 ≡ length old
     left-length = ap length left-put ∙ placed-length old r (bytes16 end ++ (table ∷ op ∷ tag ∷ bytes32 m)) (omega arith)
 
-    module _ (tag′ m′ : ℕ) (x3 : List ℕ) (p3 : x3 ≡ placed x2 (r + 9) (tag′ ∷ bytes32 m′)) where
+    module _ (tag′ m′ : ℕ) (x3 : List ℕ) (p3 : x3 ≡ placed x2 (r + rightPlace) (tag′ ∷ bytes32 m′)) where
       pub record-put : x3 ≡ placed old r (bytes16 end ++ (table ∷ op ∷ (tag ∷ bytes32 m) ++ (tag′ ∷ bytes32 m′)))
       record-put =
           p3
-          ∙ ap (λ (z : List ℕ). placed z (r + 9) (tag′ ∷ bytes32 m′)) left-put
-          ∙ placed-next old r (bytes16 end ++ (table ∷ op ∷ tag ∷ bytes32 m)) (r + 9) (tag′ ∷ bytes32 m′) (omega arith) refl
+          ∙ ap (λ (z : List ℕ). placed z (r + rightPlace) (tag′ ∷ bytes32 m′)) left-put
+          ∙ placed-next old r (bytes16 end ++ (table ∷ op ∷ tag ∷ bytes32 m)) (r + rightPlace) (tag′ ∷ bytes32 m′) (omega arith) refl
 
       pub record-length : length x3 ≡ length old
       record-length = ap length record-put ∙ placed-length old r (bytes16 end ++ (table ∷ op ∷ (tag ∷ bytes32 m) ++ (tag′ ∷ bytes32 m′))) (omega arith)

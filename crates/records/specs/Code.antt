@@ -8,10 +8,12 @@ use lib.Dec.{eqb}
 use lib.ListN.{length, getD}
 use Rattle.tables.specs.Lists.{placed}
 use Rattle.tables.specs.Bytes.{bytes16, bytes32}
-use Rattle.tables.specs.Values.{constantTag}
-use Rattle.cells.specs.Code.{excess}
-use Rattle.card.specs.Layout.{recordSize, noValue}
+use Rattle.tables.specs.Values.{constantTag, And, Or, Some, All}
+use Rattle.cells.specs.Code.{words32, excess}
+use Rattle.card.specs.Card.{AsNo, AsYes}
+use Rattle.card.specs.Layout.{recordSize, pairKind, rowKind, comparisonKind, blankKind, notBlankKind, noValue}
 use Rattle.card.specs.Sound.{mostEntries}
+use Rattle.rule.specs.Parts.{joinKind, notNullKind}
 use Rattle.records.specs.declared.LeafNumbers.{LeafNumbers}
 
 -- ---- bytes
@@ -24,11 +26,11 @@ byteNumber tag n = cond (eqb tag constantTag) (excess n) n
 abbrev pub plainRecord : ℕ → ℕ → List ℕ
 plainRecord end′ table = bytes16 end′ ++ (table ∷ 0 ∷ noValue ++ noValue)
 
--- and of one without
-abbrev pub leafRecord : ℕ → LeafNumbers → List ℕ
-leafRecord end′ x =
+-- and of any, by its end, its table and what else it says
+abbrev pub entryRecord : ℕ → ℕ → LeafNumbers → List ℕ
+entryRecord end′ table x =
     bytes16 end′
-    ++ (0 ∷ x .comparison
+    ++ (table ∷ x .comparison
     ∷ (x .«left_tag» ∷ bytes32 (byteNumber (x .«left_tag») (x .«left_number»)))
     ++ (x .«right_tag» ∷ bytes32 (byteNumber (x .«right_tag») (x .«right_number»))))
 
@@ -40,13 +42,17 @@ pub record LeafAt (kinds records : List ℕ) (k : ℕ) (x : LeafNumbers) : Type 
   pub kind-small : x .kind < 256
   pub comparison-small : x .comparison < 256
   pub left-tag-small : x .«left_tag» < 256
-  pub left-small : x .«left_number» < 4294967296
+  pub left-small : x .«left_number» < words32
   pub right-tag-small : x .«right_tag» < 256
-  pub right-small : x .«right_number» < 4294967296
+  pub right-small : x .«right_number» < words32
 
-pub record LeafWritten (kinds records kinds′ records′ : List ℕ) (k : ℕ) (x : LeafNumbers) : Type 0 where
+-- it is written, with its end and its table
+pub record EntryWritten (kinds records kinds′ records′ : List ℕ) (k end′ table : ℕ) (x : LeafNumbers) : Type 0 where
   pub kinds-are : kinds′ ≡ placed kinds k (x .kind ∷ [])
-  pub records-are : records′ ≡ placed records (recordSize * k) (leafRecord (k + 1) x)
+  pub records-are : records′ ≡ placed records (recordSize * k) (entryRecord end′ table x)
+
+abbrev pub LeafWritten : (kinds records kinds′ records′ : List ℕ) (k : ℕ) → LeafNumbers → Type 0
+LeafWritten kinds records kinds′ records′ k x = EntryWritten kinds records kinds′ records′ k (k + 1) 0 x
 
 -- ---- kinds and comparisons, negated or not
 
@@ -55,16 +61,16 @@ comparisonAs false op = op
 comparisonAs true op = getD (0 ∷ 2 ∷ 1 ∷ 6 ∷ 5 ∷ 4 ∷ 3 ∷ []) op op
 
 abbrev pub pairKindAs : Bool → ℕ → ℕ
-pairKindAs false kind = cond (eqb kind 2) 2 1
-pairKindAs true kind = cond (eqb kind 2) 1 2
+pairKindAs false kind = cond (eqb kind (joinKind Or)) (pairKind Or) (pairKind And)
+pairKindAs true kind = cond (eqb kind (joinKind Or)) (pairKind And) (pairKind Or)
 
 abbrev pub rowKindAs : Bool → ℕ
-rowKindAs every = cond every 4 3
+rowKindAs every = cond every (rowKind All) (rowKind Some)
 
 abbrev pub compareKindAs : Bool → Bool → ℕ
-compareKindAs false unknown = cond unknown 6 5
-compareKindAs true unknown = cond unknown 5 6
+compareKindAs false unknown = cond unknown (comparisonKind AsYes) (comparisonKind AsNo)
+compareKindAs true unknown = cond unknown (comparisonKind AsNo) (comparisonKind AsYes)
 
 abbrev pub nullKindAs : Bool → ℕ → ℕ
-nullKindAs false kind = cond (eqb kind 6) 8 7
-nullKindAs true kind = cond (eqb kind 6) 7 8
+nullKindAs false kind = cond (eqb kind notNullKind) notBlankKind blankKind
+nullKindAs true kind = cond (eqb kind notNullKind) blankKind notBlankKind

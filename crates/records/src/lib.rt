@@ -6,9 +6,10 @@ ghost use Prim.Native.Nat.{_+_, _*_, _<_, _≤_};
 ghost use lib.ListN.{length};
 ghost use Rattle.tables.specs.Lists.{placed};
 ghost use Rattle.tables.specs.Bytes.{bytes16, bytes32};
-ghost use Rattle.card.specs.Layout.{recordSize};
+ghost use Rattle.cells.specs.Code.{words32};
+ghost use Rattle.card.specs.Layout.{recordSize, valueSize};
 ghost use Rattle.card.specs.Sound.{mostEntries};
-ghost use Rattle.records.specs.Code.{byteNumber, plainRecord, LeafAt, LeafWritten, comparisonAs, pairKindAs, rowKindAs, compareKindAs, nullKindAs};
+ghost use Rattle.records.specs.Code.{byteNumber, plainRecord, LeafAt, EntryWritten, LeafWritten, comparisonAs, pairKindAs, rowKindAs, compareKindAs, nullKindAs};
 use card::AND_ENTRY;
 use card::BLANK;
 use card::COMPARISON_OR_NO;
@@ -39,7 +40,7 @@ pub fn put16(bytes: &mut [u8], i: usize, n: usize)
 
 // A number of four bytes.
 fn put32(bytes: &mut [u8], i: usize, n: usize)
-    requires { ⌜ n < 4294967296 ⌝ ∗ ⌜ i + 4 ≤ length (now bytes) ⌝ }
+    requires { ⌜ n < words32 ⌝ ∗ ⌜ i + 4 ≤ length (now bytes) ⌝ }
     ensures { λ _. ⌜ now (bytes .exit) ≡ placed (now (bytes .entry)) i (bytes32 n) ⌝ }
 {
     put16(bytes, i, n % 65536);
@@ -48,7 +49,7 @@ fn put32(bytes: &mut [u8], i: usize, n: usize)
 
 // A value: the byte of its tag, and its number, which of a constant is kept plus 2 ^ 31.
 fn put_value(bytes: &mut [u8], i: usize, tag: usize, n: usize)
-    requires { ⌜ tag < 256 ⌝ ∗ ⌜ n < 4294967296 ⌝ ∗ ⌜ i + 5 ≤ length (now bytes) ⌝ }
+    requires { ⌜ tag < 256 ⌝ ∗ ⌜ n < words32 ⌝ ∗ ⌜ i + valueSize ≤ length (now bytes) ⌝ }
     ensures { λ _. ⌜ now (bytes .exit) ≡ placed (now (bytes .entry)) i (tag ∷ bytes32 (byteNumber tag n)) ⌝ }
 {
     bytes[i] = tag as u8;
@@ -57,6 +58,37 @@ fn put_value(bytes: &mut [u8], i: usize, tag: usize, n: usize)
         return;
     }
     put32(bytes, i + 1, n);
+}
+
+// What an entry says besides its end and its table, as numbers: where it has inner entries, its kind alone.
+pub struct LeafNumbers {
+    pub kind: usize,
+    pub comparison: usize,
+    pub left_tag: usize,
+    pub left_number: usize,
+    pub right_tag: usize,
+    pub right_number: usize,
+}
+
+// Entry k: its kind, and its record, with its end and its table.
+fn put_entry(
+    kinds: &mut [u8; MOST_ENTRIES],
+    records: &mut [u8],
+    k: usize,
+    end: usize,
+    table: usize,
+    leaf: LeafNumbers,
+)
+    requires { ⌜ LeafAt (now kinds) (now records) k leaf ⌝ ∗ ⌜ end < 65536 ⌝ ∗ ⌜ table < 256 ⌝ }
+    ensures { λ _. ⌜ EntryWritten (now (kinds .entry)) (now (records .entry)) (now (kinds .exit)) (now (records .exit)) k end table leaf ⌝ }
+{
+    let r = RECORD_SIZE * k;
+    kinds[k] = leaf.kind as u8;
+    put16(records, r, end);
+    records[r + TABLE_PLACE] = table as u8;
+    records[r + COMPARISON_PLACE] = leaf.comparison as u8;
+    put_value(records, r + LEFT_PLACE, leaf.left_tag, leaf.left_number);
+    put_value(records, r + RIGHT_PLACE, leaf.right_tag, leaf.right_number);
 }
 
 // An entry with inner ones: its kind and its table, 0 where it has none. Its end is written once its last inner entry is in place.
@@ -71,37 +103,23 @@ pub fn put_plain(
     ensures kinds { λ _. ⌜ now (kinds .exit) ≡ placed (now (kinds .entry)) k (kind ∷ []) ⌝ }
     ensures records { λ _. ⌜ now (records .exit) ≡ placed (now (records .entry)) (recordSize * k) (plainRecord 0 table) ⌝ }
 {
-    let r = RECORD_SIZE * k;
-    kinds[k] = kind as u8;
-    put16(records, r, 0);
-    records[r + TABLE_PLACE] = table as u8;
-    records[r + COMPARISON_PLACE] = 0;
-    put_value(records, r + LEFT_PLACE, 0, 0);
-    put_value(records, r + RIGHT_PLACE, 0, 0);
+    let plain = LeafNumbers {
+        kind,
+        comparison: 0,
+        left_tag: 0,
+        left_number: 0,
+        right_tag: 0,
+        right_number: 0,
+    };
+    put_entry(kinds, records, k, 0, table, plain);
 }
 
-// What an entry without inner ones says, as numbers.
-pub struct LeafNumbers {
-    pub kind: usize,
-    pub comparison: usize,
-    pub left_tag: usize,
-    pub left_number: usize,
-    pub right_tag: usize,
-    pub right_number: usize,
-}
-
-// Such an entry, with its end.
+// An entry without inner ones, with its end.
 pub fn put_leaf(kinds: &mut [u8; MOST_ENTRIES], records: &mut [u8], k: usize, leaf: LeafNumbers)
     requires { ⌜ LeafAt (now kinds) (now records) k leaf ⌝ }
     ensures { λ _. ⌜ LeafWritten (now (kinds .entry)) (now (records .entry)) (now (kinds .exit)) (now (records .exit)) k leaf ⌝ }
 {
-    let r = RECORD_SIZE * k;
-    kinds[k] = leaf.kind as u8;
-    put16(records, r, k + 1);
-    records[r + TABLE_PLACE] = 0;
-    records[r + COMPARISON_PLACE] = leaf.comparison as u8;
-    put_value(records, r + LEFT_PLACE, leaf.left_tag, leaf.left_number);
-    put_value(records, r + RIGHT_PLACE, leaf.right_tag, leaf.right_number);
+    put_entry(kinds, records, k, k + 1, 0, leaf);
 }
 
 // A comparison, or the one that holds just where it does not.

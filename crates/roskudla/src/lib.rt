@@ -6,6 +6,7 @@ ghost use Rattle.card.specs.Calls.{checkCall, runCall, listCall};
 ghost use Rattle.rule.specs.Calls.{readCall, judgeCall};
 ghost use Rattle.translation.specs.Calls.{cardCall};
 ghost use Rattle.reader.specs.Answers.{readAnswer};
+ghost use Rattle.translator.specs.Answers.{madeAnswer};
 ghost use Rattle.rule.specs.Meaning.{truthNumber};
 ghost use Rattle.tables.specs.Exports.{statusOf, yesNo, numberAfter};
 use judge::Judged;
@@ -67,6 +68,20 @@ pub extern "C" fn roskudla_judge(text: &[u8], tables: &[u8], row: usize, value: 
     }
 }
 
+// CARD's answer for C: the number of bytes behind a pointer, and the status.
+fn give_length(made: Made, length: &mut usize) -> u32
+    ensures status { λ r. ⌜ r ≡ statusOf (madeAnswer made) ⌝ }
+    ensures counted { λ _. ⌜ now (length .exit) ≡ numberAfter (λ n. n) (madeAnswer made) (now (length .entry)) ⌝ }
+{
+    match made {
+        Made::Bytes(n) => {
+            *length = n;
+            0
+        }
+        Made::NotMade(x) => cells::refusal_number(x),
+    }
+}
+
 // CARD: the card from the start of card on; length becomes how many bytes it has.
 #[no_mangle]
 pub extern "C" fn roskudla_card(
@@ -80,13 +95,7 @@ pub extern "C" fn roskudla_card(
     ensures counted { λ r. ⌜ now (length .exit) ≡ numberAfter (λ n. n) (cardCall (now (text .entry)) (now (tables .entry)) (now (card .entry)) .result) (now (length .entry)) ⌝ }
 {
     let made = translator::make_card(text, tables, card);
-    match made {
-        Made::Bytes(n) => {
-            *length = n;
-            0
-        }
-        Made::NotMade(x) => cells::refusal_number(x),
-    }
+    give_length(made, length)
 }
 
 // CHECK: a card alone.

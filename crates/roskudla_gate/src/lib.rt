@@ -3,6 +3,7 @@
 ghost use mathlib.Core.Path.{_≡_};
 ghost use Rattle.card.specs.Calls.{checkCall, runCall, listCall};
 ghost use Rattle.tables.specs.Exports.{statusOf, yesNo, numberAfter};
+ghost use Rattle.gate.specs.Answers.{listedAnswer};
 use checker::Checked;
 use gate::Listed;
 use gate::Ran;
@@ -39,6 +40,20 @@ pub extern "C" fn roskudla_run(card: &[u8], tables: &[u8], row: usize, answer: &
     }
 }
 
+// LIST's answer for C: the number of rows behind a pointer, and the status.
+fn give_count(listed: Listed, count: &mut usize) -> u32
+    ensures status { λ r. ⌜ r ≡ statusOf (listedAnswer listed) ⌝ }
+    ensures counted { λ _. ⌜ now (count .exit) ≡ numberAfter (λ n. n) (listedAnswer listed) (now (count .entry)) ⌝ }
+{
+    match listed {
+        Listed::Rows(n) => {
+            *count = n;
+            0
+        }
+        Listed::NotListed(x) => cells::refusal_number(x),
+    }
+}
+
 // LIST: the admitted rows from the start of rows on; count becomes how many they are.
 #[no_mangle]
 pub extern "C" fn roskudla_list(
@@ -52,11 +67,5 @@ pub extern "C" fn roskudla_list(
     ensures counted { λ r. ⌜ now (count .exit) ≡ numberAfter (λ n. n) (listCall (now (card .entry)) (now (tables .entry)) (now (rows .entry)) .result) (now (count .entry)) ⌝ }
 {
     let listed = gate::list(card, tables, rows);
-    match listed {
-        Listed::Rows(n) => {
-            *count = n;
-            0
-        }
-        Listed::NotListed(x) => cells::refusal_number(x),
-    }
+    give_count(listed, count)
 }

@@ -10,8 +10,10 @@ use lib.ListN.{length}
 use Rattle.tables.specs.Lists.{same, only}
 use Rattle.tables.specs.Bytes.{between, inRange}
 use Rattle.rule.specs.Tokens.{Token, Fixed, Compares, Letter, Number, Spelling, words, signs, isGap, isCapital, isSmall, isDigit, takeWhile, Lexed, wordIn, begins, signIn, mostDigits, spelled, numberFrom, firstToken, andThen, tokensAfter, tokensOf}
-use Rattle.rule.specs.Condition.{Test, Compare, IsNull, IsNotNull, Atom, Join, Not, Exists, Listed, WrittenValue, Plain, Named, From, WrittenCondition}
-use Rattle.rule.specs.Grammar.{Tokens, IsValue, number, column, IsCondition, one-conjunction, joined-by-or, IsConjunction, one-factor, joined-by-and, IsFactor, not-factor, one-test, IsTest, bracketed, exists, is-null, is-not-null, compared, some-of, all-of, is-in, not-in, IsList, list}
+use Rattle.rule.specs.Condition.{WrittenValue, Plain, Named, WrittenCondition}
+use Rattle.rule.specs.Grammar.{Tokens, IsCondition}
+use Rattle.rule.specs.Throughout.{Throughout}
+use Rattle.rule.proofs.Carried.{EachToken, carried}
 use Rattle.rule.proofs.Every.{Every, missing, there, found}
 
 -- ---- tokens
@@ -23,8 +25,7 @@ TokenFits (Letter x) = Unit {0}
 TokenFits (Number n) = T (inRange n)
 
 abbrev pub TokensFit : Tokens → Type 0
-TokensFit [] = Unit {0}
-TokensFit (t ∷ ts) = TokenFits t × TokensFit ts
+TokensFit = EachToken TokenFits
 
 abbrev LexedFits : Lexed → Type 0
 LexedFits x = TokenFits (x .0)
@@ -89,50 +90,8 @@ abbrev pub WrittenFits : WrittenValue → Type 0
 WrittenFits (Plain k) = T (inRange k)
 WrittenFits (Named x n) = Unit {0}
 
-abbrev pub TestConstants : Test WrittenValue → Type 0
-TestConstants (Compare op l r) = WrittenFits l × WrittenFits r
-TestConstants (IsNull l) = WrittenFits l
-TestConstants (IsNotNull l) = WrittenFits l
-
-unfoldable pub Constants : WrittenCondition → Type 0
-Constants (Atom x) = TestConstants x
-Constants (Join j a b) = Constants a × Constants b
-Constants (Not a) = Constants a
-Constants (Exists f w) = Constants w
-Constants (Listed q op l s f w) = WrittenFits l × WrittenFits s × Constants w
-
-value-constants : {ts rest : Tokens} {v : WrittenValue} → IsValue ts v rest → TokensFit ts → WrittenFits v × TokensFit rest
-value-constants number f = (f .0, f .1)
-value-constants column f = (tt, f .1 .1 .1)
-
-mutual
-  unfolding Constants
-
-  condition-constants : {ts rest : Tokens} {a : WrittenCondition} → IsCondition ts a rest → TokensFit ts → Constants a × TokensFit rest
-  condition-constants (one-conjunction r) f = conjunction-constants r f
-  condition-constants (joined-by-or r q) f = let x = condition-constants r f in let y = conjunction-constants q (x .1 .1) in ((x .0, y .0), y .1)
-
-  conjunction-constants : {ts rest : Tokens} {a : WrittenCondition} → IsConjunction ts a rest → TokensFit ts → Constants a × TokensFit rest
-  conjunction-constants (one-factor r) f = factor-constants r f
-  conjunction-constants (joined-by-and r q) f = let x = conjunction-constants r f in let y = factor-constants q (x .1 .1) in ((x .0, y .0), y .1)
-
-  factor-constants : {ts rest : Tokens} {a : WrittenCondition} → IsFactor ts a rest → TokensFit ts → Constants a × TokensFit rest
-  factor-constants (not-factor r) f = factor-constants r (f .1)
-  factor-constants (one-test r) f = test-constants r f
-
-  test-constants : {ts rest : Tokens} {a : WrittenCondition} → IsTest ts a rest → TokensFit ts → Constants a × TokensFit rest
-  test-constants (bracketed r) f = let x = condition-constants r (f .1) in (x .0, x .1 .1)
-  test-constants (exists r) f = let x = condition-constants r (f .1 .1 .1 .1 .1 .1) in (x .0, x .1 .1)
-  test-constants (is-null v) f = let x = value-constants v f in (x .0, x .1 .1 .1)
-  test-constants (is-not-null v) f = let x = value-constants v f in (x .0, x .1 .1 .1 .1)
-  test-constants (compared v w) f = let x = value-constants v f in let y = value-constants w (x .1 .1) in ((x .0, y .0), y .1)
-  test-constants (some-of v r) f = let x = value-constants v f in let y = list-constants r (x .1 .1 .1) in ((x .0, y .0, y .1), y .2)
-  test-constants (all-of v r) f = let x = value-constants v f in let y = list-constants r (x .1 .1 .1) in ((x .0, y .0, y .1), y .2)
-  test-constants (is-in v r) f = let x = value-constants v f in let y = list-constants r (x .1 .1) in ((x .0, y .0, y .1), y .2)
-  test-constants (not-in v r) f = let x = value-constants v f in let y = list-constants r (x .1 .1 .1) in ((x .0, y .0, y .1), y .2)
-
-  list-constants : {ts rest : Tokens} {s : WrittenValue} {g : From} {w : WrittenCondition} → IsList ts s g w rest → TokensFit ts → WrittenFits s × Constants w × TokensFit rest
-  list-constants (list v r) f = let x = value-constants v (f .1 .1) in let y = condition-constants r (x .1 .1 .1 .1 .1) in (x .0, y .0, y .1 .1)
+abbrev pub Constants : WrittenCondition → Type 0
+Constants = Throughout WrittenFits (λ f. Unit {0})
 
 pub reading-constants : {ts rest : Tokens} {a : WrittenCondition} → IsCondition ts a rest → TokensFit ts → Constants a
-reading-constants r f = condition-constants r f .0
+reading-constants r f = carried TokenFits WrittenFits (λ f. Unit {0}) (λ n k. k) (λ x n l k. tt) (λ n x k l. tt) r f

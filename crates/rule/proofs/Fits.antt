@@ -16,7 +16,8 @@ use Rattle.tables.specs.Values.{judgedLevels, Value, Constant, Column, valueFit
 use Rattle.rule.specs.Condition.{Test, Compare, IsNull, IsNotNull, Atom, Join, Not, Exists, Listed, WrittenValue, Plain, Named, Over, WrittenCondition, Rule, parts, fromsDeep}
 use Rattle.rule.specs.Names.{Binding, Scope, outermost, bound, nearest, existing, valueIn, testIn, ruleIn, ValueFits, TestFits, TableFits, Fits, ValueScoped, Scoped}
 use Rattle.rule.proofs.Every.{Every, missing, there, found, every-bind}
-use Rattle.rule.proofs.Constants.{WrittenFits, TestConstants, Constants}
+use Rattle.rule.specs.Throughout.{TestThroughout, Throughout}
+use Rattle.rule.proofs.Constants.{WrittenFits, Constants}
 
 -- a value that exists passes the test which a card's value has to pass
 pub value-tested : (columns levels : List ℕ) (v : Value) → ValueFits columns levels v → T (valueFits columns levels v)
@@ -75,7 +76,7 @@ module _ (columns : List ℕ) where
       every-bind (λ n. T (between 1 (numbered columns (b .table) 0) n)) (ValueFits columns levels) _ (existing-fits (numbered columns (b .table) 0) m) (λ c g.
       let q : ValueFits columns levels (Column (b .level) c) = (h .0, rw (h .1) g) in there q))
 
-  test-fits : {levels : List ℕ} {scope : Scope} → Placed levels scope → (x : Test WrittenValue) → TestConstants x → Every (TestFits columns levels) (testIn columns scope x)
+  test-fits : {levels : List ℕ} {scope : Scope} → Placed levels scope → (x : Test WrittenValue) → TestThroughout WrittenFits x → Every (TestFits columns levels) (testIn columns scope x)
   unfolding testIn
   test-fits p (Compare op l r) f =
       every-bind (ValueFits columns _) (TestFits columns _) _ (value-fits p l (f .0)) (λ x h. every-bind (ValueFits columns _) (TestFits columns _) _ (value-fits p r (f .1)) (λ y g. there (h, g)))
@@ -89,7 +90,7 @@ module _ (columns : List ℕ) where
     pub same-depth : fromsDeep r ≡ fromsDeep a
 
   rule-fits : {levels : List ℕ} {scope : Scope} → length scope ≡ length levels → Placed levels scope → (a : WrittenCondition) → Constants a → Every (Resolved levels a) (ruleIn columns scope a)
-  unfolding ruleIn Fits Constants parts fromsDeep
+  unfolding ruleIn Fits Throughout parts fromsDeep
   rule-fits e p (Atom x) f = every-bind (TestFits columns _) (Resolved _ (Atom x)) _ (test-fits p x f) (λ y h. there (record { fits = h; same-parts = refl; same-depth = refl }))
   rule-fits e p (Join j a b) f =
       every-bind (Resolved _ a) (Resolved _ (Join j a b)) _ (rule-fits e p a (f .0)) (λ x h.
@@ -99,14 +100,14 @@ module _ (columns : List ℕ) where
       every-bind (Resolved _ a) (Resolved _ (Not a)) _ (rule-fits e p a f) (λ x h. there (record { fits = h .fits; same-parts = ap (1 +_) (h .same-parts); same-depth = h .same-depth }))
   rule-fits {levels} {scope} e p (Exists (Over n x) w) f =
       every-bind (TableFits columns) (Resolved levels (Exists (Over n x) w)) _ (existing-fits (length columns) n) (λ t g.
-      every-bind (Resolved (levels ++ (t ∷ [])) w) (Resolved levels (Exists (Over n x) w)) _ (rule-fits (one-longer levels (length scope) t e) (bound-placed x t e p) w f) (λ w′ h.
+      every-bind (Resolved (levels ++ (t ∷ [])) w) (Resolved levels (Exists (Over n x) w)) _ (rule-fits (one-longer levels (length scope) t e) (bound-placed x t e p) w (f .1)) (λ w′ h.
       there (record { fits = (g, h .fits); same-parts = ap (1 +_) (h .same-parts); same-depth = ap (1 +_) (h .same-depth) })))
   rule-fits {levels} {scope} e p (Listed q op l s (Over n x) w) f =
       let a = Listed q op l s (Over n x) w in
       every-bind (TableFits columns) (Resolved levels a) _ (existing-fits (length columns) n) (λ t g.
       every-bind (ValueFits columns levels) (Resolved levels a) _ (value-fits p l (f .0)) (λ l′ hl.
       every-bind (ValueFits columns (levels ++ (t ∷ []))) (Resolved levels a) _ (value-fits (bound-placed x t e p) s (f .1)) (λ s′ hs.
-      every-bind (Resolved (levels ++ (t ∷ [])) w) (Resolved levels a) _ (rule-fits (one-longer levels (length scope) t e) (bound-placed x t e p) w (f .2)) (λ w′ h.
+      every-bind (Resolved (levels ++ (t ∷ [])) w) (Resolved levels a) _ (rule-fits (one-longer levels (length scope) t e) (bound-placed x t e p) w (f .3)) (λ w′ h.
       there (record { fits = (g, hl, hs, h .fits); same-parts = ap (1 +_) (h .same-parts); same-depth = ap (1 +_) (h .same-depth) })))))
 
   -- a whole rule

@@ -4,6 +4,7 @@ pub mod Every
 pub mod Found
 pub mod Reading
 pub mod Steps
+pub mod Carried
 pub mod Constants
 pub mod Fits
 pub mod Parts

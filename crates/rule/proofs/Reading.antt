@@ -3,7 +3,7 @@ use mathlib.Core.Path.{_≡_, refl, ap, subst, _∙_}
 use mathlib.Core.Bool.{Bool, true, false}
 use mathlib.Core.List.{[], _∷_}
 use mathlib.Core.Option.{Option, none, some}
-use Prim.Native.Nat.{ℕ, zero, suc, _+_, _*_, _≤_, _<_}
+use Prim.Native.Nat.{ℕ, zero, suc, _≤_, _<_}
 use native.Mathlib.Nat.{le-refl}
 use native.Mathlib.Omega.{arith}
 use borrow.Author.Tests.{eqb-true}
@@ -136,7 +136,7 @@ module _ (d : ℕ) (ts : Tokens) (x : WrittenCondition × Tokens) where
 -- a chain that is read so far goes on from here, at a depth that is enough
 record Goes (d : ℕ) (g : Goal) (ts : Tokens) (more : Goal) (rest : Tokens) : Type 0 where
   depth : ℕ
-  deep : 8 * length rest + 1 ≤ depth
+  deep : depthFor more rest ≤ depth
   same : read d g ts ≡ read depth more rest
 
 -- no OR, or no AND, follows: the chain ends
@@ -144,7 +144,7 @@ or-ends : {d : ℕ} {ts rest : Tokens} {a : WrittenCondition} → expect OR rest
 unfolding read
 or-ends {d} {ts} {rest} {a} n r = r .same ∙ go (r .depth) (r .deep)
   where
-    go : (e : ℕ) → 8 * length rest + 1 ≤ e → read e (more-or a) rest ≡ some (a, rest)
+    go : (e : ℕ) → depthFor (more-or a) rest ≤ e → read e (more-or a) rest ≡ some (a, rest)
     go zero h = absurd (omega arith)
     go (suc e) h = ap (λ (o : Option Tokens). branch o (λ us. read e conjunction us >>= (λ b. read e (more-or (Join Or a (b .0))) (b .1))) (λ _. some (a, rest))) n
 
@@ -152,26 +152,26 @@ and-ends : {d : ℕ} {ts rest : Tokens} {a : WrittenCondition} → expect AND re
 unfolding read
 and-ends {d} {ts} {rest} {a} n r = r .same ∙ go (r .depth) (r .deep)
   where
-    go : (e : ℕ) → 8 * length rest + 1 ≤ e → read e (more-and a) rest ≡ some (a, rest)
+    go : (e : ℕ) → depthFor (more-and a) rest ≤ e → read e (more-and a) rest ≡ some (a, rest)
     go zero h = absurd (omega arith)
     go (suc e) h = ap (λ (o : Option Tokens). branch o (λ us. read e factor us >>= (λ b. read e (more-and (Join And a (b .0))) (b .1))) (λ _. some (a, rest))) n
 
 -- one more OR, and the conjunction behind it
 or-goes : {d : ℕ} {ts us rest : Tokens} {a b : WrittenCondition} → length rest ≤ length us → Goes d condition ts (more-or a) (OR ∷ us)
-    → ((e : ℕ) → 8 * length us + 4 ≤ e → read e conjunction us ≡ some (b, rest)) → Goes d condition ts (more-or (Join Or a b)) rest
+    → ((e : ℕ) → depthFor conjunction us ≤ e → read e conjunction us ≡ some (b, rest)) → Goes d condition ts (more-or (Join Or a b)) rest
 unfolding read expect
 or-goes {d} {ts} {us} {rest} {a} {b} l r q = go (r .depth) (r .deep) (r .same)
   where
-    go : (e : ℕ) → 8 * length (OR ∷ us) + 1 ≤ e → read d condition ts ≡ read e (more-or a) (OR ∷ us) → Goes d condition ts (more-or (Join Or a b)) rest
+    go : (e : ℕ) → depthFor (more-or a) (OR ∷ us) ≤ e → read d condition ts ≡ read e (more-or a) (OR ∷ us) → Goes d condition ts (more-or (Join Or a b)) rest
     go zero h s = absurd (omega arith)
     go (suc e) h s = record { depth = e; deep = omega arith; same = s ∙ ap (_>>= (λ x. read e (more-or (Join Or a (x .0))) (x .1))) (q e (omega arith)) }
 
 and-goes : {d : ℕ} {ts us rest : Tokens} {a b : WrittenCondition} → length rest ≤ length us → Goes d conjunction ts (more-and a) (AND ∷ us)
-    → ((e : ℕ) → 8 * length us + 3 ≤ e → read e factor us ≡ some (b, rest)) → Goes d conjunction ts (more-and (Join And a b)) rest
+    → ((e : ℕ) → depthFor factor us ≤ e → read e factor us ≡ some (b, rest)) → Goes d conjunction ts (more-and (Join And a b)) rest
 unfolding read expect
 and-goes {d} {ts} {us} {rest} {a} {b} l r q = go (r .depth) (r .deep) (r .same)
   where
-    go : (e : ℕ) → 8 * length (AND ∷ us) + 1 ≤ e → read d conjunction ts ≡ read e (more-and a) (AND ∷ us) → Goes d conjunction ts (more-and (Join And a b)) rest
+    go : (e : ℕ) → depthFor (more-and a) (AND ∷ us) ≤ e → read d conjunction ts ≡ read e (more-and a) (AND ∷ us) → Goes d conjunction ts (more-and (Join And a b)) rest
     go zero h s = absurd (omega arith)
     go (suc e) h s = record { depth = e; deep = omega arith; same = s ∙ ap (_>>= (λ x. read e (more-and (Join And a (x .0))) (x .1))) (q e (omega arith)) }
 
@@ -197,40 +197,40 @@ no-not (not-in column r) = refl
 
 -- one step of the function, at a depth that is enough; `r` reads what it calls for
 module _ {a : WrittenCondition} {rest : Tokens} where
-  condition-step : (d : ℕ) (ts : Tokens) → 8 * length ts + 5 ≤ d → length rest ≤ length ts
-      → ((e : ℕ) → 8 * length ts + 4 ≤ e → read e conjunction ts ≡ some (a, rest)) → Goes d condition ts (more-or a) rest
+  condition-step : (d : ℕ) (ts : Tokens) → depthFor condition ts ≤ d → length rest ≤ length ts
+      → ((e : ℕ) → depthFor conjunction ts ≤ e → read e conjunction ts ≡ some (a, rest)) → Goes d condition ts (more-or a) rest
   unfolding read
   condition-step zero ts h l r = absurd (omega arith)
   condition-step (suc e) ts h l r = record { depth = e; deep = omega arith; same = ap (_>>= (λ x. read e (more-or (x .0)) (x .1))) (r e (omega arith)) }
 
-  conjunction-step : (d : ℕ) (ts : Tokens) → 8 * length ts + 4 ≤ d → length rest ≤ length ts
-      → ((e : ℕ) → 8 * length ts + 3 ≤ e → read e factor ts ≡ some (a, rest)) → Goes d conjunction ts (more-and a) rest
+  conjunction-step : (d : ℕ) (ts : Tokens) → depthFor conjunction ts ≤ d → length rest ≤ length ts
+      → ((e : ℕ) → depthFor factor ts ≤ e → read e factor ts ≡ some (a, rest)) → Goes d conjunction ts (more-and a) rest
   unfolding read
   conjunction-step zero ts h l r = absurd (omega arith)
   conjunction-step (suc e) ts h l r = record { depth = e; deep = omega arith; same = ap (_>>= (λ x. read e (more-and (x .0)) (x .1))) (r e (omega arith)) }
 
-  not-step : (d : ℕ) (ts : Tokens) → 8 * length (NOT ∷ ts) + 3 ≤ d
-      → ((e : ℕ) → 8 * length ts + 3 ≤ e → read e factor ts ≡ some (a, rest)) → read d factor (NOT ∷ ts) ≡ some (Not a, rest)
+  not-step : (d : ℕ) (ts : Tokens) → depthFor factor (NOT ∷ ts) ≤ d
+      → ((e : ℕ) → depthFor factor ts ≤ e → read e factor ts ≡ some (a, rest)) → read d factor (NOT ∷ ts) ≡ some (Not a, rest)
   unfolding read expect
   not-step zero ts h r = absurd (omega arith)
   not-step (suc e) ts h r = ap (_>>= (λ x. some (Not (x .0), x .1))) (r e (omega arith))
 
-  factor-step : (d : ℕ) (ts : Tokens) → 8 * length ts + 3 ≤ d → expect NOT ts ≡ none
-      → ((e : ℕ) → 8 * length ts + 2 ≤ e → read e test ts ≡ some (a, rest)) → read d factor ts ≡ some (a, rest)
+  factor-step : (d : ℕ) (ts : Tokens) → depthFor factor ts ≤ d → expect NOT ts ≡ none
+      → ((e : ℕ) → depthFor test ts ≤ e → read e test ts ≡ some (a, rest)) → read d factor ts ≡ some (a, rest)
   unfolding read
   factor-step zero ts h n r = absurd (omega arith)
   factor-step (suc e) ts h n r =
       ap (λ (o : Option Tokens). branch o (λ us. read e factor us >>= (λ x. some (Not (x .0), x .1))) (λ _. read e test ts)) n ∙ r e (omega arith)
 
   -- a test that its start reads to its end
-  whole-step : (d : ℕ) (ts : Tokens) → 8 * length ts + 2 ≤ d → start ts ≡ some (Whole a rest) → read d test ts ≡ some (a, rest)
+  whole-step : (d : ℕ) (ts : Tokens) → depthFor test ts ≤ d → start ts ≡ some (Whole a rest) → read d test ts ≡ some (a, rest)
   unfolding read
   whole-step zero ts h e = absurd (omega arith)
   whole-step (suc d) ts h e = ap (λ (o : Option Start). started o (λ op us. read d condition us >>= closing op)) e
 
   -- and one around a condition
-  around-step : (d : ℕ) (op : Opening) (ts us : Tokens) → 8 * length ts + 2 ≤ d → length us < length ts → start ts ≡ some (Around op us)
-      → ((e : ℕ) → 8 * length us + 5 ≤ e → read e condition us ≡ some (a, Close ∷ rest)) → read d test ts ≡ some (closed op a, rest)
+  around-step : (d : ℕ) (op : Opening) (ts us : Tokens) → depthFor test ts ≤ d → length us < length ts → start ts ≡ some (Around op us)
+      → ((e : ℕ) → depthFor condition us ≤ e → read e condition us ≡ some (a, Close ∷ rest)) → read d test ts ≡ some (closed op a, rest)
   unfolding read expect
   around-step zero op ts us h l e r = absurd (omega arith)
   around-step (suc d) op ts us h l e r =
@@ -241,7 +241,7 @@ record ListRead (ts : Tokens) (s : WrittenValue) (f : From) (w : WrittenConditio
   inner : Tokens
   shorter : length inner ≤ length ts
   begins : (q : Quantifier) (op : Comparison) (l : WrittenValue) → startList q op l ts ≡ some (Around (OfList q op l s f) inner)
-  reads : (e : ℕ) → 8 * length inner + 5 ≤ e → read e condition inner ≡ some (w, Close ∷ rest)
+  reads : (e : ℕ) → depthFor condition inner ≤ e → read e condition inner ≡ some (w, Close ∷ rest)
 
 closes : {d : ℕ} {ts rest : Tokens} {a : WrittenCondition} → (expect AND (Close ∷ rest) ≡ none → Goes d condition ts (more-or a) (Close ∷ rest)) → read d condition ts ≡ some (a, Close ∷ rest)
 unfolding expect
@@ -260,19 +260,19 @@ unfolding start expect readFrom readNumber readLetter
 exists-start n x ts = refl
 
 mutual
-  condition-goes : {ts rest : Tokens} {a : WrittenCondition} → IsCondition ts a rest → (d : ℕ) → 8 * length ts + 5 ≤ d → expect AND rest ≡ none → Goes d condition ts (more-or a) rest
+  condition-goes : {ts rest : Tokens} {a : WrittenCondition} → IsCondition ts a rest → (d : ℕ) → depthFor condition ts ≤ d → expect AND rest ≡ none → Goes d condition ts (more-or a) rest
   condition-goes {ts} (one-conjunction r) d h n = condition-step d ts h (conjunction-inside r) (λ e g. and-ends n (conjunction-goes r e g))
   condition-goes (joined-by-or {us = us} r q) d h n = or-goes (conjunction-inside q) (condition-goes r d h (or-is-no-and us)) (λ e g. and-ends n (conjunction-goes q e g))
 
-  conjunction-goes : {ts rest : Tokens} {a : WrittenCondition} → IsConjunction ts a rest → (d : ℕ) → 8 * length ts + 4 ≤ d → Goes d conjunction ts (more-and a) rest
+  conjunction-goes : {ts rest : Tokens} {a : WrittenCondition} → IsConjunction ts a rest → (d : ℕ) → depthFor conjunction ts ≤ d → Goes d conjunction ts (more-and a) rest
   conjunction-goes {ts} (one-factor r) d h = conjunction-step d ts h (factor-inside r) (λ e g. factor-read r e g)
   conjunction-goes (joined-by-and r q) d h = and-goes (factor-inside q) (conjunction-goes r d h) (λ e g. factor-read q e g)
 
-  factor-read : {ts rest : Tokens} {a : WrittenCondition} → IsFactor ts a rest → (d : ℕ) → 8 * length ts + 3 ≤ d → read d factor ts ≡ some (a, rest)
+  factor-read : {ts rest : Tokens} {a : WrittenCondition} → IsFactor ts a rest → (d : ℕ) → depthFor factor ts ≤ d → read d factor ts ≡ some (a, rest)
   factor-read (not-factor {ts = us} r) d h = not-step d us h (λ e g. factor-read r e g)
   factor-read {ts} (one-test r) d h = factor-step d ts h (no-not r) (λ e g. test-read r e g)
 
-  test-read : {ts rest : Tokens} {a : WrittenCondition} → IsTest ts a rest → (d : ℕ) → 8 * length ts + 2 ≤ d → read d test ts ≡ some (a, rest)
+  test-read : {ts rest : Tokens} {a : WrittenCondition} → IsTest ts a rest → (d : ℕ) → depthFor test ts ≤ d → read d test ts ≡ some (a, rest)
   test-read (bracketed {ts = us} r) d h = around-step d Bracket (Open ∷ us) us h (omega arith) (bracket-start us) (λ e g. closes (λ n. condition-goes r e g n))
   test-read (exists {n = n} {x = x} {ts = us} r) d h =
       around-step d (OfExists (Over n x)) _ us h (omega arith) (exists-start n x us) (λ e g. closes (λ n. condition-goes r e g n))

@@ -12,7 +12,7 @@ use Rattle.tables.specs.Values.{Comparison, Eq, Ne, Connective, And, Or, Quanti
 use Rattle.rule.specs.Tokens.{Token, isFixed, Fixed, Compares, Letter, Number, AND, OR, NOT, EXISTS, IN, SOME, ALL, IS, NULL, SELECT, FROM, WHERE, Open, Point}
 use Rattle.rule.specs.Condition.{Join, Not, WrittenValue, WrittenCondition}
 use Rattle.rule.specs.Grammar.{Tokens}
-use Rattle.rule.specs.Reader.{expect, readNumber, readLetter, readComparison, readValue, readFrom, Opening, Start, Whole, Around, startList, startValue, start, Goal, condition, conjunction, factor, test, more-or, more-and, Found, branch, started, closing, read, depthFor, reading, atEnd, readAll}
+use Rattle.rule.specs.Reader.{expect, readNumber, readLetter, readComparison, readValue, readFrom, Opening, Start, Whole, Around, startList, startValue, start, Goal, condition, conjunction, factor, test, more-or, more-and, chain, operand, more, joinWord, Found, branch, started, closing, read, depthFor, reading, atEnd, readAll}
 use Rattle.rule.proofs.Found.{bind-ind, or-ind}
 use Rattle.rule.proofs.Reading.{conjunction-left, factor-left}
 
@@ -249,28 +249,11 @@ reading-all ts = refl
 
 -- ---- a chain: conjunctions joined by OR, or factors joined by AND
 
-abbrev pub chain : Connective → Goal
-chain Or = condition
-chain And = conjunction
-
-abbrev pub operand : Connective → Goal
-operand Or = conjunction
-operand And = factor
-
-abbrev pub more : Connective → WrittenCondition → Goal
-more Or a = more-or a
-more And a = more-and a
-
--- the number of its sign, and of its part
-abbrev pub sign : Connective → ℕ
-sign Or = 2
-sign And = 1
-
 pub reading-chain : (j : Connective) (ts : Tokens) → reading (chain j) ts ≡ (reading (operand j) ts >>= (λ a. reading (more j (a .0)) (a .1)))
 reading-chain Or ts = reading-condition ts
 reading-chain And ts = reading-conjunction ts
 
 pub reading-more : (j : Connective) (a : WrittenCondition) (ts : Tokens)
-    → reading (more j a) ts ≡ branch (expect (Fixed (sign j)) ts) (λ us. reading (operand j) us >>= (λ b. reading (more j (Join j a (b .0))) (b .1))) (λ _. some (a, ts))
+    → reading (more j a) ts ≡ branch (expect (Fixed (joinWord j)) ts) (λ us. reading (operand j) us >>= (λ b. reading (more j (Join j a (b .0))) (b .1))) (λ _. some (a, ts))
 reading-more Or a ts = reading-more-or a ts
 reading-more And a ts = reading-more-and a ts

@@ -1,5 +1,6 @@
 pub mod Tokens
 pub mod Condition
+pub mod Throughout
 pub mod Grammar
 pub mod Reader
 pub mod Names

@@ -35,9 +35,16 @@ pub record Binding : Type 0 where
 abbrev pub Scope : Type 0
 Scope = List Binding
 
--- around a whole rule, m alone (byte 109) is bound: the judged row, level 0
+-- the judged row's letter, m, and the table that it is a row of
+abbrev pub judgedLetter : ℕ
+judgedLetter = 109
+
+abbrev pub judgedTable : ℕ
+judgedTable = 1
+
+-- around a whole rule, m alone is bound: the judged row, level 0
 abbrev pub outermost : Scope
-outermost = record { letter = 109; level = 0; table = 1 } ∷ []
+outermost = record { letter = judgedLetter; level = 0; table = judgedTable } ∷ []
 
 -- a FROM binds its letter one level deeper, for its WHERE and its SELECT
 abbrev pub bound : Scope → ℕ → ℕ → Scope

@@ -6,7 +6,7 @@ use Prim.Native.Nat.{ℕ, zero, suc, _+_, _*_}
 use lib.IntN.{ℤ}
 use lib.ListN.{length}
 use Rattle.tables.specs.Lists.{only, _>>=_, _<|>_}
-use Rattle.tables.specs.Values.{Comparison, Eq, Ne, And, Or, Quantifier, Some, All}
+use Rattle.tables.specs.Values.{Comparison, Eq, Ne, Connective, And, Or, Quantifier, Some, All}
 use Rattle.rule.specs.Tokens.{Token, isFixed, Fixed, Compares, Letter, Number, AND, OR, NOT, EXISTS, IN, SOME, ALL, IS, NULL, SELECT, FROM, WHERE, Open, Close, Point}
 use Rattle.rule.specs.Condition.{Compare, IsNull, IsNotNull, Atom, Join, Not, Exists, Listed, WrittenValue, Plain, Named, From, Over, WrittenCondition}
 use Rattle.rule.specs.Grammar.{Tokens}
@@ -100,6 +100,24 @@ start ts =
 pub data Goal : Type 0 where
   condition conjunction factor test : Goal
   more-or more-and : WrittenCondition → Goal
+
+-- the same over the connective: conjunctions joined by OR are a condition, factors joined by AND a conjunction
+abbrev pub chain : Connective → Goal
+chain Or = condition
+chain And = conjunction
+
+abbrev pub operand : Connective → Goal
+operand Or = conjunction
+operand And = factor
+
+abbrev pub more : Connective → WrittenCondition → Goal
+more Or a = more-or a
+more And a = more-and a
+
+-- the number of the word, AND or OR
+abbrev pub joinWord : Connective → ℕ
+joinWord Or = 2
+joinWord And = 1
 
 -- a reading, and the tokens after it
 abbrev pub Found : Type 0

@@ -188,8 +188,8 @@ tokensOf text = tokensAfter 0 text
 
 -- ---- refusal 5: how many more ( than ) there may be up to a token
 
-abbrev pub mostOpen : ℤ
-mostOpen = pos 32
+abbrev pub mostOpen : ℕ
+mostOpen = 32
 
 -- what a token adds to the count of ( less that of )
 abbrev pub bracketStep : Token → ℤ
@@ -201,4 +201,4 @@ bracketStep (Number n) = pos 0
 -- with n more ( than ) before these tokens, there are never more than the limit up to one of them; n may be negative
 unfoldable pub opensFit : ℤ → List Token → Bool
 opensFit n [] = true
-opensFit n (t ∷ ts) = let m = n +ℤ bracketStep t in elim (ltZ mostOpen m) [ true ↦ false | false ↦ opensFit m ts ]
+opensFit n (t ∷ ts) = let m = n +ℤ bracketStep t in elim (ltZ (pos mostOpen) m) [ true ↦ false | false ↦ opensFit m ts ]

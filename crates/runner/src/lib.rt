@@ -4,10 +4,11 @@
 ghost use mathlib.Core.Path.{_≡_};
 ghost use mathlib.Core.Bool.{true, false};
 ghost use Prim.Native.Nat.{_+_, _*_, _<_, _≤_};
-ghost use Rattle.tables.specs.Values.{comparisonOf, holds, byNumbers};
+ghost use Rattle.tables.specs.Values.{All, comparisonOf, holds, byNumbers};
 ghost use Rattle.cells.specs.Code.{seenCell};
+ghost use Rattle.card.specs.Layout.{rowKind};
 ghost use Rattle.decoder.specs.Code.{kindIn};
-ghost use Rattle.runner.specs.Code.{LeafReady, LeafAnswers, Runnable, Answers, rowKind};
+ghost use Rattle.runner.specs.Code.{LeafReady, LeafAnswers, Runnable, PairRunnable, RowsRunnable, Answers};
 use card::AND_ENTRY;
 use card::BLANK;
 use card::COMPARISON_OR_YES;
@@ -78,7 +79,7 @@ fn run_leaf_rows(
     depth: usize,
     q: bool,
 ) -> bool
-    requires { ⌜ Runnable (now d) (now g) (now file) (now w) s e depth ⌝ ∗ ⌜ kindIn (now d) s ≡ rowKind q ⌝ ∗ ⌜ 4 < kindIn (now d) (s + 1) ⌝ }
+    requires { ⌜ RowsRunnable (now d) (now g) (now file) (now w) s e depth q ⌝ ∗ ⌜ rowKind All < kindIn (now d) (s + 1) ⌝ }
     ensures { λ r. ⌜ Answers (now (d .entry)) (now (g .entry)) (now (file .entry)) (now (w .entry)) s e depth r ⌝ }
 {
     let table = cells::table_place(g, d[FIELDS * s + TABLE]);
@@ -126,30 +127,39 @@ fn run_inner(
     w: &[usize; LEVELS],
     depth: usize,
 ) -> bool
-    requires { ⌜ Runnable (now d) (now g) (now file) (now w) s e depth ⌝ ∗ ⌜ kindIn (now d) s ≤ 4 ⌝ }
+    requires { ⌜ Runnable (now d) (now g) (now file) (now w) s e depth ⌝ ∗ ⌜ kindIn (now d) s ≤ rowKind All ⌝ }
     ensures { λ r. ⌜ Answers (now (d .entry)) (now (g .entry)) (now (file .entry)) (now (w .entry)) s e depth r ⌝ }
 {
     let k = d[FIELDS * s];
     match k {
-        AND_ENTRY => {
-            let m = d[FIELDS * s + NEXT_END];
-            let left = run_entry(d, g, file, s + 1, m, w, depth);
-            if !left {
-                return false;
-            }
-            run_entry(d, g, file, m, e, w, depth)
-        }
-        OR_ENTRY => {
-            let m = d[FIELDS * s + NEXT_END];
-            let left = run_entry(d, g, file, s + 1, m, w, depth);
-            if left {
-                return true;
-            }
-            run_entry(d, g, file, m, e, w, depth)
-        }
+        AND_ENTRY => run_pair(d, g, file, s, e, w, depth, false),
+        OR_ENTRY => run_pair(d, g, file, s, e, w, depth, true),
         SOME_ROW => run_rows(d, g, file, s, e, w, depth, false),
         _ => run_rows(d, g, file, s, e, w, depth, true),
     }
+}
+
+// The same where s is an and, which a no of its first inner entry decides, or an or, which a yes decides. It is compiled into each arm of `run_inner` that
+// calls it, where it is known which answer decides: one arm for both would keep that across the first call, in one more register that every call has to save.
+fn run_pair(
+    d: &[usize],
+    g: &[usize; PLACES],
+    file: &[u8],
+    s: usize,
+    e: usize,
+    w: &[usize; LEVELS],
+    depth: usize,
+    decides: bool,
+) -> bool
+    requires { ⌜ PairRunnable (now d) (now g) (now file) (now w) s e depth decides ⌝ }
+    ensures { λ r. ⌜ Answers (now (d .entry)) (now (g .entry)) (now (file .entry)) (now (w .entry)) s e depth r ⌝ }
+{
+    let m = d[FIELDS * s + NEXT_END];
+    let left = run_entry(d, g, file, s + 1, m, w, depth);
+    if left == decides {
+        return left;
+    }
+    run_entry(d, g, file, m, e, w, depth)
 }
 
 // The same as `run_entry`, asked of each row. Most rows are decided by the left test of an and or of an or: it is run here, with no recursive call.
@@ -190,7 +200,7 @@ fn run_rows(
     depth: usize,
     q: bool,
 ) -> bool
-    requires { ⌜ Runnable (now d) (now g) (now file) (now w) s e depth ⌝ ∗ ⌜ kindIn (now d) s ≡ rowKind q ⌝ }
+    requires { ⌜ RowsRunnable (now d) (now g) (now file) (now w) s e depth q ⌝ }
     ensures { λ r. ⌜ Answers (now (d .entry)) (now (g .entry)) (now (file .entry)) (now (w .entry)) s e depth r ⌝ }
 {
     if EVERY_ROW < d[FIELDS * (s + 1)] {

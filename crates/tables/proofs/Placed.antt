@@ -1,12 +1,13 @@
--- A list with another in its place from some number on: its length, one after another, one over another, and the list around a part that was lent.
-use mathlib.Core.Path.{_≡_, sym, ap, ap₂, _∙_}
+-- A list with another in its place from some number on: its length, one after another, one over another, the list around a part that was lent, and a
+-- list copied element by element.
+use mathlib.Core.Path.{_≡_, refl, sym, ap, ap₂, _∙_}
 use mathlib.Core.List.{List, [], _∷_, _++_, append-assoc}
 use Prim.Native.Nat.{ℕ, _+_, _-_, _<_, _≤_}
 use native.Mathlib.Nat.{zero-add, add-zero}
 use native.Mathlib.Numerals.{add-one}
 use native.Mathlib.Omega.{arith}
-use lib.ListN.{length, take, drop, set, length-append, length-drop, take-append-drop}
-use lib.Seq.{length-take-le, take-at, drop-at, take-take, take-append-le, take-append-seam, drop-drop, set-split}
+use lib.ListN.{length, getD, take, drop, set, length-append, length-drop, length-set, take-append-drop}
+use lib.Seq.{length-take-le, take-at, drop-at, take-all, take-suc, take-take, take-append-le, take-append-seam, drop-drop, set-split}
 use Rattle.tables.specs.Lists.{placed}
 
 module _ {A : Type 0} where
@@ -105,3 +106,46 @@ module _ {A : Type 0} where
   pub placed-lent : (xs : List A) (a e : ℕ) (ys : List A) → length ys ≡ e - a → take a xs ++ (ys ++ drop (e - a) (drop a xs)) ≡ placed xs a ys
   unfolding placed
   placed-lent xs a e ys h = ap (λ (r : List A). take a xs ++ (ys ++ r)) (drop-drop (e - a) a xs ∙ ap (λ (k : ℕ). drop (a + k) xs) (sym h))
+
+  -- ---- copied element by element, from number i on
+
+  -- the first k elements of another list are there
+  pub record Copied (old : List A) (i : ℕ) (from new : List A) (k : ℕ) : Type 0 where
+    pub long : length new ≡ length old
+    pub is : new ≡ placed old i (take k from)
+
+  pub copied-none : (old : List A) (i : ℕ) (from : List A) → Copied old i from old 0
+  copied-none old i from = record { long = refl; is = sym (placed-none old i) }
+
+  module _ {old : List A} {i : ℕ} {from new : List A} {k : ℕ} (c : Copied old i from new k) where
+    -- one element more, at j
+    pub copied-more : {x : A} (d : A) (j : ℕ) → x ≡ getD from k d → j ≡ i + k → j < length old → k < length from → Copied old i from (set new j x) (k + 1)
+    copied-more {x} d j e at h l =
+        let same = c .long in
+        let low : i ≤ length old = omega arith in
+        let size = length-take-le k from (omega arith) in
+        let place : j ≡ i + length (take k from) = omega arith in
+        record {
+          long = simp length-set same;
+          is =
+              placed-one new j x (omega arith)
+              ∙ ap (λ (v : List A). placed v j (x ∷ [])) (c .is)
+              ∙ placed-next old i (take k from) j (x ∷ []) low place
+              ∙ ap (λ (v : A). placed old i (take k from ++ (v ∷ []))) e
+              ∙ ap (placed old i) (sym (take-suc from k d l) ∙ ap (λ (n : ℕ). take n from) (sym (add-one k)));
+        }
+
+    -- as many as were to be copied, and all there are
+    pub copied-to : (n : ℕ) → k ≡ n → new ≡ placed old i (take n from)
+    copied-to n e = c .is ∙ ap (λ (n : ℕ). placed old i (take n from)) e
+
+    pub copied-all : length from ≤ k → new ≡ placed old i from
+    copied-all h = c .is ∙ ap (placed old i) (take-all k from h)
+
+  -- from the start on
+  module _ {old from new : List A} {k : ℕ} (c : Copied old 0 from new k) where
+    pub copied-front : (n : ℕ) → k ≡ n → n ≤ length from → new ≡ take n from ++ drop n old
+    copied-front n e h = copied-to c n e ∙ placed-start old (take n from) ∙ ap (λ (m : ℕ). take n from ++ drop m old) (length-take-le n from h)
+
+    pub copied-same : (n : ℕ) → k ≡ n → n ≤ length from → take n new ≡ take n from
+    copied-same n e h = ap (take n) (copied-front n e h) ∙ take-at (take n from) (drop n old) n (length-take-le n from h)

@@ -19,6 +19,10 @@ pub data Value : Type 0 where
 abbrev pub constantTag : ℕ
 constantTag = 255
 
+-- 'else level 0 to 3': so many levels there may be
+abbrev pub mostLevels : ℕ
+mostLevels = 4
+
 -- the six comparisons, and their numbers in a record
 pub data Comparison : Type 0 where
   Eq Ne Lt Le Gt Ge : Comparison

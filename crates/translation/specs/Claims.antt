@@ -81,18 +81,18 @@ LaterCaseClaim = Later caseTables laterTables
 abbrev pub Demand3Claim : Type 0
 Demand3Claim = (text file : List ℕ) → Accepted text file → Demand3For text file
 
--- a status of 0 means that there is one: no refusal has that number
+-- what a C function returns of a call is 0 only where there is an answer: no refusal has that number
 abbrev pub ZeroIsSuccess : {A : Type 0} → Answer A → Type 0
 ZeroIsSuccess a = statusOf a ≡ 0 → isGiven a ≡ true
 
--- with so much room as the header names, a call that lends gives its answer where nothing else refuses it: 64 parts, 2,891 bytes of a card, 1,000 rows
+-- with so much room as include/roskudla.h names, a call that lends gives its answer where nothing else refuses it: 64 parts, 2,891 bytes of a card, 1,000 rows
 pub record RoomClaim : Type 0 where
   pub numbers : (mostParts ≡ 64) × (mostCardBytes ≡ 2891) × (mostRows ≡ 1000)
   pub reading : (text file : List ℕ) (parts : List Part) → Accepted text file → mostParts ≤ length parts → isGiven (readCall text file parts .result) ≡ true
   pub making : (text file card : List ℕ) → Accepted text file → mostCardBytes ≤ length card → isGiven (cardCall text file card .result) ≡ true
   pub listing : (card file rows : List ℕ) → firstApplying (gateRefusals card file) ≡ none → mostRows ≤ length rows → isGiven (listCall card file rows .result) ≡ true
 
--- each call returns 0 for an answer alone
+-- so it is of each of the six calls
 pub record StatusClaim : Type 0 where
   pub reading : (text file : List ℕ) (parts : List Part) → ZeroIsSuccess (readCall text file parts .result)
   pub judging : (text file : List ℕ) (row : ℕ) → ZeroIsSuccess (judgeCall text file row)

@@ -1,5 +1,5 @@
 pub mod Counting
-pub mod Copying
+pub mod Sizes
 pub mod Writing
 pub mod Making
 pub mod Told

@@ -12,13 +12,12 @@ use Rattle.tables.specs.Tables.{tableCount, columnsOf}
 use Rattle.tables.specs.Values.{judgedLevels}
 use Rattle.tables.proofs.Placed.{placed-length, placed-start, taken-start, placed-next, placed-before, placed-lent}
 use Rattle.tables.proofs.Sizes.{columns-count}
-use Rattle.card.specs.Layout.{kindBytes, recordsFrom, cardBytes}
+use Rattle.card.specs.Layout.{recordSize, kindBytes, recordsFrom, cardBytes}
+use Rattle.card.specs.Sound.{mostEntries}
 use Rattle.card.proofs.Walk.{kinds-length, records-length}
 use Rattle.rule.specs.Condition.{parts}
-use Rattle.rule.specs.Parts.{partsOf}
-use Rattle.rule.proofs.Parts.{parts-length}
 use Rattle.parser.specs.Parts.{SmallParts}
-use Rattle.parser.proofs.Small.{rule-small, few-tables, few-columns, written-parts}
+use Rattle.parser.proofs.Known.{rule-parts}
 use Rattle.translation.specs.Translation.{ruleCard}
 use Rattle.entries.specs.Code.{cardAs, Writable, Wrote, WroteTo}
 use Rattle.translator.specs.Code.{CardReady}
@@ -33,7 +32,7 @@ abbrev pub recordsAt : ℕ → ℕ → ℕ
 recordsAt tables n = 3 + tables + n
 
 abbrev pub endAt : ℕ → ℕ → ℕ
-endAt tables n = recordsAt tables n + 14 * n
+endAt tables n = recordsAt tables n + recordSize * n
 
 -- the place of the records, lent; and the whole with them in it
 abbrev pub lent : List ℕ → ℕ → ℕ → List ℕ
@@ -43,27 +42,23 @@ abbrev pub around : List ℕ → ℕ → ℕ → List ℕ → List ℕ
 around bytes tables n records =
     take (recordsAt tables n) bytes ++ (records ++ drop (endAt tables n - recordsAt tables n) (drop (recordsAt tables n) bytes))
 
-module _ (p file out : List ℕ) (n : ℕ) (h : CardReady p file n out) where
+module _ {p file out : List ℕ} {n : ℕ} (h : CardReady p file n out) where
   -- the parts of a rule that fits its tables
   small : SmallParts p (parts (h .rule))
-  small =
-      let each =
-      rule-small (columnsOf file) (few-tables file (h .sized)) (few-columns file (h .sized)) (h .rule) 0 judgedLevels (omega (arith, h .few))
-      (omega (arith, h .deep)) (h .fits) in
-      written-parts p (partsOf (h .rule)) (parts (h .rule)) (sym (parts-length (h .rule) 0)) each (h .written) .0
+  small = rule-parts file p (h .rule) (h .sized) (h .few) (h .deep) (h .fits) (h .written) .0
 
   -- with the sizes written
-  module _ (tables : ℕ) (bytes : List ℕ) (count : tables ≡ tableCount file) (sizes : bytes ≡ placed out 0 (sizesOf file n)) where
+  module _ {tables : ℕ} {bytes : List ℕ} (count : tables ≡ tableCount file) (sizes : bytes ≡ placed out 0 (sizesOf file n)) where
     whole : length bytes ≡ length out
     whole = ap length sizes ∙ placed-length out 0 (sizesOf file n) (omega (arith, columns-count file, h .room))
 
-    lent-length : length (lent bytes tables n) ≡ 14 * n
+    lent-length : length (lent bytes tables n) ≡ recordSize * n
     lent-length =
-        let size : endAt tables n - recordsAt tables n ≡ 14 * n = omega arith in
+        let size : endAt tables n - recordsAt tables n ≡ recordSize * n = omega arith in
         let rest = length-drop (recordsAt tables n) bytes in
         length-take-le (endAt tables n - recordsAt tables n) (drop (recordsAt tables n) bytes) (omega (arith, whole, h .room)) ∙ size
 
-    pub writable : (kinds : List ℕ) → length kinds ≡ 192 → Writable p 0 false false kinds (lent bytes tables n) 0
+    pub writable : (kinds : List ℕ) → length kinds ≡ mostEntries → Writable p 0 false false kinds (lent bytes tables n) 0
     unfolding cardAs
     writable kinds size =
         record {
@@ -73,6 +68,8 @@ module _ (p file out : List ℕ) (n : ℕ) (h : CardReady p file n out) where
           count = parts (h .rule);
           few = h .few;
           within = omega arith;
+          part-few = omega arith;
+          entry-few = omega arith;
           small = small;
           columns = columnsOf file;
           levels = judgedLevels;
@@ -82,7 +79,8 @@ module _ (p file out : List ℕ) (n : ℕ) (h : CardReady p file n out) where
         }
 
     -- and with the entries written
-    module _ (kinds kinds′ records′ : List ℕ) (r : ℕ) (size : length kinds ≡ 192) (wrote : WroteTo p 0 false false kinds (lent bytes tables n) kinds′ records′ 0 r) where
+    module _ {kinds kinds′ records′ : List ℕ} {r : ℕ} (size : length kinds ≡ mostEntries)
+        (wrote : WroteTo p 0 false false kinds (lent bytes tables n) kinds′ records′ 0 r) where
       abbrev ks : List ℕ
       ks = kindBytes (ruleCard (h .rule))
 
@@ -96,8 +94,8 @@ module _ (p file out : List ℕ) (n : ℕ) (h : CardReady p file n out) where
       kinds-count : length ks ≡ n
       kinds-count = kinds-length (ruleCard (h .rule)) ∙ sym (h .count)
 
-      records-count : length rs ≡ 14 * n
-      records-count = records-length (ruleCard (h .rule)) 0 ∙ ap (λ (m : ℕ). 14 * m) (sym (h .count))
+      records-count : length rs ≡ recordSize * n
+      records-count = records-length (ruleCard (h .rule)) 0 ∙ ap (λ (m : ℕ). recordSize * m) (sym (h .count))
 
       kinds-are : take n kinds′ ≡ ks
       kinds-are = ap₂ take (sym kinds-count) (wrote-card .kinds-are) ∙ taken-start kinds ks
@@ -110,13 +108,16 @@ module _ (p file out : List ℕ) (n : ℕ) (h : CardReady p file n out) where
       back : around bytes tables n records′ ≡ placed bytes (recordsAt tables n) rs
       back = ap (around bytes tables n) records-are ∙ placed-lent bytes (recordsAt tables n) (endAt tables n) rs (omega (arith, records-count))
 
-      -- what copying the kinds asks
-      pub kinds-fit : (length kinds′ ≡ 192) × ((n ≤ 192) × (3 + tables + n ≤ length (around bytes tables n records′)))
+      -- there are as many kinds, and room for them
+      pub kinds-few : n ≤ length kinds′
+      kinds-few =
+          let same = placed-length kinds 0 ks (omega (arith, kinds-count, h .most)) in
+          omega (arith, ap length (wrote-card .kinds-are), h .most)
+
+      pub kinds-fit : 3 + tables + length (take n kinds′) ≤ length (around bytes tables n records′)
       kinds-fit =
-          let same = placed-length bytes (recordsAt tables n) rs (omega (arith, records-count, whole, h .room)) in (
-            ap length (wrote-card .kinds-are) ∙ placed-length kinds 0 ks (omega (arith, kinds-count, h .most)) ∙ size,
-            (h .most, omega (arith, ap length back, same, whole, h .room)),
-          )
+          let same = placed-length bytes (recordsAt tables n) rs (omega (arith, records-count, whole, h .room)) in
+          omega (arith, ap length back, whole, h .room, length-take-le n kinds′ kinds-few)
 
       pub card-written : (after : List ℕ) → after ≡ placed (around bytes tables n records′) (3 + tables) (take n kinds′)
           → after ≡ placed out 0 (cardBytes (columnsOf file) (ruleCard (h .rule)))

@@ -11,27 +11,19 @@ use Rattle.card.specs.Card.{entries}
 use Rattle.card.specs.Layout.{cardBytes, cardLength}
 use Rattle.card.specs.Sound.{mostEntries}
 use Rattle.rule.specs.Condition.{Rule, parts, fromsDeep}
-use Rattle.rule.specs.Names.{mostParts, Fits}
+use Rattle.rule.specs.Names.{mostParts, mostFroms, Fits}
 use Rattle.rule.specs.Parts.{partsOf}
 use Rattle.translation.specs.Translation.{ruleCard}
 use Rattle.names.specs.Code.{partSize, partsSize, partsNumbers}
-use Rattle.parser.specs.declared.Parsed.{Parsed}
-use Rattle.parser.specs.declared.Parsed.the-variants.{Rule as ParsedRule, Refused as ParsedRefused}
-use Rattle.translator.specs.declared.Made.{Made}
-use Rattle.translator.specs.declared.Made.the-variants.{Bytes, NotMade}
 
 -- how many entries a part of a kind makes up by itself
 abbrev pub entriesOfKind : ℕ → ℕ
 entriesOfKind kind = getD (1 ∷ 1 ∷ 1 ∷ 0 ∷ 1 ∷ 1 ∷ 1 ∷ 1 ∷ 3 ∷ 3 ∷ []) kind 1
 
--- and the first n parts of an array, eight numbers for each
+-- and the first n parts of an array
 unfoldable pub entriesIn : List ℕ → ℕ → ℕ
 entriesIn p zero = 0
 entriesIn p (suc n) = entriesIn p n + entriesOfKind (getD p (partSize * n) 0)
-
-abbrev pub passedUp : Parsed → Made
-passedUp (ParsedRule n) = Bytes n
-passedUp (ParsedRefused x) = NotMade x
 
 -- the parts are those of a rule that fits the tables, and there is room for its card
 pub record CardReady (p file : List ℕ) (n : ℕ) (out : List ℕ) : Type 0 where
@@ -39,7 +31,7 @@ pub record CardReady (p file : List ℕ) (n : ℕ) (out : List ℕ) : Type 0 whe
   pub sized : Sized file
   pub rule : Rule
   pub few : parts rule ≤ mostParts
-  pub deep : fromsDeep rule ≤ 3
+  pub deep : fromsDeep rule ≤ mostFroms
   pub written : take (partSize * parts rule) p ≡ partsNumbers (partsOf rule)
   pub fits : Fits (columnsOf file) judgedLevels rule
   pub count : n ≡ entries (ruleCard rule)

@@ -3,7 +3,7 @@
 ghost use mathlib.Core.Path.{_≡_};
 ghost use mathlib.Core.List.{_∷_, _++_};
 ghost use Prim.Native.Nat.{_+_, _*_, _<_, _≤_};
-ghost use lib.ListN.{length, take};
+ghost use lib.ListN.{length};
 ghost use Rattle.tables.specs.Lists.{placed};
 ghost use Rattle.tables.specs.Bytes.{bytes16};
 ghost use Rattle.tables.specs.Tables.{tableCount, columnsOf};
@@ -13,7 +13,7 @@ ghost use Rattle.card.specs.Sound.{mostEntries};
 ghost use Rattle.rule.specs.Names.{mostParts};
 ghost use Rattle.names.specs.Code.{partsSize};
 ghost use Rattle.translator.specs.Answers.{madeAnswer};
-ghost use Rattle.translator.specs.Code.{entriesOfKind, entriesIn, passedUp, CardReady, CardWritten};
+ghost use Rattle.translator.specs.Code.{entriesOfKind, entriesIn, CardReady, CardWritten};
 use card::MOST_ENTRIES;
 use card::RECORD_SIZE;
 use cells::Reason;
@@ -66,18 +66,6 @@ fn write_sizes(file: &[u8], entries: usize, out: &mut [u8])
     }
 }
 
-// The first n kinds, from place i of out on.
-fn copy_kinds(kinds: &[u8; MOST_ENTRIES], n: usize, out: &mut [u8], i: usize)
-    requires { ⌜ length (now kinds) ≡ mostEntries ⌝ ∗ ⌜ n ≤ mostEntries ⌝ ∗ ⌜ i + n ≤ length (now out) ⌝ }
-    ensures { λ _. ⌜ now (out .exit) ≡ placed (now (out .entry)) i (take n (now (kinds .entry))) ⌝ }
-{
-    let mut k: usize = 0;
-    while k < n {
-        out[i + k] = kinds[k];
-        k += 1;
-    }
-}
-
 // The card of the rule whose parts p has, of so many entries, at the start of out, which has room for it.
 fn write_card(p: &[usize; PART_NUMBERS], file: &[u8], entries: usize, out: &mut [u8])
     requires { ⌜ CardReady (now p) (now file) entries (now out) ⌝ }
@@ -89,23 +77,13 @@ fn write_card(p: &[usize; PART_NUMBERS], file: &[u8], entries: usize, out: &mut 
     write_sizes(file, entries, out);
     let mut kinds = [0u8; MOST_ENTRIES];
     entries::write_part(p, 0, false, false, &mut kinds, &mut out[records_at..end], 0);
-    copy_kinds(&kinds, entries, out, kinds_at);
+    cells::put_bytes(out, kinds_at, &kinds[..entries]);
 }
 
 // How many bytes the card has, or why there is none.
 pub enum Made {
     Bytes(usize),
     NotMade(Reason),
-}
-
-// A refusal of reading, as CARD answers it; it is asked of refusals alone, so what a rule gives here does not matter.
-fn passed_up(parsed: Parsed) -> Made
-    ensures { λ r. ⌜ r ≡ passedUp parsed ⌝ }
-{
-    match parsed {
-        Parsed::Rule(n) => Made::Bytes(n),
-        Parsed::Refused(x) => Made::NotMade(x),
-    }
 }
 
 // CARD: the card of the rule, at the start of out.
@@ -116,7 +94,7 @@ pub fn make_card(text: &[u8], file: &[u8], out: &mut [u8]) -> Made
     let mut p = [0usize; PART_NUMBERS];
     let parsed = parser::parse(text, file, &mut p);
     let Parsed::Rule(n) = parsed else {
-        return passed_up(parsed);
+        return Made::NotMade(parser::refusal(parsed));
     };
     let entries = count_entries(&p, n);
     let length = 3 + cells::byte(file, 0) + (1 + RECORD_SIZE) * entries;

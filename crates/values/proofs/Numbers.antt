@@ -9,7 +9,7 @@ use lib.IntN.{ℤ, pos, negsuc, subℕ}
 use lib.Signed.{ltZ, leZ}
 use Rattle.tables.specs.Tables.{Blank, Present}
 use Rattle.tables.specs.Values.{Comparison, Eq, Ne, Lt, Le, Gt, Ge, comparisonOf, eqZ, holds, byNumbers, isBlank}
-use Rattle.cells.specs.Code.{fromExcess, seenCell}
+use Rattle.cells.specs.Code.{excessAdded, fromExcess, seenCell}
 use Rattle.cells.specs.declared.Seen.{Seen}
 
 -- ---- less than, among numbers from which k is taken away
@@ -101,12 +101,12 @@ naturalsHold Gt x y = ltb y x
 naturalsHold Ge x y = leb y x
 
 pub as-naturals : (op : Comparison) (x y : ℕ) → naturalsHold op x y ≡ holds op (fromExcess x) (fromExcess y)
-as-naturals Eq x y = sym (sub-eq x y 2147483648)
-as-naturals Ne x y = ap not (sym (sub-eq x y 2147483648))
-as-naturals Lt x y = sym (sub-lt x y 2147483648)
-as-naturals Le x y = sym (sub-le x y 2147483648)
-as-naturals Gt x y = sym (sub-lt y x 2147483648)
-as-naturals Ge x y = sym (sub-le y x 2147483648)
+as-naturals Eq x y = sym (sub-eq x y excessAdded)
+as-naturals Ne x y = ap not (sym (sub-eq x y excessAdded))
+as-naturals Lt x y = sym (sub-lt x y excessAdded)
+as-naturals Le x y = sym (sub-le x y excessAdded)
+as-naturals Gt x y = sym (sub-lt y x excessAdded)
+as-naturals Ge x y = sym (sub-le y x excessAdded)
 
 -- any number but 2 to 6 is taken for =
 pub otherwise-eq : (op : ℕ) → (op ≡ 2 → ⊥) → (op ≡ 3 → ⊥) → (op ≡ 4 → ⊥) → (op ≡ 5 → ⊥) → (op ≡ 6 → ⊥) → comparisonOf op ≡ Eq

@@ -10,7 +10,7 @@ use lib.ListN.{length, getD, set, length-set, length-append}
 use lib.Seq.{getD-set-other}
 use Rattle.tables.specs.Bytes.{between}
 use Rattle.tables.specs.Tables.{mostTables, mostCells, columnsOf}
-use Rattle.tables.specs.Values.{Env, _▸_}
+use Rattle.tables.specs.Values.{mostLevels, Env, _▸_}
 use Rattle.tables.proofs.Tests.{bounds}
 use Rattle.tables.proofs.Sizes.{columns-count}
 use Rattle.values.specs.Code.{rowFrom, LevelAt, Readable}
@@ -30,10 +30,10 @@ module _ (g : List ℕ) (t : ℕ) where
 -- after r rows, first is the next row's first cell, and v has those of the rows around it
 pub record NextRow (w : List ℕ) (depth start columns r first : ℕ) (v : List ℕ) : Type 0 where
   pub first-is : first ≡ start + r * columns
-  pub long : length v ≡ 4
+  pub long : length v ≡ mostLevels
   pub same : (l : ℕ) → l < depth → getD v l 0 ≡ getD w l 0
 
-pub next-none : (w : List ℕ) (depth start columns : ℕ) → length w ≡ 4 → NextRow w depth start columns 0 start w
+pub next-none : (w : List ℕ) (depth start columns : ℕ) → length w ≡ mostLevels → NextRow w depth start columns 0 start w
 next-none w depth start columns long = record { first-is = omega arith; long = long; same = λ l m. refl }
 
 pub next-more : {w : List ℕ} {depth start columns r first : ℕ} {v : List ℕ} → NextRow w depth start columns r first v
@@ -70,7 +70,7 @@ module _ {g file w levels : List ℕ} {env : Env} (readable : Readable g file w 
       pub row-room : first + columnsAt g t ≤ mostCells
       row-room = omega (arith, row-level .within, table-here .columns-are, readable .sized .cells-high)
 
-      pub row-readable : depth < 4 → Readable g file (set v depth first) (levels ++ (t ∷ [])) (env ▸ rowFrom file first (columnsAt g t))
+      pub row-readable : depth < mostLevels → Readable g file (set v depth first) (levels ++ (t ∷ [])) (env ▸ rowFrom file first (columnsAt g t))
       row-readable shallow =
           record {
             sized = readable .sized;

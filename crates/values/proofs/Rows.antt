@@ -12,7 +12,7 @@ use lib.Seq.{getD-set-same, getD-set-other, getD-at}
 use Rattle.tables.specs.Lists.{tabulate, numbered}
 use Rattle.tables.specs.Bytes.{between}
 use Rattle.tables.specs.Tables.{mostRows, Blank, Present, Row, tableCount, sizeAt, columnsOf, cellsBefore, cellCount, valuesAt, marksAt, cellAt, tableFrom, tablesOf, rowsOf, cellIn}
-use Rattle.tables.specs.Values.{constantTag, Column, Env, _▸_, cellOf, valueFits}
+use Rattle.tables.specs.Values.{mostLevels, constantTag, Column, Env, _▸_, cellOf, valueFits}
 use Rattle.cells.specs.Code.{fromExcess, Sized, Places, seenCell}
 use Rattle.cells.specs.declared.Place.{Place}
 use Rattle.window.specs.Window.{shown, seenAt}
@@ -66,8 +66,8 @@ row-at file t first columns rows r k a h e =
     record { row-is = ap (rowFrom file k) c; within = omega arith }
 
 -- one level deeper; v has the same rows as w below that
-pub levels-more : (file w levels : List ℕ) (env : Env) (v : List ℕ) (depth k t : ℕ) (row : Row) → Levels file w levels env → depth ≡ length levels → depth < 4
-    → length v ≡ 4 → ((l : ℕ) → l < depth → getD v l 0 ≡ getD w l 0) → LevelAt file k t row → Levels file (set v depth k) (levels ++ (t ∷ [])) (env ▸ row)
+pub levels-more : (file w levels : List ℕ) (env : Env) (v : List ℕ) (depth k t : ℕ) (row : Row) → Levels file w levels env → depth ≡ length levels → depth < mostLevels
+    → length v ≡ mostLevels → ((l : ℕ) → l < depth → getD v l 0 ≡ getD w l 0) → LevelAt file k t row → Levels file (set v depth k) (levels ++ (t ∷ [])) (env ▸ row)
 levels-more file w levels env v depth k t row h deep few long same new =
     let rt = h .rows-too in
     record {
@@ -135,7 +135,7 @@ module _ {g file w : List ℕ} {tag n : ℕ} (h : ValueReady g file w tag n) (no
       let (p, q) = both (ltb tag (length (h .levels))) (between 1 columns n) column-fits in
       (ltb→lt tag (length (h .levels)) p, bounds 1 columns n q)
 
-  pub level-low : (tag < 4) × (1 ≤ n)
+  pub level-low : (tag < mostLevels) × (1 ≤ n)
   level-low = let few = h .readable .standing .few in let c = column-there in (omega arith, c .1 .0)
 
   pub cell-there : CellIn file (getD g 0 0) (getD g 1 0) (getD w tag 0 + (n - 1))

@@ -8,7 +8,7 @@ use lib.Dec.{T, eqb}
 use lib.ListN.{length, getD}
 use Rattle.tables.specs.Lists.{tabulate, numbered}
 use Rattle.tables.specs.Tables.{Row, cellAt, cellCount, columnsOf}
-use Rattle.tables.specs.Values.{constantTag, Value, Constant, Column, Env, cellOf, valueFits}
+use Rattle.tables.specs.Values.{mostLevels, constantTag, Value, Constant, Column, Env, cellOf, valueFits}
 use Rattle.cells.specs.Code.{fromExcess, Sized, Places, seenCell}
 use Rattle.cells.specs.declared.Seen.{Seen}
 
@@ -29,8 +29,8 @@ pub record LevelAt (file : List ℕ) (k t : ℕ) (row : Row) : Type 0 where
 
 -- w has the first cell of each level's row, levels its table, env the row
 pub record Levels (file w levels : List ℕ) (env : Env) : Type 0 where
-  pub size : length w ≡ 4
-  pub few : length levels ≤ 4
+  pub size : length w ≡ mostLevels
+  pub few : length levels ≤ mostLevels
   pub rows-too : length env ≡ length levels
   pub at : (l : ℕ) → l < length levels → LevelAt file (getD w l 0) (getD levels l 0) (getD env l [])
 

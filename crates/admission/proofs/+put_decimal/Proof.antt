@@ -31,12 +31,6 @@ put-decimal-put-decimal-requires t c κs =
     let p = c .before .before .pre in
     (omega arith, (p .1 .0, (omega arith, p .1 .1 .1)))
 
-put-decimal-add-out : (t : ℕ) → put-decimal-lts.Need-add-out (put-decimal-claims t) (put-decimal-at t) put-decimal.Post
-put-decimal-add-out t c = omega arith
-
-put-decimal-cast-out : (t : ℕ) → put-decimal-lts.Need-cast-out (put-decimal-claims t) (put-decimal-at t) put-decimal.Post
-put-decimal-cast-out t c = omega arith
-
 -- where the branches meet, all digits but the last are written
 joined : (t : ℕ) (c : put-decimal-lts.Joined1 (put-decimal-below t, put-decimal.Post) (put-decimal-at t) put-decimal.Post)
     → Written (c .before .args .out .now) (c .before .args .i) (higher (c .before .args .n)) (c .if1 .out) (c .if1 .at)
@@ -74,8 +68,8 @@ pub +put-decimal-spec : {M : Type 1} → statement M
     (put-decimal-at t)
     put-decimal.Post
     (put-decimal-put-decimal-requires t)
-    (put-decimal-add-out t)
-    (put-decimal-cast-out t)
+    (λ c. omega arith)
+    (λ c. omega arith)
     (put-decimal-element-write-out t)
     (put-decimal-add-result t)
     (put-decimal-returns t)

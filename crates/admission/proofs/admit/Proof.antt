@@ -8,44 +8,16 @@ use borrow.Author.Needs.{needs}
 use Rattle.admission.proofs.admit.Statement.{statement}
 use Rattle.admission.proofs.admit.Tie as tie
 
-slice-aggregate-make-card : tie.Need-slice-aggregate-make-card
-slice-aggregate-make-card c = search needs
-
-make-card-requires : tie.Need-make-card-requires
-make-card-requires c κs = search needs
-
-enum-known-made : tie.Need-enum-known-made
-enum-known-made c = search needs
-
-enum-told : tie.Need-enum-told
-enum-told c = search needs
-
-passed-up-requires : tie.Need-passed-up-requires
-passed-up-requires c κs = search needs
-
-returns : tie.Need-returns
-returns c =
-    let made = c .before .before .before .before .make-card in
-    passed-refusal _ _ _ refl (made .result) (made .ensures .0) _ _ _ (c .before .enum-told .given .1) (c .passed-up .ensures)
-
 array-share-prefix-card : tie.Need-array-share-prefix-card
 array-share-prefix-card c =
     let made = c .before .before .before .before .make-card in
     card-within _ _ _ refl (made .result) (made .ensures .0) _ (c .before .made .given .1) _ (made .ensures .1)
 
 slice-aggregate-list : tie.Need-slice-aggregate-list
-slice-aggregate-list c =
-    let made = c .before .before .before .before .before .make-card in
-    sym (length-take-le _ _ (card-within _ _ _ refl (made .result) (made .ensures .0) _ (c .before .before .made .given .1) _ (made .ensures .1)))
+slice-aggregate-list c = sym (length-take-le _ _ (array-share-prefix-card (c .before)))
 
-list-requires : tie.Need-list-requires
-list-requires c κs = search needs
-
-same-length : tie.Need-same-length
-same-length c = search needs
-
-returns-2 : tie.Need-returns-2
-returns-2 c =
+returns : tie.Need-returns
+returns c =
     let told = c .before .before .before .before .before .before in
     let made = told .before .before .before .make-card in
     let listed = c .before .before .list in
@@ -54,18 +26,22 @@ returns-2 c =
       listed .ensures .1 ∙ ap (λ (l : Lent ℕ). l .buffer) rows,
     )
 
+returns-2 : tie.Need-returns-2
+returns-2 c =
+    let made = c .before .before .before .before .make-card in
+    passed-refusal _ _ _ refl (made .result) (made .ensures .0) _ _ (c .before .made2 .given .1)
+
 pub admit-spec : {M : Type 1} → statement M
 admit-spec =
     tie.close
     (tie.spec
-    slice-aggregate-make-card
-    make-card-requires
-    enum-known-made
-    enum-told
-    passed-up-requires
-    returns
+    (λ c. search needs)
+    (λ c κs. search needs)
+    (λ c. search needs)
     array-share-prefix-card
     slice-aggregate-list
-    list-requires
-    same-length
+    (λ c κs. search needs)
+    (λ c. search needs)
+    (λ c. search needs)
+    returns
     returns-2)

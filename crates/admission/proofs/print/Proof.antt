@@ -8,15 +8,6 @@ use borrow.Author.Needs.{needs}
 use Rattle.admission.proofs.print.Statement.{statement}
 use Rattle.admission.proofs.print.Tie as tie
 
-slice-aggregate-admit : tie.Need-slice-aggregate-admit
-slice-aggregate-admit c = search needs
-
-admit-requires : tie.Need-admit-requires
-admit-requires c κs = search needs
-
-enum-known-listed : tie.Need-enum-known-listed
-enum-known-listed c = search needs
-
 table-rows-requires : tie.Need-table-rows-requires
 table-rows-requires c κs =
     let admit = c .before .before .before .before .admit in
@@ -39,15 +30,6 @@ print-rows-requires c κs =
         ),
       ),
     )
-
-enum-known-listed-2 : tie.Need-enum-known-listed-2
-enum-known-listed-2 c = search needs
-
-refusal-number-requires : tie.Need-refusal-number-requires
-refusal-number-requires c κs = search needs
-
-cast-print-refusal : tie.Need-cast-print-refusal
-cast-print-refusal c = search needs
 
 print-refusal-requires : tie.Need-print-refusal-requires
 print-refusal-requires c κs =
@@ -75,14 +57,14 @@ pub print-spec : {M : Type 1} → statement M
 print-spec =
     tie.close
     (tie.spec
-    slice-aggregate-admit
-    admit-requires
-    enum-known-listed
+    (λ c. search needs)
+    (λ c κs. search needs)
+    (λ c. search needs)
     table-rows-requires
     print-rows-requires
-    enum-known-listed-2
-    refusal-number-requires
-    cast-print-refusal
+    (λ c. search needs)
+    (λ c κs. search needs)
+    (λ c. search needs)
     print-refusal-requires
     returns
     returns-2)

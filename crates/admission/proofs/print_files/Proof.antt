@@ -12,13 +12,10 @@ slice-aggregate-print c = sym (length-take-le _ _ (c .before .before .before .pr
 slice-aggregate-print-2 : tie.Need-slice-aggregate-print-2
 slice-aggregate-print-2 c = sym (length-take-le _ _ (c .before .before .before .before .pre .1 .1 .1 .0))
 
-print-requires : tie.Need-print-requires
-print-requires c κs = search needs
-
 returns : tie.Need-returns
 returns c =
     let printed = c .print .ensures in
     (written-for _ _ _ _ _ (printed .0) (printed .1 .0), printed .1 .1)
 
 pub print-files-spec : {M : Type 1} → statement M
-print-files-spec = tie.close (tie.spec slice-aggregate-print slice-aggregate-print-2 print-requires returns)
+print-files-spec = tie.close (tie.spec slice-aggregate-print slice-aggregate-print-2 (λ c κs. search needs) returns)

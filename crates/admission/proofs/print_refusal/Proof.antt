@@ -9,12 +9,6 @@ use borrow.Author.Needs.{needs}
 use Rattle.admission.proofs.print_refusal.Statement.{statement}
 use Rattle.admission.proofs.print_refusal.Tie as tie
 
-slice-aggregate-put-word : tie.Need-slice-aggregate-put-word
-slice-aggregate-put-word c = search needs
-
-put-word-requires : tie.Need-put-word-requires
-put-word-requires c κs = search needs
-
 first : (c : tie.After-put-word) → Begun (c .before .before .before .args .out .now) (bytes "refused ") 8 (c .put-word .last .0) (c .put-word .result)
 unfolding bytes
 first c =
@@ -28,9 +22,6 @@ put-decimal-requires c κs =
 
 second : (c : tie.After-put-decimal) → Begun (c .before .before .before .before .before .args .out .now) (bytes "refused " ++ decimal (c .before .before .before .before .before .args .number)) 12 (c .put-decimal .last .0) (c .put-decimal .result)
 second c = begun-more _ _ _ _ _ (first (c .before .before)) _ _ _ 4 (c .put-decimal .ensures .0) (c .put-decimal .ensures .1 .0) (decimal-length _) (omega arith)
-
-slice-aggregate-put-word-2 : tie.Need-slice-aggregate-put-word-2
-slice-aggregate-put-word-2 c = search needs
 
 put-word-requires-2 : tie.Need-put-word-requires-2
 put-word-requires-2 c κs =
@@ -46,9 +37,9 @@ pub print-refusal-spec : {M : Type 1} → statement M
 print-refusal-spec =
     tie.close
     (tie.spec
-    slice-aggregate-put-word
-    put-word-requires
+    (λ c. search needs)
+    (λ c κs. search needs)
     put-decimal-requires
-    slice-aggregate-put-word-2
+    (λ c. search needs)
     put-word-requires-2
     returns)

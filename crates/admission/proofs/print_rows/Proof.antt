@@ -12,12 +12,6 @@ use borrow.Author.Needs.{needs}
 use Rattle.admission.proofs.print_rows.Statement.{statement}
 use Rattle.admission.proofs.print_rows.Tie as tie
 
-slice-aggregate-put-word : tie.Need-slice-aggregate-put-word
-slice-aggregate-put-word c = search needs
-
-put-word-requires : tie.Need-put-word-requires
-put-word-requires c κs = search needs
-
 first : (c : tie.After-put-word) → Begun (c .before .before .before .args .out .now) (bytes "rows ") 5 (c .put-word .last .0) (c .put-word .result)
 unfolding bytes
 first c =
@@ -31,9 +25,6 @@ put-decimal-requires c κs =
 
 second : (c : tie.After-put-decimal) → Begun (c .before .before .before .before .before .args .out .now) (toAdmitted (c .before .before .before .before .before .args .n)) 9 (c .put-decimal .last .0) (c .put-decimal .result)
 second c = begun-more _ _ _ _ _ (first (c .before .before)) _ _ _ 4 (c .put-decimal .ensures .0) (c .put-decimal .ensures .1 .0) (decimal-length _) (omega arith)
-
-slice-aggregate-put-word-2 : tie.Need-slice-aggregate-put-word-2
-slice-aggregate-put-word-2 c = search needs
 
 put-word-requires-2 : tie.Need-put-word-requires-2
 put-word-requires-2 c κs =
@@ -54,9 +45,6 @@ fourth : (c : tie.After-put-decimal2)
     → let start = c .before .before .before .before .before .before .before .before .before .before in
     Begun (start .args .out .now) (toTotal (start .args .n) (start .args .total)) 17 (c .put-decimal2 .last .0) (c .put-decimal2 .result)
 fourth c = begun-more _ _ _ _ _ (third (c .before .before)) _ _ _ 4 (c .put-decimal2 .ensures .0) (c .put-decimal2 .ensures .1 .0) (decimal-length _) (omega arith)
-
-slice-aggregate-put-word-3 : tie.Need-slice-aggregate-put-word-3
-slice-aggregate-put-word-3 c = search needs
 
 put-word-requires-3 : tie.Need-put-word-requires-3
 put-word-requires-3 c κs =
@@ -88,13 +76,13 @@ pub print-rows-spec : {M : Type 1} → statement M
 print-rows-spec =
     tie.close
     (tie.spec
-    slice-aggregate-put-word
-    put-word-requires
+    (λ c. search needs)
+    (λ c κs. search needs)
     put-decimal-requires
-    slice-aggregate-put-word-2
+    (λ c. search needs)
     put-word-requires-2
     put-decimal-requires-2
-    slice-aggregate-put-word-3
+    (λ c. search needs)
     put-word-requires-3
     put-rows-requires
     returns)

@@ -3,25 +3,19 @@ use mathlib.Core.Path.{_≡_}
 use Prim.Native.Nat.{_+_, _*_, _-_, _≤_}
 use native.Mathlib.Omega.{arith}
 use lib.ListN.{length, getD, take, length-set}
-use Rattle.admission.specs.Output.{decimal, rowLines}
+use Rattle.admission.specs.Output.{mostOutput, decimal, rowLines}
 use Rattle.admission.proofs.Writing.{Written, written-length, lines-none, line-written}
 use Rattle.admission.proofs.put_rows.Statement.{statement}
 use Rattle.admission.proofs.put_rows.Tie as tie
 
 abbrev Inv-loop : tie.InvT-loop
-Inv-loop out₀ i rows n at₀ k₀ out at k = (k ≤ n) × (length out ≡ 5018) × (at ≤ i + 5 * k) × Written out₀ i (rowLines (take k rows)) out at
+Inv-loop out₀ i rows n at₀ k₀ out at k = (k ≤ n) × (length out ≡ mostOutput) × (at ≤ i + 5 * k) × Written out₀ i (rowLines (take k rows)) out at
 
 abbrev μ-loop : tie.MeasureT-loop
 μ-loop out₀ i rows n at₀ k₀ out at k = n - k
 
 loop-holds : tie.Need-loop-holds Inv-loop μ-loop
 loop-holds c = (omega arith, c .pre .0, omega arith, lines-none _ _)
-
-mul-put-decimal : tie.Need-mul-put-decimal Inv-loop μ-loop
-mul-put-decimal c = omega arith
-
-element-copy-out-put-decimal : tie.Need-element-copy-out-put-decimal Inv-loop μ-loop
-element-copy-out-put-decimal c = omega arith
 
 cast-put-decimal : tie.Need-cast-put-decimal Inv-loop μ-loop
 cast-put-decimal c =
@@ -32,18 +26,6 @@ put-decimal-requires : tie.Need-put-decimal-requires Inv-loop μ-loop
 put-decimal-requires c κs =
     let loop = c .before .before .before in
     (loop .loop .inv .1, (loop .before .pre .1 .1 .1 .0 (loop .loop .k) (omega arith), omega arith))
-
-element-write-out : tie.Need-element-write-out Inv-loop μ-loop
-element-write-out c = omega arith
-
-add-at : tie.Need-add-at Inv-loop μ-loop
-add-at c = omega arith
-
-add-k : tie.Need-add-k Inv-loop μ-loop
-add-k c = omega arith
-
-loop-less : tie.Need-loop-less Inv-loop μ-loop
-loop-less c = omega arith
 
 loop-again : tie.Need-loop-again Inv-loop μ-loop
 loop-again c =
@@ -74,13 +56,13 @@ put-rows-spec =
     Inv-loop
     μ-loop
     loop-holds
-    mul-put-decimal
-    element-copy-out-put-decimal
+    (λ c. omega arith)
+    (λ c. omega arith)
     cast-put-decimal
     put-decimal-requires
-    element-write-out
-    add-at
-    add-k
-    loop-less
+    (λ c. omega arith)
+    (λ c. omega arith)
+    (λ c. omega arith)
+    (λ c. omega arith)
     loop-again
     returns)

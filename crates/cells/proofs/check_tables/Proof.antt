@@ -6,9 +6,6 @@ use borrow.Author.Needs.{needs}
 use Rattle.cells.proofs.check_tables.Statement.{statement}
 use Rattle.cells.proofs.check_tables.Tie as tie
 
-sizes-fit-requires : tie.Need-sizes-fit-requires
-sizes-fit-requires c κs = search needs
-
 returns : tie.Need-returns
 returns c = refused-sizes _ (sym (c .before .sizes-fit .ensures) ∙ not-true _ (c .if1 .taken))
 
@@ -27,4 +24,4 @@ returns-3 c =
 
 pub check-tables-spec : {M : Type 1} → statement M
 check-tables-spec =
-    tie.close (tie.spec sizes-fit-requires returns marks-fit-requires returns-2 returns-3)
+    tie.close (tie.spec (λ c κs. search needs) returns marks-fit-requires returns-2 returns-3)

@@ -21,17 +21,11 @@ abbrev μ-loop : tie.MeasureT-loop
 returns : tie.Need-returns Inv-loop μ-loop
 returns c = sizes-no (c .before .before .args .file .now) (λ h. omega (arith, h .long))
 
-byte-requires : tie.Need-byte-requires Inv-loop μ-loop
-byte-requires c κs = omega arith
-
 returns-2 : tie.Need-returns-2 Inv-loop μ-loop
 returns-2 c = sizes-no (c .before .before .before .before .args .file .now) (λ h. omega (arith, h .tables-low))
 
 returns-3 : tie.Need-returns-3 Inv-loop μ-loop
 returns-3 c = sizes-no (c .before .before .before .before .before .args .file .now) (λ h. omega (arith, h .tables-high))
-
-mul-if4 : tie.Need-mul-if4 Inv-loop μ-loop
-mul-if4 c = omega arith
 
 returns-4 : tie.Need-returns-4 Inv-loop μ-loop
 returns-4 c = sizes-no (c .before .before .before .before .before .before .args .file .now) (λ h. omega (arith, h .long))
@@ -39,31 +33,16 @@ returns-4 c = sizes-no (c .before .before .before .before .before .before .args 
 loop-holds : tie.Need-loop-holds Inv-loop μ-loop
 loop-holds c = (omega arith, (λ k h. absurd (omega arith)), sym (cells-none (c .before .before .before .before .before .before .args .file .now)), omega arith)
 
-size-fits-requires : tie.Need-size-fits-requires Inv-loop μ-loop
-size-fits-requires c κs = omega arith
-
 returns-5 : tie.Need-returns-5 Inv-loop μ-loop
 returns-5 c =
     sizes-one (c .before .before .before .before .before .before .before .before .before .before .args .file .now) (c .before .before .before .loop .j) (omega arith)
     (sym (c .before .size-fits .ensures) ∙ not-true _ (c .if5 .taken))
-
-table-rows-requires : tie.Need-table-rows-requires Inv-loop μ-loop
-table-rows-requires c κs = omega arith
-
-table-columns-requires : tie.Need-table-columns-requires Inv-loop μ-loop
-table-columns-requires c κs = omega arith
 
 mul-cells : tie.Need-mul-cells Inv-loop μ-loop
 mul-cells c = omega (arith, mul-le-mul {n₁ = c .before .table-rows .result} {m₁ = c .table-columns .result} {n₂ = 65536} {m₂ = 256} (omega arith) (omega arith))
 
 add-cells : tie.Need-add-cells Inv-loop μ-loop
 add-cells c = omega (arith, mul-le-mul {n₁ = c .before .table-rows .result} {m₁ = c .table-columns .result} {n₂ = 65536} {m₂ = 256} (omega arith) (omega arith))
-
-add-j : tie.Need-add-j Inv-loop μ-loop
-add-j c = omega arith
-
-loop-less : tie.Need-loop-less Inv-loop μ-loop
-loop-less c = omega arith
 
 loop-again : tie.Need-loop-again Inv-loop μ-loop
 loop-again c = (
@@ -82,18 +61,6 @@ returns-6 c =
     sizes-no file (cells-no file _ _ n
     (cells-end file _ _ _ n (c .before .before .loop .inv .0) (c .before .loop-test .left) (c .before .before .loop .inv .2)) (c .if6 .taken))
 
-mul-result : tie.Need-mul-result Inv-loop μ-loop
-mul-result c = omega arith
-
-add-result : tie.Need-add-result Inv-loop μ-loop
-add-result c = omega arith
-
-mul-result-2 : tie.Need-mul-result-2 Inv-loop μ-loop
-mul-result-2 c = omega arith
-
-add-result-2 : tie.Need-add-result-2 Inv-loop μ-loop
-add-result-2 c = omega arith
-
 returns-7 : tie.Need-returns-7 Inv-loop μ-loop
 returns-7 c =
     let file = c .before .before .before .before .before .before .before .before .before .args .file .now in
@@ -108,24 +75,24 @@ sizes-fit-spec =
     Inv-loop
     μ-loop
     returns
-    byte-requires
+    (λ c κs. omega arith)
     returns-2
     returns-3
-    mul-if4
+    (λ c. omega arith)
     returns-4
     loop-holds
-    size-fits-requires
+    (λ c κs. omega arith)
     returns-5
-    table-rows-requires
-    table-columns-requires
+    (λ c κs. omega arith)
+    (λ c κs. omega arith)
     mul-cells
     add-cells
-    add-j
-    loop-less
+    (λ c. omega arith)
+    (λ c. omega arith)
     loop-again
     returns-6
-    mul-result
-    add-result
-    mul-result-2
-    add-result-2
+    (λ c. omega arith)
+    (λ c. omega arith)
+    (λ c. omega arith)
+    (λ c. omega arith)
     returns-7)

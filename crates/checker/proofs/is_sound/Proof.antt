@@ -8,9 +8,6 @@ use Rattle.checker.proofs.Checking.{no-yes, first-level, sound-checks}
 use Rattle.checker.proofs.is_sound.Statement.{statement}
 use Rattle.checker.proofs.is_sound.Tie as tie
 
-laid-out-requires : tie.Need-laid-out-requires
-laid-out-requires c κs = search needs
-
 returns : tie.Need-returns
 returns c =
     let e = sym (c .before .laid-out .ensures) ∙ not-true _ (c .if1 .taken) in
@@ -34,9 +31,6 @@ check-entry-requires c κs =
     let n = c .before .before .read16 .ensures .0 in
     record { levels = first-level h; decoded = c .before .before .before .before .before .decode .ensures; started = omega arith; within = omega arith }
 
-same-length : tie.Need-same-length
-same-length c = search needs
-
 returns-2 : tie.Need-returns-2
 returns-2 c =
     let b = c .before .before .before .before .before .before .before .before in
@@ -48,10 +42,10 @@ pub is-sound-spec : {M : Type 1} → statement M
 is-sound-spec =
     tie.close
     (tie.spec
-    laid-out-requires
+    (λ c κs. search needs)
     returns
     decode-requires
     read16-requires
     check-entry-requires
-    same-length
+    (λ c. search needs)
     returns-2)

@@ -16,12 +16,6 @@ returns-2 c = level-missing _ _ _ _ _ (c .before .before .before .pre .0) (c .be
 returns-3 : tie.Need-returns-3
 returns-3 c = column-missing _ _ _ _ _ (c .before .before .before .before .pre .0) (c .before .before .if1 .left) (omega arith) (omega arith)
 
-mul-t : tie.Need-mul-t
-mul-t c = search needs
-
-element-copy-out-t : tie.Need-element-copy-out-t
-element-copy-out-t c = search needs
-
 add-byte : tie.Need-add-byte
 add-byte c =
     let h = c .before .before .before .before .before .pre .0 in
@@ -45,8 +39,8 @@ value-fits-spec =
     returns
     returns-2
     returns-3
-    mul-t
-    element-copy-out-t
+    (λ c. search needs)
+    (λ c. search needs)
     add-byte
     byte-requires
     returns-4)

@@ -17,12 +17,6 @@ abbrev μ-loop : tie.MeasureT-loop
 loop-holds : tie.Need-loop-holds Inv-loop μ-loop
 loop-holds c = (omega arith, λ k l. absurd (omega arith))
 
-add-byte : tie.Need-add-byte Inv-loop μ-loop
-add-byte c = search needs
-
-byte-requires : tie.Need-byte-requires Inv-loop μ-loop
-byte-requires c κs = search needs
-
 returns : tie.Need-returns Inv-loop μ-loop
 returns c =
     let start = c .before .before .before .before .before in
@@ -34,12 +28,6 @@ returns-2 c =
     let start = c .before .before .before .before .before .before in
     columns-no (start .args .card .now) (start .args .n) (c .before .before .before .before .loop .j) (start .pre .0) (omega arith) _
     (c .before .before .byte .ensures .0) (λ p q. omega arith)
-
-add-j : tie.Need-add-j Inv-loop μ-loop
-add-j c = search needs
-
-loop-less : tie.Need-loop-less Inv-loop μ-loop
-loop-less c = search needs
 
 loop-again : tie.Need-loop-again Inv-loop μ-loop
 loop-again c =
@@ -58,11 +46,11 @@ columns-fit-spec =
     Inv-loop
     μ-loop
     loop-holds
-    add-byte
-    byte-requires
+    (λ c. search needs)
+    (λ c κs. search needs)
     returns
     returns-2
-    add-j
-    loop-less
+    (λ c. search needs)
+    (λ c. search needs)
     loop-again
     returns-3)

@@ -1,45 +1,25 @@
 use native.Mathlib.Omega.{arith}
 use borrow.Author.Tests.{not-true, not-false}
+use Rattle.card.specs.Layout.{comparisonPlace}
 use Rattle.decoder.proofs.Decoding.{byte-in, fits-none, fits-past, fits-end, fits-table, fits-comparison, comparison-unknown, fits-left, left-not}
 use borrow.Author.Needs.{needs}
 use Rattle.decoder.proofs.fields_fit.Statement.{statement}
 use Rattle.decoder.proofs.fields_fit.Tie as tie
 
-zero-bytes-requires : tie.Need-zero-bytes-requires
-zero-bytes-requires c κs = search needs
-
-zero-bytes-requires-2 : tie.Need-zero-bytes-requires-2
-zero-bytes-requires-2 c κs = search needs
-
-add-byte : tie.Need-add-byte
-add-byte c = search needs
-
-byte-requires : tie.Need-byte-requires
-byte-requires c κs = search needs
-
 returns : tie.Need-returns
 returns c =
     let a = c .before .before .before .before .before .before .before .args in
     comparison-unknown _ _ (omega arith) (omega arith) _
-    (byte-in (a .card .now) (a .r) 3 _ (omega arith) (c .before .byte .ensures .0)) (λ p q. omega arith)
+    (byte-in (a .card .now) (a .r) comparisonPlace _ (omega arith) (c .before .byte .ensures .0)) (λ p q. omega arith)
 
 returns-2 : tie.Need-returns-2
 returns-2 c =
     let a = c .before .before .before .before .before .before .before .before .args in
     comparison-unknown _ _ (omega arith) (omega arith) _
-    (byte-in (a .card .now) (a .r) 3 _ (omega arith) (c .before .before .byte .ensures .0)) (λ p q. omega arith)
-
-zero-bytes-requires-3 : tie.Need-zero-bytes-requires-3
-zero-bytes-requires-3 c κs = search needs
-
-zero-bytes-requires-4 : tie.Need-zero-bytes-requires-4
-zero-bytes-requires-4 c κs = search needs
+    (byte-in (a .card .now) (a .r) comparisonPlace _ (omega arith) (c .before .before .byte .ensures .0)) (λ p q. omega arith)
 
 returns-3 : tie.Need-returns-3
 returns-3 c = left-not _ _ (omega arith) (omega arith) _ (c .before .zero-bytes4 .ensures) (not-true _ (c .if8 .taken))
-
-zero-bytes-requires-5 : tie.Need-zero-bytes-requires-5
-zero-bytes-requires-5 c κs = search needs
 
 returns-4 : tie.Need-returns-4
 returns-4 c = fits-end _ _ _ (omega arith) (omega arith) (c .zero-bytes .ensures)
@@ -51,7 +31,7 @@ returns-6 : tie.Need-returns-6
 returns-6 c =
     let a = c .before .before .before .before .before .before .before .before .before .args in
     fits-comparison _ _ (omega arith) (omega arith) _
-    (byte-in (a .card .now) (a .r) 3 _ (omega arith) (c .before .before .before .byte .ensures .0)) _
+    (byte-in (a .card .now) (a .r) comparisonPlace _ (omega arith) (c .before .before .before .byte .ensures .0)) _
     (omega arith) (omega arith) (c .zero-bytes3 .ensures)
 
 returns-7 : tie.Need-returns-7
@@ -69,16 +49,16 @@ pub fields-fit-spec : {M : Type 1} → statement M
 fields-fit-spec =
     tie.close
     (tie.spec
-    zero-bytes-requires
-    zero-bytes-requires-2
-    add-byte
-    byte-requires
+    (λ c κs. search needs)
+    (λ c κs. search needs)
+    (λ c. search needs)
+    (λ c κs. search needs)
     returns
     returns-2
-    zero-bytes-requires-3
-    zero-bytes-requires-4
+    (λ c κs. search needs)
+    (λ c κs. search needs)
     returns-3
-    zero-bytes-requires-5
+    (λ c κs. search needs)
     returns-4
     returns-5
     returns-6

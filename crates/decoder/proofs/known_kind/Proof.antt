@@ -6,9 +6,6 @@ use borrow.Author.Needs.{needs}
 use Rattle.decoder.proofs.known_kind.Statement.{statement}
 use Rattle.decoder.proofs.known_kind.Tie as tie
 
-fields-fit-requires : tie.Need-fields-fit-requires
-fields-fit-requires c κs = search needs
-
 returns : tie.Need-returns
 returns c = (known-by _ _ true _ (sym (c .if1 .taken) ∙ c .before .fields-fit .ensures) refl, omega arith)
 
@@ -16,4 +13,4 @@ returns-2 : tie.Need-returns-2
 returns-2 c = (known-by _ _ false _ (sym (c .if1 .left) ∙ c .before .fields-fit .ensures) refl, omega arith)
 
 pub known-kind-spec : {M : Type 1} → statement M
-known-kind-spec = tie.close (tie.spec fields-fit-requires returns returns-2)
+known-kind-spec = tie.close (tie.spec (λ c κs. search needs) returns returns-2)

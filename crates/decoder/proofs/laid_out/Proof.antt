@@ -7,17 +7,11 @@ use Rattle.decoder.proofs.laid_out.Tie as tie
 returns : tie.Need-returns
 returns c = laid-no _ (λ h. omega arith)
 
-read16-requires : tie.Need-read16-requires
-read16-requires c κs = search needs
-
 returns-2 : tie.Need-returns-2
 returns-2 c = laid-no _ (λ h. omega arith)
 
 returns-3 : tie.Need-returns-3
 returns-3 c = laid-no _ (λ h. omega arith)
-
-byte-requires : tie.Need-byte-requires
-byte-requires c κs = search needs
 
 returns-4 : tie.Need-returns-4
 returns-4 c = laid-no _ (λ h. omega arith)
@@ -25,23 +19,8 @@ returns-4 c = laid-no _ (λ h. omega arith)
 returns-5 : tie.Need-returns-5
 returns-5 c = laid-no _ (λ h. omega arith)
 
-add-if6 : tie.Need-add-if6
-add-if6 c = search needs
-
-add-if6-2 : tie.Need-add-if6-2
-add-if6-2 c = search needs
-
-mul-if6 : tie.Need-mul-if6
-mul-if6 c = search needs
-
-add-if6-3 : tie.Need-add-if6-3
-add-if6-3 c = search needs
-
 returns-6 : tie.Need-returns-6
 returns-6 c = laid-no _ (λ h. omega arith)
-
-columns-fit-requires : tie.Need-columns-fit-requires
-columns-fit-requires c κs = search needs
 
 returns-7 : tie.Need-returns-7
 returns-7 c =
@@ -54,16 +33,16 @@ laid-out-spec =
     tie.close
     (tie.spec
     returns
-    read16-requires
+    (λ c κs. search needs)
     returns-2
     returns-3
-    byte-requires
+    (λ c κs. search needs)
     returns-4
     returns-5
-    add-if6
-    add-if6-2
-    mul-if6
-    add-if6-3
+    (λ c. search needs)
+    (λ c. search needs)
+    (λ c. search needs)
+    (λ c. search needs)
     returns-6
-    columns-fit-requires
+    (λ c κs. search needs)
     returns-7)

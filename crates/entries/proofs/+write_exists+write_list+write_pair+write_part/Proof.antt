@@ -2,8 +2,9 @@
 use borrow.Author.Needs.{needs}
 use mathlib.Core.Logic.{⊎-elim}
 use native.Mathlib.Omega.{arith}
+use Rattle.rule.specs.Names.{mostParts}
 use Rattle.parser.proofs.Parts.{kind-low}
-use Rattle.entries.proofs.Writing.{part-few, entry-few, compare-ready, compare-wrote, null-ready, null-wrote, not-ready, not-wrote, join-few, next-above, pair-plain-asked, left-ready, right-ready, pair-end-asked, pair-wrote, exists-plain-asked, exists-ready, exists-end-asked, exists-wrote, list-plain-asked, list-plain-asked-2, list-ready, list-compare-ready, list-end-asked, list-end-asked-2, list-wrote}
+use Rattle.entries.proofs.Writing.{compare-ready, compare-wrote, null-ready, null-wrote, not-ready, not-wrote, join-few, next-above, pair-plain-asked, left-ready, right-ready, pair-end-asked, pair-wrote, exists-plain-asked, exists-ready, exists-end-asked, exists-wrote, list-plain-asked, list-plain-asked-2, list-ready, list-compare-ready, list-end-asked, list-end-asked-2, list-wrote}
 use Prim.Native.Nat.{ℕ, _+_, _*_, _-_, _<_}
 use borrow.Fn.Kinds.{In}
 use borrow.Fn.PlainCycle.{Measures, is, falls, and}
@@ -23,6 +24,7 @@ use Rattle.records.proofs.pair_kind.Reads as pair-kind-reads
 use Rattle.records.proofs.put16.Reads as put16-reads
 use Rattle.records.proofs.put_plain.Reads as put-plain-reads
 use Rattle.records.proofs.row_kind.Reads as row-kind-reads
+use Rattle.entries.proofs.field.Reads as field-reads
 use Rattle.entries.proofs.under_nots.Reads as under-nots-reads
 use Rattle.entries.proofs.write_comparison.Reads as write-comparison-reads
 use Rattle.entries.proofs.write_null.Reads as write-null-reads
@@ -30,16 +32,16 @@ use Rattle.entries.proofs.+write_exists+write_list+write_pair+write_par
 use Rattle.entries.proofs.+write_exists+write_list+write_pair+write_part.Tie.{close}
 
 abbrev μ-write-exists : Measures 3 write-exists-kinds.ps ℕ
-μ-write-exists κs a = 2 * (64 - a .1 .0)
+μ-write-exists κs a = 2 * (mostParts - a .1 .0)
 
 abbrev μ-write-list : Measures 3 write-list-kinds.ps ℕ
-μ-write-list κs a = 2 * (64 - a .1 .0)
+μ-write-list κs a = 2 * (mostParts - a .1 .0)
 
 abbrev μ-write-pair : Measures 3 write-pair-kinds.ps ℕ
-μ-write-pair κs a = 2 * (64 - a .1 .0)
+μ-write-pair κs a = 2 * (mostParts - a .1 .0)
 
 abbrev μ-write-part : Measures 3 write-part-kinds.ps ℕ
-μ-write-part κs a = 2 * (64 - a .1 .0) + 1
+μ-write-part κs a = 2 * (mostParts - a .1 .0) + 1
 
 abbrev write-exists-at : ℕ → In 3 write-exists-kinds.ps
 write-exists-at t =
@@ -78,421 +80,115 @@ write-part-below t =
     and 3 write-part-kinds.ps (falls 3 write-part-kinds.ps _<_ μ-write-part t) write-part.Pre
 
 abbrev write-exists-claims : ℕ → write-exists-lts.Claims
-write-exists-claims t = (row-kind-reads.Asked, row-kind-reads.Learnt, put-plain-reads.Asked, put-plain-reads.Learnt, write-part-below t, write-part.Post, put16-reads.Asked, put16-reads.Learnt)
+write-exists-claims t = (row-kind-reads.Asked, row-kind-reads.Learnt, field-reads.Asked, field-reads.Learnt, put-plain-reads.Asked, put-plain-reads.Learnt, write-part-below t, write-part.Post, put16-reads.Asked, put16-reads.Learnt)
 
 abbrev write-list-claims : ℕ → write-list-lts.Claims
-write-list-claims t = (row-kind-reads.Asked, row-kind-reads.Learnt, put-plain-reads.Asked, put-plain-reads.Learnt, pair-kind-reads.Asked, pair-kind-reads.Learnt, write-part-below t, write-part.Post, write-comparison-reads.Asked, write-comparison-reads.Learnt, put16-reads.Asked, put16-reads.Learnt)
+write-list-claims t = (field-reads.Asked, field-reads.Learnt, row-kind-reads.Asked, row-kind-reads.Learnt, put-plain-reads.Asked, put-plain-reads.Learnt, pair-kind-reads.Asked, pair-kind-reads.Learnt, write-part-below t, write-part.Post, write-comparison-reads.Asked, write-comparison-reads.Learnt, put16-reads.Asked, put16-reads.Learnt)
 
 abbrev write-pair-claims : ℕ → write-pair-lts.Claims
-write-pair-claims t = (pair-kind-reads.Asked, pair-kind-reads.Learnt, put-plain-reads.Asked, put-plain-reads.Learnt, write-part-below t, write-part.Post, put16-reads.Asked, put16-reads.Learnt)
+write-pair-claims t = (pair-kind-reads.Asked, pair-kind-reads.Learnt, field-reads.Asked, field-reads.Learnt, put-plain-reads.Asked, put-plain-reads.Learnt, write-part-below t, write-part.Post, put16-reads.Asked, put16-reads.Learnt)
 
 abbrev write-part-claims : ℕ → write-part-lts.Claims
 write-part-claims t = (under-nots-reads.Asked, under-nots-reads.Learnt, write-part-below t, write-part.Post, write-comparison-reads.Asked, write-comparison-reads.Learnt, write-exists-below t, write-exists.Post, write-pair-below t, write-pair.Post, write-null-reads.Asked, write-null-reads.Learnt, write-list-below t, write-list.Post)
 
-write-exists-row-kind-requires : (t : ℕ) → write-exists-lts.Need-row-kind-requires (write-exists-claims t) (write-exists-at t) write-exists.Post
-write-exists-row-kind-requires t c κs = search needs
-
-write-exists-mul-table : (t : ℕ) → write-exists-lts.Need-mul-table (write-exists-claims t) (write-exists-at t) write-exists.Post
-write-exists-mul-table t c =
-    let o = c .before .before in
-    let few = part-few (o .pre .1 .0) in
-    let fewer = entry-few (o .pre .1 .0) in
-    search needs
-
-write-exists-add-table : (t : ℕ) → write-exists-lts.Need-add-table (write-exists-claims t) (write-exists-at t) write-exists.Post
-write-exists-add-table t c =
-    let o = c .before .before in
-    let few = part-few (o .pre .1 .0) in
-    let fewer = entry-few (o .pre .1 .0) in
-    search needs
-
-write-exists-mul-table-2 : (t : ℕ) → write-exists-lts.Need-mul-table-2 (write-exists-claims t) (write-exists-at t) write-exists.Post
-write-exists-mul-table-2 t c =
-    let o = c .before .before in
-    let few = part-few (o .pre .1 .0) in
-    let fewer = entry-few (o .pre .1 .0) in
-    search needs
-
-write-exists-element-copy-out-table : (t : ℕ) → write-exists-lts.Need-element-copy-out-table (write-exists-claims t) (write-exists-at t) write-exists.Post
-write-exists-element-copy-out-table t c =
-    let o = c .before .before in
-    let few = part-few (o .pre .1 .0) in
-    let fewer = entry-few (o .pre .1 .0) in
-    search needs
-
 write-exists-put-plain-requires : (t : ℕ) → write-exists-lts.Need-put-plain-requires (write-exists-claims t) (write-exists-at t) write-exists.Post
 write-exists-put-plain-requires t c κs =
-    let o = c .before .before .before .before .before in
-    exists-plain-asked (o .pre .1 .0) (o .pre .1 .1) _ (c .before .before .before .row-kind .ensures)
-
-write-exists-add-write-part : (t : ℕ) → write-exists-lts.Need-add-write-part (write-exists-claims t) (write-exists-at t) write-exists.Post
-write-exists-add-write-part t c =
-    let o = c .before .before .before .before .before .before .before .before in
-    let few = part-few (o .pre .1 .0) in
-    let fewer = entry-few (o .pre .1 .0) in
-    search needs
-
-write-exists-add-write-part-2 : (t : ℕ) → write-exists-lts.Need-add-write-part-2 (write-exists-claims t) (write-exists-at t) write-exists.Post
-write-exists-add-write-part-2 t c =
-    let o = c .before .before .before .before .before .before .before .before .before .before in
-    let few = part-few (o .pre .1 .0) in
-    let fewer = entry-few (o .pre .1 .0) in
-    search needs
+    exists-plain-asked (c .before .before .before .before .before .pre .1 .0) (c .before .before .before .before .before .pre .1 .1) (c .before .before .before .row-kind .ensures) (c .before .before .field .ensures)
 
 write-exists-write-part-requires : (t : ℕ) → write-exists-lts.Need-write-part-requires (write-exists-claims t) (write-exists-at t) write-exists.Post
 write-exists-write-part-requires t c κs =
     let o = c .before .before .before .before .before .before .before .before .before .before in
-    let few = part-few (o .pre .1 .0) in
     let m = o .pre .0 in (
       omega arith,
-      exists-ready (o .pre .1 .0) (o .pre .1 .1) _
-          (c .before .before .before .before .before .before .before .before .row-kind .ensures)
-          (c .before .before .before .before .put-plain .ensures),
+      exists-ready (o .pre .1 .0) (o .pre .1 .1) (c .before .before .before .before .before .before .before .before .row-kind .ensures) (c .before .before .before .before .before .before .before .field .ensures) (c .before .before .before .before .put-plain .ensures),
     )
-
-write-exists-mul-put16 : (t : ℕ) → write-exists-lts.Need-mul-put16 (write-exists-claims t) (write-exists-at t) write-exists.Post
-write-exists-mul-put16 t c =
-    let o = c .before .before .before .before .before .before .before .before .before .before .before .before .before .before in
-    let few = part-few (o .pre .1 .0) in
-    let fewer = entry-few (o .pre .1 .0) in
-    search needs
 
 write-exists-put16-requires : (t : ℕ) → write-exists-lts.Need-put16-requires (write-exists-claims t) (write-exists-at t) write-exists.Post
 write-exists-put16-requires t c κs =
-    let o = c .before .before .before .before .before .before .before .before .before .before .before .before .before .before in
-    exists-end-asked (o .pre .1 .0) (o .pre .1 .1) _
-    (c .before .before .before .before .before .before .before .before .before .before .before .before .row-kind .ensures)
-    (c .before .before .before .before .before .before .before .before .put-plain .ensures)
-    (c .before .before .before .write-part .ensures)
-
-write-exists-same-length : (t : ℕ) → write-exists-lts.Need-same-length (write-exists-claims t) (write-exists-at t) write-exists.Post
-write-exists-same-length t c = search needs
+    exists-end-asked (c .before .before .before .before .before .before .before .before .before .before .before .before .before .before .pre .1 .0) (c .before .before .before .before .before .before .before .before .before .before .before .before .before .before .pre .1 .1) (c .before .before .before .before .before .before .before .before .before .before .before .before .row-kind .ensures) (c .before .before .before .before .before .before .before .before .before .before .before .field .ensures)
+    (c .before .before .before .before .before .before .before .before .put-plain .ensures) (c .before .before .before .write-part .ensures)
 
 write-exists-returns : (t : ℕ) → write-exists-lts.Need-returns (write-exists-claims t) (write-exists-at t) write-exists.Post
 write-exists-returns t c =
-    let o = c .before .before .before .before .before .before .before .before .before .before .before .before .before .before .before .before .before in
-    λ h. exists-wrote h (o .pre .1 .1) _
-    (c .before .before .before .before .before .before .before .before .before .before .before .before .before .before .before .row-kind .ensures)
-    (c .before .before .before .before .before .before .before .before .before .before .before .put-plain .ensures)
-    (c .before .before .before .before .before .before .write-part .ensures)
-    (c .before .before .put16 .ensures)
-
-write-list-mul-every : (t : ℕ) → write-list-lts.Need-mul-every (write-list-claims t) (write-list-at t) write-list.Post
-write-list-mul-every t c =
-    let o = c .before in
-    let few = part-few (o .pre .1 .0) in
-    let fewer = entry-few (o .pre .1 .0) in
-    search needs
-
-write-list-mul-every-2 : (t : ℕ) → write-list-lts.Need-mul-every-2 (write-list-claims t) (write-list-at t) write-list.Post
-write-list-mul-every-2 t c =
-    let o = c .before in
-    let few = part-few (o .pre .1 .0) in
-    let fewer = entry-few (o .pre .1 .0) in
-    search needs
-
-write-list-element-copy-out-every : (t : ℕ) → write-list-lts.Need-element-copy-out-every (write-list-claims t) (write-list-at t) write-list.Post
-write-list-element-copy-out-every t c =
-    let o = c .before in
-    let few = part-few (o .pre .1 .0) in
-    let fewer = entry-few (o .pre .1 .0) in
-    search needs
-
-write-list-mul-table : (t : ℕ) → write-list-lts.Need-mul-table (write-list-claims t) (write-list-at t) write-list.Post
-write-list-mul-table t c =
-    let o = c .before .before in
-    let few = part-few (o .pre .1 .0) in
-    let fewer = entry-few (o .pre .1 .0) in
-    search needs
-
-write-list-add-table : (t : ℕ) → write-list-lts.Need-add-table (write-list-claims t) (write-list-at t) write-list.Post
-write-list-add-table t c =
-    let o = c .before .before in
-    let few = part-few (o .pre .1 .0) in
-    let fewer = entry-few (o .pre .1 .0) in
-    search needs
-
-write-list-mul-table-2 : (t : ℕ) → write-list-lts.Need-mul-table-2 (write-list-claims t) (write-list-at t) write-list.Post
-write-list-mul-table-2 t c =
-    let o = c .before .before in
-    let few = part-few (o .pre .1 .0) in
-    let fewer = entry-few (o .pre .1 .0) in
-    search needs
-
-write-list-element-copy-out-table : (t : ℕ) → write-list-lts.Need-element-copy-out-table (write-list-claims t) (write-list-at t) write-list.Post
-write-list-element-copy-out-table t c =
-    let o = c .before .before in
-    let few = part-few (o .pre .1 .0) in
-    let fewer = entry-few (o .pre .1 .0) in
-    search needs
-
-write-list-row-kind-requires : (t : ℕ) → write-list-lts.Need-row-kind-requires (write-list-claims t) (write-list-at t) write-list.Post
-write-list-row-kind-requires t c κs = search needs
+    λ h. exists-wrote h (c .before .before .before .before .before .before .before .before .before .before .before .before .before .before .before .before .before .pre .1 .1) (c .before .before .before .before .before .before .before .before .before .before .before .before .before .before .before .row-kind .ensures) (c .before .before .before .before .before .before .before .before .before .before .before .before .before .before .field .ensures)
+    (c .before .before .before .before .before .before .before .before .before .before .before .put-plain .ensures) (c .before .before .before .before .before .before .write-part .ensures) (c .before .before .put16 .ensures)
 
 write-list-put-plain-requires : (t : ℕ) → write-list-lts.Need-put-plain-requires (write-list-claims t) (write-list-at t) write-list.Post
 write-list-put-plain-requires t c κs =
-    let o = c .before .before .before .before .before .before in
-    list-plain-asked (o .pre .1 .0) (o .pre .1 .1) _ (c .row-kind .ensures)
-
-write-list-add-put-plain : (t : ℕ) → write-list-lts.Need-add-put-plain (write-list-claims t) (write-list-at t) write-list.Post
-write-list-add-put-plain t c =
-    let o = c .before .before .before .before .before .before .before .before .before .before .before in
-    let few = part-few (o .pre .1 .0) in
-    let fewer = entry-few (o .pre .1 .0) in
-    search needs
-
-write-list-pair-kind-requires : (t : ℕ) → write-list-lts.Need-pair-kind-requires (write-list-claims t) (write-list-at t) write-list.Post
-write-list-pair-kind-requires t c κs = search needs
+    list-plain-asked (c .before .before .before .before .before .before .pre .1 .0) (c .before .before .before .before .before .before .pre .1 .1) (c .row-kind .ensures) (c .before .before .before .field .ensures)
 
 write-list-put-plain-requires-2 : (t : ℕ) → write-list-lts.Need-put-plain-requires-2 (write-list-claims t) (write-list-at t) write-list.Post
 write-list-put-plain-requires-2 t c κs =
-    let o = c .before .before .before .before .before .before .before .before .before .before .before .before in
-    list-plain-asked-2 (o .pre .1 .0) (o .pre .1 .1) _
-    (c .before .before .before .before .before .before .row-kind .ensures)
-    (c .before .before .before .before .before .put-plain .ensures) _ (c .pair-kind .ensures)
-
-write-list-add-write-part : (t : ℕ) → write-list-lts.Need-add-write-part (write-list-claims t) (write-list-at t) write-list.Post
-write-list-add-write-part t c =
-    let o = c .before .before .before .before .before .before .before .before .before .before .before .before .before .before .before in
-    let few = part-few (o .pre .1 .0) in
-    let fewer = entry-few (o .pre .1 .0) in
-    search needs
-
-write-list-add-write-part-2 : (t : ℕ) → write-list-lts.Need-add-write-part-2 (write-list-claims t) (write-list-at t) write-list.Post
-write-list-add-write-part-2 t c =
-    let o = c .before .before .before .before .before .before .before .before .before .before .before .before .before .before .before .before .before in
-    let few = part-few (o .pre .1 .0) in
-    let fewer = entry-few (o .pre .1 .0) in
-    search needs
+    list-plain-asked-2 (c .before .before .before .before .before .before .before .before .before .before .before .before .pre .1 .0) (c .before .before .before .before .before .before .before .before .before .before .before .before .pre .1 .1) (c .before .before .before .before .before .before .row-kind .ensures) (c .before .before .before .before .before .before .before .before .before .field .ensures)
+    (c .before .before .before .before .before .put-plain .ensures) (c .pair-kind .ensures)
 
 write-list-write-part-requires : (t : ℕ) → write-list-lts.Need-write-part-requires (write-list-claims t) (write-list-at t) write-list.Post
 write-list-write-part-requires t c κs =
     let o = c .before .before .before .before .before .before .before .before .before .before .before .before .before .before .before .before .before in
-    let few = part-few (o .pre .1 .0) in
     let m = o .pre .0 in (
       omega arith,
-      list-ready (o .pre .1 .0) (o .pre .1 .1) _
-          (c .before .before .before .before .before .before .before .before .before .before .before .row-kind .ensures)
-          (c .before .before .before .before .before .before .before .before .before .before .put-plain .ensures) _
-          (c .before .before .before .before .before .pair-kind .ensures)
-          (c .before .before .before .before .put-plain2 .ensures),
+      list-ready (o .pre .1 .0) (o .pre .1 .1) (c .before .before .before .before .before .before .before .before .before .before .before .row-kind .ensures) (c .before .before .before .before .before .before .before .before .before .before .before .before .before .before .field .ensures)
+          (c .before .before .before .before .before .before .before .before .before .before .put-plain .ensures) (c .before .before .before .before .before .pair-kind .ensures) (c .before .before .before .before .put-plain2 .ensures),
     )
 
 write-list-write-comparison-requires : (t : ℕ) → write-list-lts.Need-write-comparison-requires (write-list-claims t) (write-list-at t) write-list.Post
 write-list-write-comparison-requires t c κs =
-    let o = c .before .before .before .before .before .before .before .before .before .before .before .before .before .before .before .before .before .before .before .before .before .before in
-    list-compare-ready (o .pre .1 .0) (o .pre .1 .1) _
-    (c .before .before .before .before .before .before .before .before .before .before .before .before .before .before .before .before .row-kind .ensures)
-    (c .before .before .before .before .before .before .before .before .before .before .before .before .before .before .before .put-plain .ensures) _
-    (c .before .before .before .before .before .before .before .before .before .before .pair-kind .ensures)
-    (c .before .before .before .before .before .before .before .before .before .put-plain2 .ensures)
+    list-compare-ready (c .before .before .before .before .before .before .before .before .before .before .before .before .before .before .before .before .before .before .before .before .before .before .pre .1 .0) (c .before .before .before .before .before .before .before .before .before .before .before .before .before .before .before .before .before .before .before .before .before .before .pre .1 .1) (c .before .before .before .before .before .before .before .before .before .before .before .before .before .before .before .before .row-kind .ensures) (c .before .before .before .before .before .before .before .before .before .before .before .before .before .before .before .before .before .before .before .field .ensures)
+    (c .before .before .before .before .before .before .before .before .before .before .before .before .before .before .before .put-plain .ensures) (c .before .before .before .before .before .before .before .before .before .before .pair-kind .ensures) (c .before .before .before .before .before .before .before .before .before .put-plain2 .ensures)
     (c .before .before .before .before .write-part .ensures)
-
-write-list-add-put16 : (t : ℕ) → write-list-lts.Need-add-put16 (write-list-claims t) (write-list-at t) write-list.Post
-write-list-add-put16 t c =
-    let o = c .before .before .before .before .before .before .before .before .before .before .before .before .before .before .before .before .before .before .before .before .before .before .before .before .before .before in
-    let few = part-few (o .pre .1 .0) in
-    let fewer = entry-few (o .pre .1 .0) in
-    search needs
-
-write-list-mul-put16 : (t : ℕ) → write-list-lts.Need-mul-put16 (write-list-claims t) (write-list-at t) write-list.Post
-write-list-mul-put16 t c =
-    let o = c .before .before .before .before .before .before .before .before .before .before .before .before .before .before .before .before .before .before .before .before .before .before .before .before .before .before in
-    let few = part-few (o .pre .1 .0) in
-    let fewer = entry-few (o .pre .1 .0) in
-    search needs
 
 write-list-put16-requires : (t : ℕ) → write-list-lts.Need-put16-requires (write-list-claims t) (write-list-at t) write-list.Post
 write-list-put16-requires t c κs =
-    let o = c .before .before .before .before .before .before .before .before .before .before .before .before .before .before .before .before .before .before .before .before .before .before .before .before .before .before in
-    list-end-asked (o .pre .1 .0) (o .pre .1 .1) _
-    (c .before .before .before .before .before .before .before .before .before .before .before .before .before .before .before .before .before .before .before .before .row-kind .ensures)
-    (c .before .before .before .before .before .before .before .before .before .before .before .before .before .before .before .before .before .before .before .put-plain .ensures) _
-    (c .before .before .before .before .before .before .before .before .before .before .before .before .before .before .pair-kind .ensures)
-    (c .before .before .before .before .before .before .before .before .before .before .before .before .before .put-plain2 .ensures)
-    (c .before .before .before .before .before .before .before .before .write-part .ensures)
-    (c .before .before .before .write-comparison .ensures)
-
-write-list-mul-put16-2 : (t : ℕ) → write-list-lts.Need-mul-put16-2 (write-list-claims t) (write-list-at t) write-list.Post
-write-list-mul-put16-2 t c =
-    let o = c .before .before .before .before .before .before .before .before .before .before .before .before .before .before .before .before .before .before .before .before .before .before .before .before .before .before .before .before .before .before in
-    let few = part-few (o .pre .1 .0) in
-    let fewer = entry-few (o .pre .1 .0) in
-    search needs
+    list-end-asked (c .before .before .before .before .before .before .before .before .before .before .before .before .before .before .before .before .before .before .before .before .before .before .before .before .before .before .pre .1 .0) (c .before .before .before .before .before .before .before .before .before .before .before .before .before .before .before .before .before .before .before .before .before .before .before .before .before .before .pre .1 .1) (c .before .before .before .before .before .before .before .before .before .before .before .before .before .before .before .before .before .before .before .before .row-kind .ensures) (c .before .before .before .before .before .before .before .before .before .before .before .before .before .before .before .before .before .before .before .before .before .before .before .field .ensures)
+    (c .before .before .before .before .before .before .before .before .before .before .before .before .before .before .before .before .before .before .before .put-plain .ensures) (c .before .before .before .before .before .before .before .before .before .before .before .before .before .before .pair-kind .ensures) (c .before .before .before .before .before .before .before .before .before .before .before .before .before .put-plain2 .ensures)
+    (c .before .before .before .before .before .before .before .before .write-part .ensures) (c .before .before .before .write-comparison .ensures)
 
 write-list-put16-requires-2 : (t : ℕ) → write-list-lts.Need-put16-requires-2 (write-list-claims t) (write-list-at t) write-list.Post
 write-list-put16-requires-2 t c κs =
-    let o = c .before .before .before .before .before .before .before .before .before .before .before .before .before .before .before .before .before .before .before .before .before .before .before .before .before .before .before .before .before .before in
-    list-end-asked-2 (o .pre .1 .0) (o .pre .1 .1) _
-    (c .before .before .before .before .before .before .before .before .before .before .before .before .before .before .before .before .before .before .before .before .before .before .before .before .row-kind .ensures)
-    (c .before .before .before .before .before .before .before .before .before .before .before .before .before .before .before .before .before .before .before .before .before .before .before .put-plain .ensures) _
-    (c .before .before .before .before .before .before .before .before .before .before .before .before .before .before .before .before .before .before .pair-kind .ensures)
-    (c .before .before .before .before .before .before .before .before .before .before .before .before .before .before .before .before .before .put-plain2 .ensures)
-    (c .before .before .before .before .before .before .before .before .before .before .before .before .write-part .ensures)
-    (c .before .before .before .before .before .before .before .write-comparison .ensures)
-    (c .before .before .before .put16 .ensures)
-
-write-list-same-length : (t : ℕ) → write-list-lts.Need-same-length (write-list-claims t) (write-list-at t) write-list.Post
-write-list-same-length t c = search needs
+    list-end-asked-2 (c .before .before .before .before .before .before .before .before .before .before .before .before .before .before .before .before .before .before .before .before .before .before .before .before .before .before .before .before .before .before .pre .1 .0) (c .before .before .before .before .before .before .before .before .before .before .before .before .before .before .before .before .before .before .before .before .before .before .before .before .before .before .before .before .before .before .pre .1 .1) (c .before .before .before .before .before .before .before .before .before .before .before .before .before .before .before .before .before .before .before .before .before .before .before .before .row-kind .ensures) (c .before .before .before .before .before .before .before .before .before .before .before .before .before .before .before .before .before .before .before .before .before .before .before .before .before .before .before .field .ensures)
+    (c .before .before .before .before .before .before .before .before .before .before .before .before .before .before .before .before .before .before .before .before .before .before .before .put-plain .ensures) (c .before .before .before .before .before .before .before .before .before .before .before .before .before .before .before .before .before .before .pair-kind .ensures) (c .before .before .before .before .before .before .before .before .before .before .before .before .before .before .before .before .before .put-plain2 .ensures)
+    (c .before .before .before .before .before .before .before .before .before .before .before .before .write-part .ensures) (c .before .before .before .before .before .before .before .write-comparison .ensures) (c .before .before .before .put16 .ensures)
 
 write-list-returns : (t : ℕ) → write-list-lts.Need-returns (write-list-claims t) (write-list-at t) write-list.Post
 write-list-returns t c =
-    let o = c .before .before .before .before .before .before .before .before .before .before .before .before .before .before .before .before .before .before .before .before .before .before .before .before .before .before .before .before .before .before .before .before .before in
-    λ h. list-wrote h (o .pre .1 .1) _
-    (c .before .before .before .before .before .before .before .before .before .before .before .before .before .before .before .before .before .before .before .before .before .before .before .before .before .before .before .row-kind .ensures)
-    (c .before .before .before .before .before .before .before .before .before .before .before .before .before .before .before .before .before .before .before .before .before .before .before .before .before .before .put-plain .ensures) _
-    (c .before .before .before .before .before .before .before .before .before .before .before .before .before .before .before .before .before .before .before .before .before .pair-kind .ensures)
-    (c .before .before .before .before .before .before .before .before .before .before .before .before .before .before .before .before .before .before .before .before .put-plain2 .ensures)
-    (c .before .before .before .before .before .before .before .before .before .before .before .before .before .before .before .write-part .ensures)
-    (c .before .before .before .before .before .before .before .before .before .before .write-comparison .ensures)
-    (c .before .before .before .before .before .before .put16 .ensures)
-    (c .before .before .put162 .ensures)
+    λ h. list-wrote h (c .before .before .before .before .before .before .before .before .before .before .before .before .before .before .before .before .before .before .before .before .before .before .before .before .before .before .before .before .before .before .before .before .before .pre .1 .1) (c .before .before .before .before .before .before .before .before .before .before .before .before .before .before .before .before .before .before .before .before .before .before .before .before .before .before .before .row-kind .ensures) (c .before .before .before .before .before .before .before .before .before .before .before .before .before .before .before .before .before .before .before .before .before .before .before .before .before .before .before .before .before .before .field .ensures)
+    (c .before .before .before .before .before .before .before .before .before .before .before .before .before .before .before .before .before .before .before .before .before .before .before .before .before .before .put-plain .ensures) (c .before .before .before .before .before .before .before .before .before .before .before .before .before .before .before .before .before .before .before .before .before .pair-kind .ensures) (c .before .before .before .before .before .before .before .before .before .before .before .before .before .before .before .before .before .before .before .before .put-plain2 .ensures)
+    (c .before .before .before .before .before .before .before .before .before .before .before .before .before .before .before .write-part .ensures) (c .before .before .before .before .before .before .before .before .before .before .write-comparison .ensures) (c .before .before .before .before .before .before .put16 .ensures) (c .before .before .put162 .ensures)
 
-write-pair-mul-pair-kind : (t : ℕ) → write-pair-lts.Need-mul-pair-kind (write-pair-claims t) (write-pair-at t) write-pair.Post
-write-pair-mul-pair-kind t c =
-    let o = c .before in
-    let few = part-few (o .pre .1 .0) in
-    let fewer = entry-few (o .pre .1 .0) in
-    search needs
-
-write-pair-mul-pair-kind-2 : (t : ℕ) → write-pair-lts.Need-mul-pair-kind-2 (write-pair-claims t) (write-pair-at t) write-pair.Post
-write-pair-mul-pair-kind-2 t c =
-    let o = c .before in
-    let few = part-few (o .pre .1 .0) in
-    let fewer = entry-few (o .pre .1 .0) in
-    search needs
-
-write-pair-element-copy-out-pair-kind : (t : ℕ) → write-pair-lts.Need-element-copy-out-pair-kind (write-pair-claims t) (write-pair-at t) write-pair.Post
-write-pair-element-copy-out-pair-kind t c =
-    let o = c .before in
-    let few = part-few (o .pre .1 .0) in
-    let fewer = entry-few (o .pre .1 .0) in
-    search needs
-
-write-pair-pair-kind-requires : (t : ℕ) → write-pair-lts.Need-pair-kind-requires (write-pair-claims t) (write-pair-at t) write-pair.Post
-write-pair-pair-kind-requires t c κs = search needs
-
-write-pair-add-next : (t : ℕ) → write-pair-lts.Need-add-next (write-pair-claims t) (write-pair-at t) write-pair.Post
-write-pair-add-next t c =
-    let o = c .before .before .before in
-    let few = join-few (o .pre .1 .0) (o .pre .1 .1) _ (c .pair-kind .ensures) in
-    search needs
-
-write-pair-mul-next : (t : ℕ) → write-pair-lts.Need-mul-next (write-pair-claims t) (write-pair-at t) write-pair.Post
-write-pair-mul-next t c =
-    let o = c .before .before .before in
-    let few = join-few (o .pre .1 .0) (o .pre .1 .1) _ (c .pair-kind .ensures) in
-    search needs
-
-write-pair-add-next-2 : (t : ℕ) → write-pair-lts.Need-add-next-2 (write-pair-claims t) (write-pair-at t) write-pair.Post
-write-pair-add-next-2 t c =
-    let o = c .before .before .before in
-    let few = join-few (o .pre .1 .0) (o .pre .1 .1) _ (c .pair-kind .ensures) in
-    search needs
-
-write-pair-mul-next-2 : (t : ℕ) → write-pair-lts.Need-mul-next-2 (write-pair-claims t) (write-pair-at t) write-pair.Post
-write-pair-mul-next-2 t c =
-    let o = c .before .before .before in
-    let few = join-few (o .pre .1 .0) (o .pre .1 .1) _ (c .pair-kind .ensures) in
-    search needs
-
-write-pair-element-copy-out-next : (t : ℕ) → write-pair-lts.Need-element-copy-out-next (write-pair-claims t) (write-pair-at t) write-pair.Post
-write-pair-element-copy-out-next t c =
-    let o = c .before .before .before in
-    let few = join-few (o .pre .1 .0) (o .pre .1 .1) _ (c .pair-kind .ensures) in
-    search needs
+write-pair-field-requires : (t : ℕ) → write-pair-lts.Need-field-requires (write-pair-claims t) (write-pair-at t) write-pair.Post
+write-pair-field-requires t c κs =
+    let few = join-few (c .before .before .before .pre .1 .0) (c .before .before .before .pre .1 .1) (c .pair-kind .ensures) in
+    (c .before .before .before .pre .1 .0 .size, (few, omega arith))
 
 write-pair-put-plain-requires : (t : ℕ) → write-pair-lts.Need-put-plain-requires (write-pair-claims t) (write-pair-at t) write-pair.Post
-write-pair-put-plain-requires t c κs =
-    let o = c .before .before .before .before .before .before in
-    pair-plain-asked (o .pre .1 .0) (o .pre .1 .1) _ (c .before .before .before .pair-kind .ensures)
-
-write-pair-add-write-part : (t : ℕ) → write-pair-lts.Need-add-write-part (write-pair-claims t) (write-pair-at t) write-pair.Post
-write-pair-add-write-part t c =
-    let o = c .before .before .before .before .before .before .before .before .before in
-    let few = part-few (o .pre .1 .0) in
-    let fewer = entry-few (o .pre .1 .0) in
-    search needs
-
-write-pair-add-write-part-2 : (t : ℕ) → write-pair-lts.Need-add-write-part-2 (write-pair-claims t) (write-pair-at t) write-pair.Post
-write-pair-add-write-part-2 t c =
-    let o = c .before .before .before .before .before .before .before .before .before .before .before in
-    let few = part-few (o .pre .1 .0) in
-    let fewer = entry-few (o .pre .1 .0) in
-    search needs
+write-pair-put-plain-requires t c κs = pair-plain-asked (c .before .before .before .before .before .before .pre .1 .0) (c .before .before .before .before .before .before .pre .1 .1) (c .before .before .before .pair-kind .ensures)
 
 write-pair-write-part-requires : (t : ℕ) → write-pair-lts.Need-write-part-requires (write-pair-claims t) (write-pair-at t) write-pair.Post
 write-pair-write-part-requires t c κs =
     let o = c .before .before .before .before .before .before .before .before .before .before .before in
-    let few = part-few (o .pre .1 .0) in
-    let m = o .pre .0 in (
-      omega arith,
-      left-ready (o .pre .1 .0) (o .pre .1 .1) _
-          (c .before .before .before .before .before .before .before .before .pair-kind .ensures)
-          (c .before .before .before .before .put-plain .ensures),
-    )
+    let m = o .pre .0 in
+    (omega arith, left-ready (o .pre .1 .0) (o .pre .1 .1) (c .before .before .before .before .before .before .before .before .pair-kind .ensures) (c .before .before .before .before .put-plain .ensures))
 
 write-pair-write-part-requires-2 : (t : ℕ) → write-pair-lts.Need-write-part-requires-2 (write-pair-claims t) (write-pair-at t) write-pair.Post
 write-pair-write-part-requires-2 t c κs =
     let o = c .before .before .before .before .before .before .before .before .before .before .before .before .before .before .before .before in
-    let few = part-few (o .pre .1 .0) in
-    let above = next-above (o .pre .1 .0) (o .pre .1 .1) _
-    (c .before .before .before .before .before .before .before .before .before .before .before .before .before .pair-kind .ensures) in
-    let m = o .pre .0 in (
+    let m = o .pre .0 in
+    let above = next-above (o .pre .1 .0) (o .pre .1 .1) (c .before .before .before .before .before .before .before .before .before .before .before .before .before .pair-kind .ensures)
+    (c .before .before .before .before .before .before .before .before .before .put-plain .ensures) (c .before .before .before .before .before .before .before .before .before .before .before .before .field .ensures) (c .before .before .before .before .write-part .ensures) in (
       omega arith,
-      right-ready (o .pre .1 .0) (o .pre .1 .1) _
-          (c .before .before .before .before .before .before .before .before .before .before .before .before .before .pair-kind .ensures)
-          (c .before .before .before .before .before .before .before .before .before .put-plain .ensures)
-          (c .before .before .before .before .write-part .ensures),
+      right-ready (o .pre .1 .0) (o .pre .1 .1) (c .before .before .before .before .before .before .before .before .before .before .before .before .before .pair-kind .ensures)
+          (c .before .before .before .before .before .before .before .before .before .put-plain .ensures) (c .before .before .before .before .before .before .before .before .before .before .before .before .field .ensures) (c .before .before .before .before .write-part .ensures),
     )
-
-write-pair-mul-put16 : (t : ℕ) → write-pair-lts.Need-mul-put16 (write-pair-claims t) (write-pair-at t) write-pair.Post
-write-pair-mul-put16 t c =
-    let o = c .before .before .before .before .before .before .before .before .before .before .before .before .before .before .before .before .before .before .before .before in
-    let few = part-few (o .pre .1 .0) in
-    let fewer = entry-few (o .pre .1 .0) in
-    search needs
 
 write-pair-put16-requires : (t : ℕ) → write-pair-lts.Need-put16-requires (write-pair-claims t) (write-pair-at t) write-pair.Post
 write-pair-put16-requires t c κs =
-    let o = c .before .before .before .before .before .before .before .before .before .before .before .before .before .before .before .before .before .before .before .before in
-    pair-end-asked (o .pre .1 .0) (o .pre .1 .1) _
-    (c .before .before .before .before .before .before .before .before .before .before .before .before .before .before .before .before .before .pair-kind .ensures)
-    (c .before .before .before .before .before .before .before .before .before .before .before .before .before .put-plain .ensures)
-    (c .before .before .before .before .before .before .before .before .write-part .ensures)
-    (c .before .before .before .write-part2 .ensures)
-
-write-pair-same-length : (t : ℕ) → write-pair-lts.Need-same-length (write-pair-claims t) (write-pair-at t) write-pair.Post
-write-pair-same-length t c = search needs
+    pair-end-asked (c .before .before .before .before .before .before .before .before .before .before .before .before .before .before .before .before .before .before .before .before .pre .1 .0) (c .before .before .before .before .before .before .before .before .before .before .before .before .before .before .before .before .before .before .before .before .pre .1 .1) (c .before .before .before .before .before .before .before .before .before .before .before .before .before .before .before .before .before .pair-kind .ensures)
+    (c .before .before .before .before .before .before .before .before .before .before .before .before .before .put-plain .ensures) (c .before .before .before .before .before .before .before .before .before .before .before .before .before .before .before .before .field .ensures) (c .before .before .before .before .before .before .before .before .write-part .ensures) (c .before .before .before .write-part2 .ensures)
 
 write-pair-returns : (t : ℕ) → write-pair-lts.Need-returns (write-pair-claims t) (write-pair-at t) write-pair.Post
 write-pair-returns t c =
-    let o = c .before .before .before .before .before .before .before .before .before .before .before .before .before .before .before .before .before .before .before .before .before .before .before in
-    λ h. pair-wrote h (o .pre .1 .1) _
-    (c .before .before .before .before .before .before .before .before .before .before .before .before .before .before .before .before .before .before .before .before .pair-kind .ensures)
-    (c .before .before .before .before .before .before .before .before .before .before .before .before .before .before .before .before .put-plain .ensures)
-    (c .before .before .before .before .before .before .before .before .before .before .before .write-part .ensures)
-    (c .before .before .before .before .before .before .write-part2 .ensures)
-    (c .before .before .put16 .ensures)
-
-write-part-mul-kind : (t : ℕ) → write-part-lts.Need-mul-kind (write-part-claims t) (write-part-at t) write-part.Post
-write-part-mul-kind t c =
-    let o = c .before in let few = part-few (o .pre .1) in let fewer = entry-few (o .pre .1) in search needs
-
-write-part-mul-kind-2 : (t : ℕ) → write-part-lts.Need-mul-kind-2 (write-part-claims t) (write-part-at t) write-part.Post
-write-part-mul-kind-2 t c =
-    let o = c .before in let few = part-few (o .pre .1) in let fewer = entry-few (o .pre .1) in search needs
-
-write-part-element-copy-out-kind : (t : ℕ) → write-part-lts.Need-element-copy-out-kind (write-part-claims t) (write-part-at t) write-part.Post
-write-part-element-copy-out-kind t c =
-    let o = c .before in let few = part-few (o .pre .1) in let fewer = entry-few (o .pre .1) in search needs
-
-write-part-add-under-nots : (t : ℕ) → write-part-lts.Need-add-under-nots (write-part-claims t) (write-part-at t) write-part.Post
-write-part-add-under-nots t c =
-    let o = c .before .before .before in
-    let few = part-few (o .pre .1) in
-    let fewer = entry-few (o .pre .1) in
-    search needs
+    λ h. pair-wrote h (c .before .before .before .before .before .before .before .before .before .before .before .before .before .before .before .before .before .before .before .before .before .before .before .pre .1 .1) (c .before .before .before .before .before .before .before .before .before .before .before .before .before .before .before .before .before .before .before .before .pair-kind .ensures)
+    (c .before .before .before .before .before .before .before .before .before .before .before .before .before .before .before .before .put-plain .ensures) (c .before .before .before .before .before .before .before .before .before .before .before .before .before .before .before .before .before .before .before .field .ensures) (c .before .before .before .before .before .before .before .before .before .before .before .write-part .ensures) (c .before .before .before .before .before .before .write-part2 .ensures) (c .before .before .put16 .ensures)
 
 write-part-under-nots-requires : (t : ℕ) → write-part-lts.Need-under-nots-requires (write-part-claims t) (write-part-at t) write-part.Post
 write-part-under-nots-requires t c κs = c .before .before .before .pre .1 .size
@@ -500,7 +196,6 @@ write-part-under-nots-requires t c κs = c .before .before .before .pre .1 .size
 write-part-write-part-requires : (t : ℕ) → write-part-lts.Need-write-part-requires (write-part-claims t) (write-part-at t) write-part.Post
 write-part-write-part-requires t c κs =
     let o = c .before .before .before .before .before .before in
-    let few = part-few (o .pre .1) in
     let m = o .pre .0 in
     let u = c .before .before .under-nots .ensures in
     (omega (arith, u .behind), u .ready (not-ready (o .pre .1) (c .before .before .before .match .keys1)))
@@ -540,37 +235,20 @@ write-part-write-list-requires t c κs =
       (o .pre .1, ⊎-elim (λ w. absurd (omega (arith, w .taken, kind-low _ _ (o .pre .1 .rule) (o .pre .1 .stands)))) (λ w. let n7 = c .before .before .before .match .rest .1 in let l = w .2 .left in omega arith) (c .before .before .if1 .came)),
     )
 
-write-part-same-length : (t : ℕ) → write-part-lts.Need-same-length (write-part-claims t) (write-part-at t) write-part.Post
-write-part-same-length t c = search needs
-
 write-part-returns : (t : ℕ) → write-part-lts.Need-returns (write-part-claims t) (write-part-at t) write-part.Post
 write-part-returns t c =
     let u = c .before .before .before .before .before .under-nots .ensures in
     λ h. not-wrote h (c .before .before .before .before .before .before .match .keys1) (u .wrote (c .before .before .write-part .ensures))
 
-write-part-same-length-2 : (t : ℕ) → write-part-lts.Need-same-length-2 (write-part-claims t) (write-part-at t) write-part.Post
-write-part-same-length-2 t c = search needs
-
 write-part-returns-2 : (t : ℕ) → write-part-lts.Need-returns-2 (write-part-claims t) (write-part-at t) write-part.Post
 write-part-returns-2 t c =
     λ h. compare-wrote h (c .before .before .before .before .before .match .keys2) (c .before .before .write-comparison .ensures)
 
-write-part-same-length-3 : (t : ℕ) → write-part-lts.Need-same-length-3 (write-part-claims t) (write-part-at t) write-part.Post
-write-part-same-length-3 t c = search needs
-
 write-part-returns-3 : (t : ℕ) → write-part-lts.Need-returns-3 (write-part-claims t) (write-part-at t) write-part.Post
-write-part-returns-3 t c =
-    c .before .before .write-exists .ensures
-
-write-part-same-length-4 : (t : ℕ) → write-part-lts.Need-same-length-4 (write-part-claims t) (write-part-at t) write-part.Post
-write-part-same-length-4 t c = search needs
+write-part-returns-3 t c = c .before .before .write-exists .ensures
 
 write-part-returns-4 : (t : ℕ) → write-part-lts.Need-returns-4 (write-part-claims t) (write-part-at t) write-part.Post
-write-part-returns-4 t c =
-    c .before .before .write-pair .ensures
-
-write-part-same-length-5 : (t : ℕ) → write-part-lts.Need-same-length-5 (write-part-claims t) (write-part-at t) write-part.Post
-write-part-same-length-5 t c = search needs
+write-part-returns-4 t c = c .before .before .write-pair .ensures
 
 write-part-returns-5 : (t : ℕ) → write-part-lts.Need-returns-5 (write-part-claims t) (write-part-at t) write-part.Post
 write-part-returns-5 t c =
@@ -581,131 +259,65 @@ write-part-returns-5 t c =
     let n4 = r .0 .1 in
     λ h. null-wrote h (omega arith) (omega arith) (c .before .before .write-null .ensures)
 
-write-part-same-length-6 : (t : ℕ) → write-part-lts.Need-same-length-6 (write-part-claims t) (write-part-at t) write-part.Post
-write-part-same-length-6 t c = search needs
-
 write-part-returns-6 : (t : ℕ) → write-part-lts.Need-returns-6 (write-part-claims t) (write-part-at t) write-part.Post
-write-part-returns-6 t c =
-    c .before .before .write-list .ensures
+write-part-returns-6 t c = c .before .before .write-list .ensures
 
 pub +write-exists+write-list+write-pair+write-part-spec : {M : Type 1} → statement M
 +write-exists+write-list+write-pair+write-part-spec =
-    close μ-write-exists μ-write-list μ-write-pair μ-write-part (λ t. write-exists-lts.spec (
-      row-kind-reads.Asked,
-      row-kind-reads.Learnt,
-      put-plain-reads.Asked,
-      put-plain-reads.Learnt,
-      write-part-below t,
-      write-part.Post,
-      put16-reads.Asked,
-      put16-reads.Learnt,
-    )
-    (write-exists-at t)
-    write-exists.Post
-    (write-exists-row-kind-requires t)
-    (write-exists-mul-table t)
-    (write-exists-add-table t)
-    (write-exists-mul-table-2 t)
-    (write-exists-element-copy-out-table t)
+    close μ-write-exists μ-write-list μ-write-pair μ-write-part
+    (λ t. write-exists-lts.spec (write-exists-claims t) (write-exists-at t) write-exists.Post
+    (λ c κs. search needs)
+    (λ c κs. search needs)
     (write-exists-put-plain-requires t)
-    (write-exists-add-write-part t)
-    (write-exists-add-write-part-2 t)
+    (λ c. search needs)
+    (λ c. search needs)
     (write-exists-write-part-requires t)
-    (write-exists-mul-put16 t)
+    (λ c. search needs)
     (write-exists-put16-requires t)
-    (write-exists-same-length t)
+    (λ c. search needs)
     (write-exists-returns t))
-    (λ t. write-list-lts.spec (
-      row-kind-reads.Asked,
-      row-kind-reads.Learnt,
-      put-plain-reads.Asked,
-      put-plain-reads.Learnt,
-      pair-kind-reads.Asked,
-      pair-kind-reads.Learnt,
-      write-part-below t,
-      write-part.Post,
-      write-comparison-reads.Asked,
-      write-comparison-reads.Learnt,
-      put16-reads.Asked,
-      put16-reads.Learnt,
-    )
-    (write-list-at t)
-    write-list.Post
-    (write-list-mul-every t)
-    (write-list-mul-every-2 t)
-    (write-list-element-copy-out-every t)
-    (write-list-mul-table t)
-    (write-list-add-table t)
-    (write-list-mul-table-2 t)
-    (write-list-element-copy-out-table t)
-    (write-list-row-kind-requires t)
+    (λ t. write-list-lts.spec (write-list-claims t) (write-list-at t) write-list.Post
+    (λ c. search needs)
+    (λ c. search needs)
+    (λ c. search needs)
+    (λ c κs. search needs)
+    (λ c κs. search needs)
     (write-list-put-plain-requires t)
-    (write-list-add-put-plain t)
-    (write-list-pair-kind-requires t)
+    (λ c. search needs)
+    (λ c κs. search needs)
     (write-list-put-plain-requires-2 t)
-    (write-list-add-write-part t)
-    (write-list-add-write-part-2 t)
+    (λ c. search needs)
+    (λ c. search needs)
     (write-list-write-part-requires t)
     (write-list-write-comparison-requires t)
-    (write-list-add-put16 t)
-    (write-list-mul-put16 t)
+    (λ c. let few = c .before .before .before .before .before .before .before .before .before .before .before .before .before .before .before .before .before .before .before .before .before .before .before .before .before .before .pre .1 .0 .entry-few in search needs)
+    (λ c. let few = c .before .before .before .before .before .before .before .before .before .before .before .before .before .before .before .before .before .before .before .before .before .before .before .before .before .before .pre .1 .0 .entry-few in search needs)
     (write-list-put16-requires t)
-    (write-list-mul-put16-2 t)
+    (λ c. let few = c .before .before .before .before .before .before .before .before .before .before .before .before .before .before .before .before .before .before .before .before .before .before .before .before .before .before .before .before .before .before .pre .1 .0 .entry-few in search needs)
     (write-list-put16-requires-2 t)
-    (write-list-same-length t)
+    (λ c. search needs)
     (write-list-returns t))
-    (λ t. write-pair-lts.spec (
-      pair-kind-reads.Asked,
-      pair-kind-reads.Learnt,
-      put-plain-reads.Asked,
-      put-plain-reads.Learnt,
-      write-part-below t,
-      write-part.Post,
-      put16-reads.Asked,
-      put16-reads.Learnt,
-    )
-    (write-pair-at t)
-    write-pair.Post
-    (write-pair-mul-pair-kind t)
-    (write-pair-mul-pair-kind-2 t)
-    (write-pair-element-copy-out-pair-kind t)
-    (write-pair-pair-kind-requires t)
-    (write-pair-add-next t)
-    (write-pair-mul-next t)
-    (write-pair-add-next-2 t)
-    (write-pair-mul-next-2 t)
-    (write-pair-element-copy-out-next t)
+    (λ t. write-pair-lts.spec (write-pair-claims t) (write-pair-at t) write-pair.Post
+    (λ c. search needs)
+    (λ c. search needs)
+    (λ c. search needs)
+    (λ c κs. search needs)
+    (λ c. search needs)
+    (write-pair-field-requires t)
     (write-pair-put-plain-requires t)
-    (write-pair-add-write-part t)
-    (write-pair-add-write-part-2 t)
+    (λ c. search needs)
+    (λ c. search needs)
     (write-pair-write-part-requires t)
     (write-pair-write-part-requires-2 t)
-    (write-pair-mul-put16 t)
+    (λ c. let few = c .before .before .before .before .before .before .before .before .before .before .before .before .before .before .before .before .before .before .before .before .pre .1 .0 .entry-few in search needs)
     (write-pair-put16-requires t)
-    (write-pair-same-length t)
+    (λ c. search needs)
     (write-pair-returns t))
-    λ t. write-part-lts.spec (
-      under-nots-reads.Asked,
-      under-nots-reads.Learnt,
-      write-part-below t,
-      write-part.Post,
-      write-comparison-reads.Asked,
-      write-comparison-reads.Learnt,
-      write-exists-below t,
-      write-exists.Post,
-      write-pair-below t,
-      write-pair.Post,
-      write-null-reads.Asked,
-      write-null-reads.Learnt,
-      write-list-below t,
-      write-list.Post,
-    )
-    (write-part-at t)
-    write-part.Post
-    (write-part-mul-kind t)
-    (write-part-mul-kind-2 t)
-    (write-part-element-copy-out-kind t)
-    (write-part-add-under-nots t)
+    λ t. write-part-lts.spec (write-part-claims t) (write-part-at t) write-part.Post
+    (λ c. search needs)
+    (λ c. search needs)
+    (λ c. search needs)
+    (λ c. search needs)
     (write-part-under-nots-requires t)
     (write-part-write-part-requires t)
     (write-part-write-comparison-requires t)
@@ -713,15 +325,15 @@ pub +write-exists+write-list+write-pair+write-part-spec : {M : Type 1} → state
     (write-part-write-pair-requires t)
     (write-part-write-null-requires t)
     (write-part-write-list-requires t)
-    (write-part-same-length t)
+    (λ c. search needs)
     (write-part-returns t)
-    (write-part-same-length-2 t)
+    (λ c. search needs)
     (write-part-returns-2 t)
-    (write-part-same-length-3 t)
+    (λ c. search needs)
     (write-part-returns-3 t)
-    (write-part-same-length-4 t)
+    (λ c. search needs)
     (write-part-returns-4 t)
-    (write-part-same-length-5 t)
+    (λ c. search needs)
     (write-part-returns-5 t)
-    (write-part-same-length-6 t)
+    (λ c. search needs)
     (write-part-returns-6 t)

@@ -1,6 +1,7 @@
 -- `entries::under_nots` meets its contract. The loop's invariant is the contract, of the part that is reached.
 use Prim.Native.Nat.{_-_}
 use native.Mathlib.Omega.{arith}
+use Rattle.rule.specs.Names.{mostParts}
 use Rattle.entries.specs.Code.{StandsUnder}
 use Rattle.entries.proofs.Writing.{under-none, under-more}
 use Rattle.entries.proofs.under_nots.Statement.{statement}
@@ -11,28 +12,13 @@ Inv-loop p s negate unknown part₀ negated₀ counted₀ part negated counted =
     StandsUnder p s negate unknown (record { part = part; negate = negated; unknown = counted })
 
 abbrev μ-loop : tie.MeasureT-loop
-μ-loop p s negate unknown part₀ negated₀ counted₀ part negated counted = 64 - part
+μ-loop p s negate unknown part₀ negated₀ counted₀ part negated counted = mostParts - part
 
 loop-holds : tie.Need-loop-holds Inv-loop μ-loop
 loop-holds c = under-none
 
-mul-if1 : tie.Need-mul-if1 Inv-loop μ-loop
-mul-if1 c = omega arith
-
-mul-if1-2 : tie.Need-mul-if1-2 Inv-loop μ-loop
-mul-if1-2 c = omega arith
-
-element-copy-out-if1 : tie.Need-element-copy-out-if1 Inv-loop μ-loop
-element-copy-out-if1 c = omega arith
-
 returns : tie.Need-returns Inv-loop μ-loop
 returns c = c .before .before .before .loop .inv
-
-add-part : tie.Need-add-part Inv-loop μ-loop
-add-part c = omega arith
-
-loop-less : tie.Need-loop-less Inv-loop μ-loop
-loop-less c = omega arith
 
 loop-again : tie.Need-loop-again Inv-loop μ-loop
 loop-again c = under-more (c .before .before .before .loop .inv) (omega arith)
@@ -47,11 +33,11 @@ under-nots-spec =
     Inv-loop
     μ-loop
     loop-holds
-    mul-if1
-    mul-if1-2
-    element-copy-out-if1
+    (λ c. omega arith)
+    (λ c. omega arith)
+    (λ c. omega arith)
     returns
-    add-part
-    loop-less
+    (λ c. omega arith)
+    (λ c. omega arith)
     loop-again
     returns-2)

@@ -1,56 +1,25 @@
-use mathlib.Core.Path.{_≡_, refl, ap, _∙_}
-use mathlib.Core.List.{_++_}
-use Prim.Native.Nat.{ℕ, _-_, _≤_}
+-- `gate::copy_rows` meets its contract. The loop's invariant: the first j rows are copied.
+use mathlib.Core.Path.{refl}
+use Prim.Native.Nat.{_-_, _≤_}
 use native.Mathlib.Omega.{arith}
-use lib.ListN.{length, take, drop, length-set}
-use Rattle.gate.proofs.Listing.{copy-more}
+use Rattle.tables.proofs.Placed.{Copied, copied-none, copied-more, copied-front}
 use Rattle.gate.proofs.copy_rows.Statement.{statement}
 use Rattle.gate.proofs.copy_rows.Tie as tie
 
 abbrev Inv-loop : tie.InvT-loop
-Inv-loop kept k out₀ j₀ out j = (j ≤ k) × (length out ≡ length out₀) × (out ≡ take j kept ++ drop j out₀)
+Inv-loop kept k out₀ j₀ out j = (j ≤ k) × Copied out₀ 0 kept out j
 
 abbrev μ-loop : tie.MeasureT-loop
 μ-loop kept k out₀ j₀ out j = k - j
 
 loop-holds : tie.Need-loop-holds Inv-loop μ-loop
-loop-holds c = (omega arith, refl, refl)
-
-mul-out : tie.Need-mul-out Inv-loop μ-loop
-mul-out c = omega arith
-
-element-copy-out-out : tie.Need-element-copy-out-out Inv-loop μ-loop
-element-copy-out-out c = omega arith
-
-mul-out-2 : tie.Need-mul-out-2 Inv-loop μ-loop
-mul-out-2 c = omega arith
-
-slice-write-out : tie.Need-slice-write-out Inv-loop μ-loop
-slice-write-out c = omega arith
-
-add-j : tie.Need-add-j Inv-loop μ-loop
-add-j c = omega arith
-
-loop-less : tie.Need-loop-less Inv-loop μ-loop
-loop-less c = omega arith
+loop-holds c = (omega arith, copied-none _ _ _)
 
 loop-again : tie.Need-loop-again Inv-loop μ-loop
-loop-again c =
-    let start = c .before .before .before in
-    let loop = c .before .before .loop in
-    let size = start .pre .0 in
-    let more = copy-more (start .args .kept .now) (start .args .out .now) (loop .out) (loop .j) (omega arith) (omega arith) (loop .inv .2) in
-    (omega arith, simp length-set (loop .inv .1), more)
-
-same-length : tie.Need-same-length Inv-loop μ-loop
-same-length c = omega arith
+loop-again c = (omega arith, copied-more (c .before .before .loop .inv .1) 0 _ refl (omega arith) (omega arith) (omega arith))
 
 returns : tie.Need-returns Inv-loop μ-loop
-returns c =
-    let start = c .before .before in
-    let loop = c .before .loop in
-    let z : loop .j ≡ start .args .k = omega arith in
-    loop .inv .2 ∙ ap (λ (j : ℕ). take j (start .args .kept .now) ++ drop j (start .args .out .now)) z
+returns c = copied-front (c .before .loop .inv .1) (c .before .before .args .k) (omega arith) (omega arith)
 
 pub copy-rows-spec : {M : Type 1} → statement M
 copy-rows-spec =
@@ -59,12 +28,12 @@ copy-rows-spec =
     Inv-loop
     μ-loop
     loop-holds
-    mul-out
-    element-copy-out-out
-    mul-out-2
-    slice-write-out
-    add-j
-    loop-less
+    (λ c. omega arith)
+    (λ c. omega arith)
+    (λ c. omega arith)
+    (λ c. omega arith)
+    (λ c. omega arith)
+    (λ c. omega arith)
     loop-again
-    same-length
+    (λ c. omega arith)
     returns)

@@ -5,6 +5,7 @@ use native.Mathlib.Omega.{arith}
 use lib.ListN.{length, length-set}
 use lib.Seq.{getD-set-same}
 use Rattle.tables.specs.Tables.{mostRows}
+use Rattle.tables.specs.Values.{mostLevels}
 use Rattle.card.specs.Calls.{saysYes}
 use Rattle.gate.proofs.Judged.{laid-out, one-rows, few-rows, row-room, judged, judged-says}
 use Rattle.gate.proofs.Listing.{Kept, kept-none, kept-yes, kept-no, kept-all, next-first}
@@ -13,7 +14,7 @@ use Rattle.gate.proofs.keep_rows.Tie as tie
 
 abbrev Inv-loop : tie.InvT-loop
 Inv-loop card file d g kept₀ n table w₀ first₀ k₀ row₀ kept w first k row =
-    (table .rows ≤ mostRows) × (row ≤ table .rows) × (first ≡ row * table .columns) × (length w ≡ 4) × Kept (saysYes card file) kept k row
+    (table .rows ≤ mostRows) × (row ≤ table .rows) × (first ≡ row * table .columns) × (length w ≡ mostLevels) × Kept (saysYes card file) kept k row
 
 abbrev μ-loop : tie.MeasureT-loop
 μ-loop card file d g kept₀ n table w₀ first₀ k₀ row₀ kept w first k row = table .rows - row
@@ -21,16 +22,10 @@ abbrev μ-loop : tie.MeasureT-loop
 read16-requires : tie.Need-read16-requires Inv-loop μ-loop
 read16-requires c κs = let laid = laid-out _ (c .before .before .before .pre .0 .sound-is) in omega arith
 
-table-place-requires : tie.Need-table-place-requires Inv-loop μ-loop
-table-place-requires c κs = omega arith
-
 loop-holds : tie.Need-loop-holds Inv-loop μ-loop
 loop-holds c =
     let start = c .before .before .before .before .before in
     (few-rows _ _ _ _ (start .pre .0) _ (c .table-place .ensures), omega arith, omega arith, refl, kept-none _ _ (start .pre .1))
-
-array-write-w : tie.Need-array-write-w Inv-loop μ-loop
-array-write-w c = omega arith
 
 run-entry-requires : tie.Need-run-entry-requires Inv-loop μ-loop
 run-entry-requires c κs =
@@ -40,29 +35,11 @@ run-entry-requires c κs =
     judged _ _ _ _ (start .pre .0) _ is _ _ (c .before .if1 .taken) (loop .inv .2) _ _ (c .before .before .before .before .before .read16 .ensures .0)
     (length-set (loop .w) 0 (loop .first) ∙ loop .inv .3) (getD-set-same (loop .w) 0 (loop .first) 0 (omega arith))
 
-cast-kept : tie.Need-cast-kept Inv-loop μ-loop
-cast-kept c = omega arith
-
-mul-kept : tie.Need-mul-kept Inv-loop μ-loop
-mul-kept c = omega arith
-
-element-write-kept : tie.Need-element-write-kept Inv-loop μ-loop
-element-write-kept c = omega arith
-
-add-k : tie.Need-add-k Inv-loop μ-loop
-add-k c = omega arith
-
 add-first : tie.Need-add-first Inv-loop μ-loop
 add-first c =
     let start = c .before .before .before .before .before .before .before .before .before .before .before .before in
     let is = c .before .before .before .before .before .before .before .table-place .ensures in
     omega (arith, row-room _ _ _ _ (start .pre .0) _ is _ _ (c .before .before .before .before .if1 .taken) (c .before .before .before .before .before .before .loop .inv .2))
-
-add-row : tie.Need-add-row Inv-loop μ-loop
-add-row c = omega arith
-
-loop-less : tie.Need-loop-less Inv-loop μ-loop
-loop-less c = omega arith
 
 loop-again : tie.Need-loop-again Inv-loop μ-loop
 loop-again c =
@@ -99,16 +76,16 @@ keep-rows-spec =
     Inv-loop
     μ-loop
     read16-requires
-    table-place-requires
+    (λ c κs. omega arith)
     loop-holds
-    array-write-w
+    (λ c. omega arith)
     run-entry-requires
-    cast-kept
-    mul-kept
-    element-write-kept
-    add-k
+    (λ c. omega arith)
+    (λ c. omega arith)
+    (λ c. omega arith)
+    (λ c. omega arith)
     add-first
-    add-row
-    loop-less
+    (λ c. omega arith)
+    (λ c. omega arith)
     loop-again
     returns)

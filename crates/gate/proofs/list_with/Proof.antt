@@ -7,40 +7,16 @@ use borrow.Author.Needs.{needs}
 use Rattle.gate.proofs.list_with.Statement.{statement}
 use Rattle.gate.proofs.list_with.Tie as tie
 
-prepare-requires : tie.Need-prepare-requires
-prepare-requires c κs = search needs
-
-enum-known-prepared : tie.Need-enum-known-prepared
-enum-known-prepared c = search needs
-
-same-length : tie.Need-same-length
-same-length c = search needs
-
 returns : tie.Need-returns
 returns c = list-refused _ _ _ (c .before .before .before .before .before .prepare .ensures .0) _ _ (c .before .prepared .given .1)
 
-enum-told : tie.Need-enum-told
-enum-told c = search needs
-
 keep-rows-requires : tie.Need-keep-rows-requires
 keep-rows-requires c κs = (c .before .before .before .before .before .before .before .prepare .ensures .1 (c .before .before .before .enum-told .given .1), refl)
-
-same-length-2 : tie.Need-same-length-2
-same-length-2 c = search needs
 
 returns-2 : tie.Need-returns-2
 returns-2 c =
     let told = c .before .before .before .before .before in
     list-short _ _ _ (told .before .before .before .before .prepare .ensures .0) _ _ (told .enum-told .given .1) (c .before .keep-rows .ensures .1 .0) (c .if1 .taken)
-
-copy-rows-requires : tie.Need-copy-rows-requires
-copy-rows-requires c κs = search needs
-
-same-length-3 : tie.Need-same-length-3
-same-length-3 c = search needs
-
-same-length-4 : tie.Need-same-length-4
-same-length-4 c = search needs
 
 returns-3 : tie.Need-returns-3
 returns-3 c =
@@ -60,15 +36,15 @@ pub list-with-spec : {M : Type 1} → statement M
 list-with-spec =
     tie.close
     (tie.spec
-    prepare-requires
-    enum-known-prepared
-    same-length
+    (λ c κs. search needs)
+    (λ c. search needs)
+    (λ c. search needs)
     returns
-    enum-told
+    (λ c. search needs)
     keep-rows-requires
-    same-length-2
+    (λ c. search needs)
     returns-2
-    copy-rows-requires
-    same-length-3
-    same-length-4
+    (λ c κs. search needs)
+    (λ c. search needs)
+    (λ c. search needs)
     returns-3)

@@ -7,23 +7,8 @@ use borrow.Author.Needs.{needs}
 use Rattle.gate.proofs.prepare.Statement.{statement}
 use Rattle.gate.proofs.prepare.Tie as tie
 
-check-tables-requires : tie.Need-check-tables-requires
-check-tables-requires c κs = search needs
-
-enum-known-valid : tie.Need-enum-known-valid
-enum-known-valid c = search needs
-
 returns : tie.Need-returns
 returns c = (prepare-tables _ _ _ _ (c .before .valid .given .1) (c .before .before .before .check-tables .ensures), not-ready _)
-
-enum-told : tie.Need-enum-told
-enum-told c = search needs
-
-is-sound-requires : tie.Need-is-sound-requires
-is-sound-requires c κs = search needs
-
-same-length : tie.Need-same-length
-same-length c = search needs
 
 returns-2 : tie.Need-returns-2
 returns-2 c =
@@ -37,9 +22,6 @@ fits-tables-requires c κs =
     let sound = sym (c .before .before .before .is-sound .ensures .0) ∙ not-false _ (c .if1 .left) in
     (laid-out _ sound, checked-sized _ _ (told .enum-told .given .1) (told .before .before .check-tables .ensures))
 
-same-length-2 : tie.Need-same-length-2
-same-length-2 c = search needs
-
 returns-3 : tie.Need-returns-3
 returns-3 c =
     let told = c .before .before .before .before .before .before .before in
@@ -51,9 +33,6 @@ places-requires : tie.Need-places-requires
 places-requires c κs =
     let told = c .before .before .before .before .before .before .before .before in
     (checked-sized _ _ (told .enum-told .given .1) (told .before .before .check-tables .ensures), told .before .before .before .before .before .before .pre .1)
-
-same-length-3 : tie.Need-same-length-3
-same-length-3 c = search needs
 
 returns-4 : tie.Need-returns-4
 returns-4 c =
@@ -76,16 +55,16 @@ pub prepare-spec : {M : Type 1} → statement M
 prepare-spec =
     tie.close
     (tie.spec
-    check-tables-requires
-    enum-known-valid
+    (λ c κs. search needs)
+    (λ c. search needs)
     returns
-    enum-told
-    is-sound-requires
-    same-length
+    (λ c. search needs)
+    (λ c κs. search needs)
+    (λ c. search needs)
     returns-2
     fits-tables-requires
-    same-length-2
+    (λ c. search needs)
     returns-3
     places-requires
-    same-length-3
+    (λ c. search needs)
     returns-4)

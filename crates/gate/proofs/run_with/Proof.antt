@@ -1,32 +1,14 @@
-use mathlib.Core.Path.{refl, sym, _∙_}
+use mathlib.Core.Path.{refl}
 use mathlib.Core.Bool.{true, false}
 use native.Mathlib.Omega.{arith}
-use Rattle.gate.proofs.Calls.{run-refused, run-no-row, run-says}
-use Rattle.gate.proofs.Judged.{laid-out, one-rows, row-room, judged, judged-says}
+use Rattle.gate.proofs.Calls.{run-refused, run-no-row}
+use Rattle.gate.proofs.Judged.{laid-out, one-rows, row-room, judged, judged-run}
 use borrow.Author.Needs.{needs}
 use Rattle.gate.proofs.run_with.Statement.{statement}
 use Rattle.gate.proofs.run_with.Tie as tie
 
-prepare-requires : tie.Need-prepare-requires
-prepare-requires c κs = search needs
-
-enum-known-prepared : tie.Need-enum-known-prepared
-enum-known-prepared c = search needs
-
-same-length : tie.Need-same-length
-same-length c = search needs
-
 returns : tie.Need-returns
 returns c = run-refused _ _ _ (c .before .before .before .before .before .prepare .ensures .0) _ _ (c .before .prepared .given .1)
-
-enum-told : tie.Need-enum-told
-enum-told c = search needs
-
-table-place-requires : tie.Need-table-place-requires
-table-place-requires c κs = search needs
-
-same-length-2 : tie.Need-same-length-2
-same-length-2 c = search needs
 
 returns-2 : tie.Need-returns-2
 returns-2 c =
@@ -51,50 +33,38 @@ run-entry-requires c κs =
     let o = test .before .before .before .before .before .before .before .before .prepare .ensures .1 (test .before .before .before .before .enum-told .given .1) in
     judged _ _ _ _ o _ (test .before .before .table-place .ensures) _ _ (test .if1 .left) refl _ _ (c .before .before .before .before .read16 .ensures .0) refl refl
 
-same-length-3 : tie.Need-same-length-3
-same-length-3 c = search needs
-
 returns-3 : tie.Need-returns-3
 returns-3 c =
     let test = c .before .before .before .before .before .before .before in
     let p = test .before .before .before .before .before .before .before .before .prepare .ensures in
     let ready = test .before .before .before .before .enum-told .given .1 in
-    let o = p .1 ready in
-    let is = test .before .before .table-place .ensures in
-    let whole = c .before .before .before .before .before .before .read16 .ensures .0 in
-    let says = judged-says _ _ _ _ o _ is _ _ (test .if1 .left) refl _ _ whole refl refl _ (c .before .run-entry .ensures) in
-    run-says _ _ _ (p .0) _ true ready (omega (arith, one-rows _ _ _ _ o _ is)) (sym (c .if2 .taken) ∙ says)
-
-same-length-4 : tie.Need-same-length-4
-same-length-4 c = search needs
+    judged-run _ _ _ _ (p .1 ready) _ (test .before .before .table-place .ensures) _ _ (test .if1 .left) refl _ _ (c .before .before .before .before .before .before .read16 .ensures .0) refl refl
+    _ (p .0) ready _ true (c .before .run-entry .ensures) (c .if2 .taken)
 
 returns-4 : tie.Need-returns-4
 returns-4 c =
     let test = c .before .before .before .before .before .before .before in
     let p = test .before .before .before .before .before .before .before .before .prepare .ensures in
     let ready = test .before .before .before .before .enum-told .given .1 in
-    let o = p .1 ready in
-    let is = test .before .before .table-place .ensures in
-    let whole = c .before .before .before .before .before .before .read16 .ensures .0 in
-    let says = judged-says _ _ _ _ o _ is _ _ (test .if1 .left) refl _ _ whole refl refl _ (c .before .run-entry .ensures) in
-    run-says _ _ _ (p .0) _ false ready (omega (arith, one-rows _ _ _ _ o _ is)) (sym (c .if2 .left) ∙ says)
+    judged-run _ _ _ _ (p .1 ready) _ (test .before .before .table-place .ensures) _ _ (test .if1 .left) refl _ _ (c .before .before .before .before .before .before .read16 .ensures .0) refl refl
+    _ (p .0) ready _ false (c .before .run-entry .ensures) (c .if2 .left)
 
 pub run-with-spec : {M : Type 1} → statement M
 run-with-spec =
     tie.close
     (tie.spec
-    prepare-requires
-    enum-known-prepared
-    same-length
+    (λ c κs. search needs)
+    (λ c. search needs)
+    (λ c. search needs)
     returns
-    enum-told
-    table-place-requires
-    same-length-2
+    (λ c. search needs)
+    (λ c κs. search needs)
+    (λ c. search needs)
     returns-2
     read16-requires
     mul-t18
     run-entry-requires
-    same-length-3
+    (λ c. search needs)
     returns-3
-    same-length-4
+    (λ c. search needs)
     returns-4)

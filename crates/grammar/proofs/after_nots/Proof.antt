@@ -18,9 +18,6 @@ loop-holds c =
     let start = c .before in
     negated-none (start .args .s .now) (start .args .at) (start .pre .1)
 
-token-requires : tie.Need-token-requires Inv-loop μ-loop
-token-requires c κs = search needs
-
 add-i : tie.Need-add-i Inv-loop μ-loop
 add-i c = omega (arith, c .before .token .ensures .1 (omega arith))
 
@@ -42,4 +39,4 @@ returns c =
 pub after-nots-spec : {M : Type 1} → statement M
 after-nots-spec =
     tie.close
-    (tie.spec Inv-loop μ-loop loop-holds token-requires add-i loop-less loop-again returns)
+    (tie.spec Inv-loop μ-loop loop-holds (λ c κs. search needs) add-i loop-less loop-again returns)

@@ -3,34 +3,19 @@ use mathlib.Core.Path.{_≡_}
 use native.Mathlib.Omega.{arith}
 use borrow.Author.Needs.{needs}
 use lib.ListN.{length}
-use Rattle.grammar.specs.Code.{notNumbers}
+use Rattle.grammar.specs.Code.{notesSize, notNumbers}
 use Rattle.grammar.proofs.Noting.{Noted, no-nots-noted, one-noted, not-noted}
 use Rattle.grammar.proofs.note_nots.Statement.{statement}
 use Rattle.grammar.proofs.note_nots.Tie as tie
 
 abbrev Inv-loop : tie.InvT-loop
-Inv-loop out₀ w k j₀ out j = (j ≤ k) × (length out ≡ 512) × Noted out₀ out w (w + j) (notNumbers j)
+Inv-loop out₀ w k j₀ out j = (j ≤ k) × (length out ≡ notesSize) × Noted out₀ out w (w + j) (notNumbers j)
 
 abbrev μ-loop : tie.MeasureT-loop
 μ-loop out₀ w k j₀ out j = k - j
 
 loop-holds : tie.Need-loop-holds Inv-loop μ-loop
 loop-holds c = (omega arith, c .pre .0, no-nots-noted (c .args .out .now) (c .args .w) (c .args .w + 0) (omega arith))
-
-add-note-part : tie.Need-add-note-part Inv-loop μ-loop
-add-note-part c = search needs
-
-plain-note-requires : tie.Need-plain-note-requires Inv-loop μ-loop
-plain-note-requires c κs = search needs
-
-note-part-requires : tie.Need-note-part-requires Inv-loop μ-loop
-note-part-requires c κs = search needs
-
-add-j : tie.Need-add-j Inv-loop μ-loop
-add-j c = search needs
-
-loop-less : tie.Need-loop-less Inv-loop μ-loop
-loop-less c = search needs
 
 loop-again : tie.Need-loop-again Inv-loop μ-loop
 loop-again c =
@@ -51,10 +36,10 @@ note-nots-spec =
     Inv-loop
     μ-loop
     loop-holds
-    add-note-part
-    plain-note-requires
-    note-part-requires
-    add-j
-    loop-less
+    (λ c. search needs)
+    (λ c κs. search needs)
+    (λ c κs. search needs)
+    (λ c. search needs)
+    (λ c. search needs)
     loop-again
     returns)

@@ -3,15 +3,6 @@ use Rattle.grammar.proofs.Tests.{all-not, all-reads, all-more}
 use Rattle.grammar.proofs.read_tokens.Statement.{statement}
 use Rattle.grammar.proofs.read_tokens.Tie as tie
 
-read-condition-requires : tie.Need-read-condition-requires
-read-condition-requires c κs = search needs
-
-enum-known-at : tie.Need-enum-known-at
-enum-known-at c = search needs
-
-enum-told : tie.Need-enum-told
-enum-told c = search needs
-
 returns : tie.Need-returns
 returns c =
     let b = c .before .before in
@@ -30,4 +21,4 @@ returns-3 c =
 pub read-tokens-spec : {M : Type 1} → statement M
 read-tokens-spec =
     tie.close
-    (tie.spec read-condition-requires enum-known-at enum-told returns returns-2 returns-3)
+    (tie.spec (λ c κs. search needs) (λ c. search needs) (λ c. search needs) returns returns-2 returns-3)

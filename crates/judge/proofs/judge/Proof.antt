@@ -15,11 +15,11 @@ enum-told c = search needs
 enum-told-2 : tie.Need-enum-told-2
 enum-told-2 c = search needs
 
-passed-up-requires : tie.Need-passed-up-requires
-passed-up-requires c κs = search needs
+refusal-requires : tie.Need-refusal-requires
+refusal-requires c κs = search needs
 
 returns : tie.Need-returns
-returns c = judge-refused _ _ _ (c .before .before .before .parse .result) _ _ (c .before .before .before .parse .ensures .0) (c .before .enum-told2 .given .1) (c .passed-up .ensures)
+returns c = judge-refused _ _ _ (c .before .before .before .parse .result) _ _ (c .before .before .before .parse .ensures .0) (c .before .enum-told2 .given .1) (c .refusal .ensures)
 
 places-requires : tie.Need-places-requires
 places-requires c κs =
@@ -38,8 +38,8 @@ returns-2 c =
     let is = c .before .before .before .before .before .before .enum-told .given .1 in
     judge-no-row _ _ _ (parse .result) (parse .last .1 .1 .0) _ told is _ (c .before .before .before .before .places .ensures) (c .before .before .table-place .ensures) (c .if1 .taken)
 
-mul-t16 : tie.Need-mul-t16
-mul-t16 c =
+mul-t17 : tie.Need-mul-t17
+mul-t17 c =
     let parse = c .before .before .before .before .before .before .before .before .before .parse in
     let told = parse .ensures .1 .0 in
     let is = c .before .before .before .before .before .before .before .enum-told .given .1 in
@@ -70,12 +70,12 @@ judge-spec =
     parse-requires
     enum-told
     enum-told-2
-    passed-up-requires
+    refusal-requires
     returns
     places-requires
     table-place-requires
     returns-2
-    mul-t16
+    mul-t17
     evaluate-part-requires
     judged-by-requires
     returns-3)

@@ -3,6 +3,8 @@ use mathlib.Core.Logic.{⊎-elim, inl, inr}
 use Prim.Native.Nat.{_-_, _≤_}
 use native.Mathlib.Omega.{arith}
 use lib.ListN.{length}
+use Rattle.rule.specs.Tokens.{Open, Close}
+use Rattle.lexer.specs.Code.{codeOf}
 use Rattle.lexer.proofs.Counting.{Kept, kept-most, Same-fit, fit-no, fit-more, fit-yes}
 use Rattle.lexer.proofs.brackets_fit.Statement.{statement}
 use Rattle.lexer.proofs.brackets_fit.Tie as tie
@@ -16,18 +18,6 @@ abbrev μ-loop : tie.MeasureT-loop
 loop-holds : tie.Need-loop-holds Inv-loop μ-loop
 loop-holds c = (omega arith, omega arith, omega arith, refl)
 
-mul-t : tie.Need-mul-t Inv-loop μ-loop
-mul-t c = omega arith
-
-shared-slice-read-t : tie.Need-shared-slice-read-t Inv-loop μ-loop
-shared-slice-read-t c = omega arith
-
-add-opened : tie.Need-add-opened Inv-loop μ-loop
-add-opened c = omega arith
-
-add-closed : tie.Need-add-closed Inv-loop μ-loop
-add-closed c = omega arith
-
 add-if3 : tie.Need-add-if3 Inv-loop μ-loop
 add-if3 c = ⊎-elim (λ w. omega arith) (λ w. omega arith) (c .before .if2 .came)
 
@@ -35,29 +25,23 @@ returns : tie.Need-returns Inv-loop μ-loop
 returns c =
     let loop = c .before .before .before .before .before .before .loop in
     let tokens = c .before .before .before .before .before .before .before .args .tokens .now in
-    let opened : Kept 13 _ (loop .opened) (c .before .before .before .if1 .opened) =
+    let opened : Kept (codeOf Open) _ (loop .opened) (c .before .before .before .if1 .opened) =
     ⊎-elim (λ w. inl (w .0 .taken, w .1)) (λ w. inr (w .0 .left, w .1)) (c .before .before .before .if1 .came) in
-    let closed : Kept 14 _ (loop .closed) (c .before .before .if2 .closed) =
+    let closed : Kept (codeOf Close) _ (loop .closed) (c .before .before .if2 .closed) =
     ⊎-elim (λ w. inl (w .0 .taken, w .1)) (λ w. inr (w .0 .left, w .1)) (c .before .before .if2 .came) in
     fit-no tokens (loop .k) _ _ _ _ _ (omega arith) refl opened closed (loop .inv .3) (c .if3 .taken)
-
-add-k : tie.Need-add-k Inv-loop μ-loop
-add-k c = omega arith
-
-loop-less : tie.Need-loop-less Inv-loop μ-loop
-loop-less c = omega arith
 
 loop-again : tie.Need-loop-again Inv-loop μ-loop
 loop-again c =
     let loop = c .before .before .before .before .before .before .loop in
     let tokens = c .before .before .before .before .before .before .before .args .tokens .now in
-    let opened : Kept 13 _ (loop .opened) (c .before .before .before .if1 .opened) =
+    let opened : Kept (codeOf Open) _ (loop .opened) (c .before .before .before .if1 .opened) =
     ⊎-elim (λ w. inl (w .0 .taken, w .1)) (λ w. inr (w .0 .left, w .1)) (c .before .before .before .if1 .came) in
-    let closed : Kept 14 _ (loop .closed) (c .before .before .if2 .closed) =
+    let closed : Kept (codeOf Close) _ (loop .closed) (c .before .before .if2 .closed) =
     ⊎-elim (λ w. inl (w .0 .taken, w .1)) (λ w. inr (w .0 .left, w .1)) (c .before .before .if2 .came) in (
       omega arith,
-      omega (arith, kept-most 13 _ _ _ opened),
-      omega (arith, kept-most 14 _ _ _ closed),
+      omega (arith, kept-most (codeOf Open) _ _ _ opened),
+      omega (arith, kept-most (codeOf Close) _ _ _ closed),
       fit-more tokens (loop .k) _ _ _ _ _ (omega arith) refl opened closed (loop .inv .3) (omega arith),
     )
 
@@ -71,13 +55,13 @@ brackets-fit-spec =
     Inv-loop
     μ-loop
     loop-holds
-    mul-t
-    shared-slice-read-t
-    add-opened
-    add-closed
+    (λ c. omega arith)
+    (λ c. omega arith)
+    (λ c. omega arith)
+    (λ c. omega arith)
     add-if3
     returns
-    add-k
-    loop-less
+    (λ c. omega arith)
+    (λ c. omega arith)
     loop-again
     returns-2)

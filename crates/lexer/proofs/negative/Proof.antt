@@ -1,60 +1,26 @@
-use mathlib.Core.Path.{_≡_}
-use Prim.Native.Nat.{_-_}
 use native.Mathlib.Omega.{arith}
 use lib.IntN.{pos, negℤ}
-use lib.ListN.{length, drop}
-use Rattle.tables.specs.Bytes.{between}
-use Rattle.rule.specs.Tokens.{takeWhile}
 use Rattle.lexer.proofs.Numbers.{number-length, number-out, number-found, code-below, range-below, range-out}
 use borrow.Author.Needs.{needs}
 use Rattle.lexer.proofs.negative.Statement.{statement}
 use Rattle.lexer.proofs.negative.Tie as tie
 
-spell-run-requires : tie.Need-spell-run-requires
-spell-run-requires c κs = search needs
-
 returns : tie.Need-returns
-returns c =
-    let start = c .before .before .before .before in
-    let run = c .before .before .spell-run in
-    let l = drop (start .args .i) (start .args .text .now) in
-    let long : run .result .end - start .args .i ≡ length (takeWhile (between 48 57) l) = omega (arith, run .ensures .ends) in
-    number-length (λ n. negℤ (pos n)) 1 l _ _ long (λ low high. omega arith)
-
-sub-if2 : tie.Need-sub-if2
-sub-if2 c = search needs
+returns c = number-length (λ n. negℤ (pos n)) 1 _ _ _ (c .before .before .spell-run .ensures) (λ low high. omega arith)
 
 returns-2 : tie.Need-returns-2
-returns-2 c =
-    let start = c .before .before .before .before .before .before in
-    let run = c .before .before .before .before .spell-run in
-    let l = drop (start .args .i) (start .args .text .now) in
-    let long : run .result .end - start .args .i ≡ length (takeWhile (between 48 57) l) = omega (arith, run .ensures .ends) in
-    number-length (λ n. negℤ (pos n)) 1 l _ _ long (λ low high. omega arith)
+returns-2 c = number-length (λ n. negℤ (pos n)) 1 _ _ _ (c .before .before .before .before .spell-run .ensures) (λ low high. omega arith)
 
 returns-3 : tie.Need-returns-3
-returns-3 c =
-    let start = c .before .before .before .before .before .before .before .before in
-    let run = c .before .before .before .before .before .before .spell-run in
-    let l = drop (start .args .i) (start .args .text .now) in
-    let long : run .result .end - start .args .i ≡ length (takeWhile (between 48 57) l) = omega (arith, run .ensures .ends) in
-    number-out (λ n. negℤ (pos n)) 1 l _ _ long _ (run .ensures .spells (c .before .before .if2 .left)) (omega arith) (omega arith) (range-out _ (c .if3 .taken))
-
-add-t5 : tie.Need-add-t5
-add-t5 c = search needs
-
-sub-t6 : tie.Need-sub-t6
-sub-t6 c = search needs
+returns-3 c = number-out (λ n. negℤ (pos n)) 1 _ _ _ (c .before .before .before .before .before .before .spell-run .ensures) (omega arith) (omega arith) (range-out _ (c .if3 .taken))
 
 returns-4 : tie.Need-returns-4
 returns-4 c =
-    let start = c .before .before .before .before .before .before .before .before .before in
     let run = c .before .before .before .before .before .before .before .spell-run in
-    let l = drop (start .args .i) (start .args .text .now) in
-    let long : run .result .end - start .args .i ≡ length (takeWhile (between 48 57) l) = omega (arith, run .ensures .ends) in
-    number-found (λ n. negℤ (pos n)) 1 l _ _ long _ (run .ensures .spells (c .before .before .before .if2 .left)) (omega arith) (omega arith) _ _ (range-below (run .result .number) (omega arith)) (code-below (run .result .number) (omega arith)) (omega arith)
+    let n = run .result .number in
+    number-found (λ n. negℤ (pos n)) 1 _ _ _ (run .ensures) (omega arith) (omega arith) _ _ (range-below n (omega arith)) (code-below n (omega arith)) (omega arith)
 
 pub negative-spec : {M : Type 1} → statement M
 negative-spec =
     tie.close
-    (tie.spec spell-run-requires returns sub-if2 returns-2 returns-3 add-t5 sub-t6 returns-4)
+    (tie.spec (λ c κs. search needs) returns (λ c. search needs) returns-2 returns-3 (λ c. search needs) (λ c. search needs) returns-4)

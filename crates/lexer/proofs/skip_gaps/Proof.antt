@@ -19,20 +19,11 @@ abbrev μ-loop : tie.MeasureT-loop
 loop-holds : tie.Need-loop-holds Inv-loop μ-loop
 loop-holds c = passed-none _ _ _ (omega arith)
 
-byte-requires : tie.Need-byte-requires Inv-loop μ-loop
-byte-requires c κs = omega arith
-
 returns : tie.Need-returns Inv-loop μ-loop
 returns c =
     let b = c .before .before .byte .result in
     let gap : isGap b ≡ false = rw (ne-eqb b 32 (c .before .if1 .taken), ne-eqb b 10 (c .if2 .taken)) in
     passed-stop _ _ _ _ b (c .before .before .before .before .loop .inv) (c .before .before .before .loop-test .taken) (c .before .before .byte .ensures .0) gap
-
-add-e : tie.Need-add-e Inv-loop μ-loop
-add-e c = omega arith
-
-loop-less : tie.Need-loop-less Inv-loop μ-loop
-loop-less c = omega arith
 
 loop-again : tie.Need-loop-again Inv-loop μ-loop
 loop-again c =
@@ -51,9 +42,9 @@ skip-gaps-spec =
     Inv-loop
     μ-loop
     loop-holds
-    byte-requires
+    (λ c κs. omega arith)
     returns
-    add-e
-    loop-less
+    (λ c. omega arith)
+    (λ c. omega arith)
     loop-again
     returns-2)

@@ -17,9 +17,6 @@ abbrev μ-loop : tie.MeasureT-loop
 loop-holds : tie.Need-loop-holds Inv-loop μ-loop
 loop-holds c = spelled-none _ _ _ _ _ _ _ (c .before .pre .0)
 
-byte-requires : tie.Need-byte-requires Inv-loop μ-loop
-byte-requires c κs = omega arith
-
 returns : tie.Need-returns Inv-loop μ-loop
 returns c =
     let start = c .before .before .before .before .before in
@@ -63,12 +60,6 @@ add-n c =
           (c .before .before .before .byte .ensures .0) (omega arith) (omega arith) (c .if3 .taken),
     )
 
-add-e : tie.Need-add-e Inv-loop μ-loop
-add-e c = omega arith
-
-loop-less : tie.Need-loop-less Inv-loop μ-loop
-loop-less c = omega arith
-
 loop-again : tie.Need-loop-again Inv-loop μ-loop
 loop-again c =
     let start = c .before .before .before .before .before .before .before in
@@ -96,14 +87,14 @@ spell-run-spec =
     Inv-loop
     μ-loop
     loop-holds
-    byte-requires
+    (λ c κs. omega arith)
     returns
     returns-2
     sub-if3
     mul-n
     sub-n
     add-n
-    add-e
-    loop-less
+    (λ c. omega arith)
+    (λ c. omega arith)
     loop-again
     returns-3)

@@ -14,20 +14,8 @@ Inv-loop text tokens₀ n₀ i₀ tokens n i = LexedTo text tokens (length token
 abbrev μ-loop : tie.MeasureT-loop
 μ-loop text tokens₀ n₀ i₀ tokens n i = length text - i
 
-skip-gaps-requires : tie.Need-skip-gaps-requires Inv-loop μ-loop
-skip-gaps-requires c κs = search needs
-
 loop-holds : tie.Need-loop-holds Inv-loop μ-loop
 loop-holds c = lexed-none (c .before .before .before .args .text .now) (c .before .before .before .args .tokens .now) (c .skip-gaps .result) (c .before .before .before .pre .1) (c .skip-gaps .ensures)
-
-first-token-requires : tie.Need-first-token-requires Inv-loop μ-loop
-first-token-requires c κs = search needs
-
-enum-known-code : tie.Need-enum-known-code Inv-loop μ-loop
-enum-known-code c = search needs
-
-enum-told : tie.Need-enum-told Inv-loop μ-loop
-enum-told c = search needs
 
 same-length : tie.Need-same-length Inv-loop μ-loop
 same-length c = c .before .before .before .before .loop .inv .room
@@ -40,15 +28,6 @@ returns c =
       lexed-stop (start .args .text .now) (loop .tokens) _ (loop .n) (loop .i) (loop .inv) (c .before .before .before .loop-test .taken) none-first,
       (loop .inv .room, tt),
     )
-
-mul-tokens : tie.Need-mul-tokens Inv-loop μ-loop
-mul-tokens c = omega arith
-
-slice-write-tokens : tie.Need-slice-write-tokens Inv-loop μ-loop
-slice-write-tokens c = omega arith
-
-add-n : tie.Need-add-n Inv-loop μ-loop
-add-n c = omega arith
 
 skip-gaps-requires-2 : tie.Need-skip-gaps-requires-2 Inv-loop μ-loop
 skip-gaps-requires-2 c κs =
@@ -94,16 +73,16 @@ tokenize-spec =
     (tie.spec
     Inv-loop
     μ-loop
-    skip-gaps-requires
+    (λ c κs. search needs)
     loop-holds
-    first-token-requires
-    enum-known-code
-    enum-told
+    (λ c κs. search needs)
+    (λ c. search needs)
+    (λ c. search needs)
     same-length
     returns
-    mul-tokens
-    slice-write-tokens
-    add-n
+    (λ c. omega arith)
+    (λ c. omega arith)
+    (λ c. omega arith)
     skip-gaps-requires-2
     loop-less
     loop-again

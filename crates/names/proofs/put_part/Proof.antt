@@ -1,6 +1,6 @@
--- Eight numbers are written one after the other.
-use mathlib.Core.Path.{_∙_}
-use Prim.Native.Nat.{_*_}
+-- The numbers are written one after the other.
+use mathlib.Core.Path.{refl, _∙_}
+use mathlib.Core.List.{[], _∷_}
 use borrow.Author.Needs.{needs}
 use Rattle.names.proofs.Putting.{put-written, put-length}
 use Rattle.names.proofs.put_part.Statement.{statement}
@@ -79,7 +79,11 @@ element-write-parts-8 : tie.Need-element-write-parts-8
 element-write-parts-8 c = search needs
 
 returns : tie.Need-returns
-returns c = (put-written _ _ _ _ _ _ _ _ (c .args .parts .now) (c .args .p) (c .pre .0) (c .pre .1), put-length _ _ _ _ _ _ _ _ (c .args .parts .now) (8 * c .args .p) ∙ c .pre .0)
+returns c =
+    let a = c .args in
+    let f = a .part in
+    let others = f .comparison ∷ f .table ∷ f .end ∷ f .«left_tag» ∷ f .«left_number» ∷ f .«right_tag» ∷ f .«right_number» ∷ [] in
+    (put-written (a .parts .now) (a .p) (f .kind) others refl (c .pre .0) (c .pre .1), put-length (a .parts .now) (a .p) (f .kind) others ∙ c .pre .0)
 
 pub put-part-spec : {M : Type 1} → statement M
 put-part-spec =

@@ -1,4 +1,12 @@
-use mathlib.Core.Path.{sym, _∙_}
+use mathlib.Core.Path.{_≡_, sym, _∙_}
+use mathlib.Core.Bool.{true}
+use mathlib.Core.List.{List}
+use Prim.Native.Nat.{ℕ}
+use lib.IntN.{pos}
+use lib.ListN.{length}
+use Rattle.rule.specs.Tokens.{opensFit}
+use Rattle.lexer.specs.Code.{tokensIn}
+use Rattle.grammar.specs.Code.{notesSize, WholeReading}
 use borrow.Author.Tests.{not-true, not-false}
 use Rattle.parser.proofs.Groups.{unfit-brackets, unread, read-whole, ungrammatical, too-many, too-deep, nameable, unnamed, parsed-tokens}
 use borrow.Author.Needs.{needs}
@@ -31,64 +39,54 @@ returns-2 c =
     let none = unread s _ _ (c .before .before .read-tokens .ensures .0) (c .enum-told .given .1) in
     (ungrammatical s (start .args .file .now) fits none, c .before .before .read-tokens .ensures .1)
 
+-- ---- once the tokens are read
+
+module _ (f : tie.After-count) where
+  abbrev start : tie.Start
+  start = f .before .before .before .before .before .before .before .before
+
+  abbrev tokens : List ℕ
+  tokens = start .args .s .now
+
+  abbrev file : List ℕ
+  file = start .args .file .now
+
+  abbrev notes : List ℕ
+  notes = f .before .before .read-tokens .last .1 .0
+
+  fits : opensFit (pos 0) (tokensIn tokens) ≡ true
+  fits = sym (f .before .before .before .before .before .brackets-fit .ensures) ∙ not-false _ (f .before .before .before .before .if1 .left)
+
+  whole : WholeReading tokens notes (f .count .given .0 .1 .0) (f .count .given .0 .1 .1 .0)
+  whole = read-whole tokens _ _ (f .before .before .read-tokens .ensures .0) _ _ _ (f .count .given .1)
+
+  size : length notes ≡ notesSize
+  size = f .before .before .read-tokens .ensures .1
+
 returns-3 : tie.Need-returns-3
-returns-3 c =
-    let found = c .before .before in
-    let start = found .before .before .before .before .before .before .before .before in
-    let s = start .args .s .now in
-    let file = start .args .file .now in
-    let fits = sym (found .before .before .before .before .before .brackets-fit .ensures) ∙ not-false _ (found .before .before .before .before .if1 .left) in
-    let whole = read-whole s _ _ (found .before .before .read-tokens .ensures .0) _ _ _ (found .count .given .1) in
-    (too-many s file fits _ _ _ whole (c .if2 .taken), found .before .before .read-tokens .ensures .1)
+returns-3 c = let f = c .before .before in (too-many (tokens f) (file f) (fits f) _ _ _ (whole f) (c .if2 .taken), size f)
 
 returns-4 : tie.Need-returns-4
-returns-4 c =
-    let found = c .before .before .before in
-    let start = found .before .before .before .before .before .before .before .before in
-    let s = start .args .s .now in
-    let file = start .args .file .now in
-    let fits = sym (found .before .before .before .before .before .brackets-fit .ensures) ∙ not-false _ (found .before .before .before .before .if1 .left) in
-    let whole = read-whole s _ _ (found .before .before .read-tokens .ensures .0) _ _ _ (found .count .given .1) in
-    (too-deep s file fits _ _ _ whole (c .before .if2 .left) (c .if3 .taken), found .before .before .read-tokens .ensures .1)
+returns-4 c = let f = c .before .before .before in (too-deep (tokens f) (file f) (fits f) _ _ _ (whole f) (c .before .if2 .left) (c .if3 .taken), size f)
 
 name-noted-requires : tie.Need-name-noted-requires
 name-noted-requires c κs =
-    let found = c .before .before .before .before in
-    let start = found .before .before .before .before .before .before .before .before in
-    let s = start .args .s .now in
-    let file = start .args .file .now in
-    let fits = sym (found .before .before .before .before .before .brackets-fit .ensures) ∙ not-false _ (found .before .before .before .before .if1 .left) in
-    let whole = read-whole s _ _ (found .before .before .read-tokens .ensures .0) _ _ _ (found .count .given .1) in
-    let size = found .before .before .read-tokens .ensures .1 in
-    (nameable s file fits _ _ _ whole (start .pre .1 .0) size (c .before .before .if2 .left) (c .before .if3 .left), size)
+    let f = c .before .before .before .before in
+    (nameable (tokens f) (file f) (fits f) _ _ _ (whole f) (start f .pre .1 .0) (size f) (c .before .before .if2 .left) (c .before .if3 .left), size f)
 
 returns-5 : tie.Need-returns-5
 returns-5 c =
-    let found = c .before .before .before .before .before .before in
-    let start = found .before .before .before .before .before .before .before .before in
-    let s = start .args .s .now in
-    let file = start .args .file .now in
-    let fits = sym (found .before .before .before .before .before .brackets-fit .ensures) ∙ not-false _ (found .before .before .before .before .if1 .left) in
-    let whole = read-whole s _ _ (found .before .before .read-tokens .ensures .0) _ _ _ (found .count .given .1) in
-    let size = found .before .before .read-tokens .ensures .1 in
-    let named = c .before .name-noted in
-    let unnamed-is = not-true (named .result) (c .if4 .taken) in (
-      unnamed s file fits _ _ _ whole (start .pre .1 .0) size (c .before .before .before .before .if2 .left) (c .before .before .before .if3 .left) (named .last .1 .1 .0) (named .result) unnamed-is (named .ensures .0),
+    let f = c .before .before .before .before .before .before in
+    let named = c .before .name-noted in (
+      unnamed (tokens f) (file f) (fits f) _ _ _ (whole f) (start f .pre .1 .0) (size f) (c .before .before .before .before .if2 .left) (c .before .before .before .if3 .left) (named .last .1 .1 .0) (named .result) (not-true (named .result) (c .if4 .taken)) (named .ensures .0),
       named .ensures .1,
     )
 
 returns-6 : tie.Need-returns-6
 returns-6 c =
-    let found = c .before .before .before .before .before .before in
-    let start = found .before .before .before .before .before .before .before .before in
-    let s = start .args .s .now in
-    let file = start .args .file .now in
-    let fits = sym (found .before .before .before .before .before .brackets-fit .ensures) ∙ not-false _ (found .before .before .before .before .if1 .left) in
-    let whole = read-whole s _ _ (found .before .before .read-tokens .ensures .0) _ _ _ (found .count .given .1) in
-    let size = found .before .before .read-tokens .ensures .1 in
-    let named = c .before .name-noted in
-    let named-is = not-false (named .result) (c .if4 .left) in (
-      parsed-tokens s file fits _ _ _ whole (start .pre .1 .0) size (c .before .before .before .before .if2 .left) (c .before .before .before .if3 .left) (named .last .1 .1 .0) (named .result) named-is (named .ensures .1) (named .ensures .0),
+    let f = c .before .before .before .before .before .before in
+    let named = c .before .name-noted in (
+      parsed-tokens (tokens f) (file f) (fits f) _ _ _ (whole f) (start f .pre .1 .0) (size f) (c .before .before .before .before .if2 .left) (c .before .before .before .if3 .left) (named .last .1 .1 .0) (named .result) (not-false (named .result) (c .if4 .left)) (named .ensures .1) (named .ensures .0),
       named .ensures .1,
     )
 

@@ -50,6 +50,7 @@ use denote.Signature.{plain}
 use Rattle.rule.specs.declared.Part.{Part}
 use Rattle.rule.specs.Calls.{readCall}
 use Rattle.rule.proofs.Part as T
+use Rattle.names.specs.Code.{partSize, partsSize}
 use Rattle.parser.specs.Parts.{partsIn, SmallParts}
 use Rattle.reader.specs.Answers.{readAnswer}
 use Rattle.reader.specs.Code.{storedBy, ReadTo}
@@ -83,11 +84,11 @@ stayed = (
 -- ---- what the answer says of the parts to write
 
 abbrev zeros : List ℕ
-zeros = replicate 512 0
+zeros = replicate partsSize 0
 
 module _ (text file : List ℕ) (old : List Part) (new : List ℕ) (r : Reading) (c : ℕ) (told : ReadTo text file (length old) new r) (e : c ≡ storedBy r) where
   -- they can be written
-  may-write : length new ≡ 512 → (c ≤ length old) × ((8 * c ≤ length new) × SmallParts new c)
+  may-write : length new ≡ partsSize → (c ≤ length old) × ((partSize * c ≤ length new) × SmallParts new c)
   may-write h = (omega (arith, e, told .fits), (omega (arith, e, h, told .few), subst (SmallParts new) (sym e) (told .small)))
 
   -- the list then is as READ leaves it
@@ -158,7 +159,7 @@ module _ {M : Type 1} (𝓤 : URA M) (H : Heap 𝓤) (A : Atoms 𝓤) (W : Given
   nums l δ = record { ptr = (l, 0); name = δ; now = zeros }
 
   abbrev Ref : ℕ → ℕ → GName → Fml
-  Ref l ν δ = MutRef (named 2) (ν ∷ []) (Array usize 512) .own (nums l δ) (vptr l 0 ∷ [])
+  Ref l ν δ = MutRef (named 2) (ν ∷ []) (Array usize partsSize) .own (nums l δ) (vptr l 0 ∷ [])
 
   abbrev to-numbers : ℕ → ℕ → GName → Numbers 𝓤 H A mem′ run .Ghost
   to-numbers l ν δ = (
@@ -176,7 +177,7 @@ module _ {M : Type 1} (𝓤 : URA M) (H : Heap 𝓤) (A : Atoms 𝓤) (W : Given
       → ent 𝓤 (sep 𝓤 (sep 𝓤 (sep 𝓤 (A .lft κ q) (A .lft κ₁ q₁)) (A .lft (ν ∷ []) fullShare)) (sep 𝓤 (sep 𝓤 (sem 𝓤 H A Own) (sem 𝓤 H A Own₁)) (sem 𝓤 H A (Ref l ν δ))))
       (Numbers 𝓤 H A mem′ run .pre (to-numbers l ν δ))
   goes-numbers l ν δ fits =
-      qed W (((‵ (flft κ q) ⊛ ‵ (flft κ₁ q₁)) ⊛ ‵ (flft (ν ∷ []) fullShare)) ∷ (‵ Own ⊛ ‵ Own₁) ∷ ‵ (Ref l ν δ) ∷ []) ∵ says ! (length-replicate {A = ℕ} 512 0) $
+      qed W (((‵ (flft κ q) ⊛ ‵ (flft κ₁ q₁)) ⊛ ‵ (flft (ν ∷ []) fullShare)) ∷ (‵ Own ⊛ ‵ Own₁) ∷ ‵ (Ref l ν δ) ∷ []) ∵ says ! (length-replicate {A = ℕ} partsSize 0) $
       split ! $ split ! $ nothing ! $ move ! (3 ∷ 0 ∷ []) $ join ! $ move ! (2 ∷ 0 ∷ []) $ join ! $ move ! (1 ∷ 0 ∷ []) $ join ! $ frame ! $
       split ! $ nothing ! $ owned ! usize (Is usize) (uint-makes 𝓤 H A W w64) (length ys) _ (refl, fits) $ fjoin ! $ move ! (3 ∷ 0 ∷ []) $ fjoin ! $
       move ! (2 ∷ 0 ∷ []) $ fjoin ! $ move ! (1 ∷ 0 ∷ []) $ fjoin ! $ done !
@@ -196,7 +197,7 @@ module _ {M : Type 1} (𝓤 : URA M) (H : Heap 𝓤) (A : Atoms 𝓤) (W : Given
   given l hs ε = slice w64 𝓤 H A W l hs ε
 
   abbrev Nums : ℕ → ℕ → List ℕ → GName → Fml
-  Nums l μ hs ε = ShrSlice (named 1) (μ ∷ []) usize .own (given l hs ε) (sliceVal (l, 0) 512 ∷ [])
+  Nums l μ hs ε = ShrSlice (named 1) (μ ∷ []) usize .own (given l hs ε) (sliceVal (l, 0) partsSize ∷ [])
 
   abbrev to-write : ℕ → ℕ → List ℕ → GName → ℕ → Write 𝓤 H A mem′ run .Ghost
   to-write l μ hs ε c = (
@@ -205,12 +206,12 @@ module _ {M : Type 1} (𝓤 : URA M) (H : Heap 𝓤) (A : Atoms 𝓤) (W : Given
       (q₂, (fullShare, tt)),
       tt,
       (x, (given l hs ε, (c, tt))),
-      (s ∷ [], (sliceVal (l, 0) 512 ∷ [], (vint w64 c ∷ [], tt))),
+      (s ∷ [], (sliceVal (l, 0) partsSize ∷ [], (vint w64 c ∷ [], tt))),
     ),
     tt,
   )
 
-  goes-write : (l μ : ℕ) (hs : List ℕ) (ε : GName) (c : ℕ) → c < 2 ^ 64 → (c ≤ length ys) × ((8 * c ≤ length hs) × SmallParts hs c)
+  goes-write : (l μ : ℕ) (hs : List ℕ) (ε : GName) (c : ℕ) → c < 2 ^ 64 → (c ≤ length ys) × ((partSize * c ≤ length hs) × SmallParts hs c)
       → ent 𝓤 (sep 𝓤 (sep 𝓤 (A .lft κ₂ q₂) (A .lft (μ ∷ []) fullShare)) (sep 𝓤 (sem 𝓤 H A Lent) (sem 𝓤 H A (Nums l μ hs ε))))
       (Write 𝓤 H A mem′ run .pre (to-write l μ hs ε c))
   goes-write l μ hs ε c fits may =
@@ -237,17 +238,17 @@ module _ {M : Type 1} (𝓤 : URA M) (H : Heap 𝓤) (A : Atoms 𝓤) (W : Given
         pass1 ! (init ! 20 refl (tt, (tt, (record { fits = room .0 }, tt)))) $ pass0 ! $
         -- [_13; …; _12; …; _11; …; _10; …; _9; …; _8; …; _7; …; _6; …; _5; …; _4; …; _3; …; _2; …; _1; …; room for _0; …;
         -- the tokens; text; file; parts]
-        assigns ! (rep ! 512 (lit ! tt)) (from ! (stop !))
-        (init ! 18 refl (array-lawful 𝓤 H A W usize (uint-lawful 𝓤 H A W w64) 512 .typed zeros _ (repeated w64 512 0 (lit< tt)) .0)) $
+        assigns ! (rep ! partsSize (lit ! tt)) (from ! (stop !))
+        (init ! 18 refl (array-lawful 𝓤 H A W usize (uint-lawful 𝓤 H A W w64) partsSize .typed zeros _ (repeated w64 partsSize 0 (lit< tt)) .0)) $
         assigns ! (of-opd ! (load ! (from ! (fld ! refl (stop !))) (look-in ! 20 (sub ! 1 refl (whole !))))) (from ! (stop !))
         (init ! 16 refl (tt, record { fits = room .0 })) $
         assigns ! (addr ! (from ! (stop !))) (from ! (stop !)) (init ! 10 refl (tt, tt)) $
         -- the array is lent to `read_numbers`, for ν
         move ! (18 ∷ []) $
-        owned ! (Array usize 512) (Is (Array usize 512)) (array-makes 𝓤 H A W usize (uint-makes 𝓤 H A W w64) 512) zeros _ (repeated w64 512 0 (lit< tt)) $
-        move ! (1 ∷ 0 ∷ []) $ use2 W (‵ (Kept w64 𝓤 H A W l₄ 512 zeros)) (array-in w64 𝓤 H A W l₄ 512 zeros _) $ lft-new ! tt (λ ν. move ! (1 ∷ []) $
-        use1 W (later (some (λ (δ : GName). ‵ (Ref l₄ ν δ) ⊛ ‵ (flent (ν ∷ []) (Body (mem (Array usize 512)) l₄ 0 δ)))))
-        (lends-ref 𝓤 H A W (Array usize 512) (named 2) (ν ∷ []) zeros l₄ 0) $ await ! tt $ pick ! (λ δ. split ! $
+        owned ! (Array usize partsSize) (Is (Array usize partsSize)) (array-makes 𝓤 H A W usize (uint-makes 𝓤 H A W w64) partsSize) zeros _ (repeated w64 partsSize 0 (lit< tt)) $
+        move ! (1 ∷ 0 ∷ []) $ use2 W (‵ (Kept w64 𝓤 H A W l₄ partsSize zeros)) (array-in w64 𝓤 H A W l₄ partsSize zeros _) $ lft-new ! tt (λ ν. move ! (1 ∷ []) $
+        use1 W (later (some (λ (δ : GName). ‵ (Ref l₄ ν δ) ⊛ ‵ (flent (ν ∷ []) (Body (mem (Array usize partsSize)) l₄ 0 δ)))))
+        (lends-ref 𝓤 H A W (Array usize partsSize) (named 2) (ν ∷ []) zeros l₄ 0) $ await ! tt $ pick ! (λ δ. split ! $
         move ! (33 ∷ []) $ use1 W (‵ Own ⊛ ‵ Own) (shr-slice-copy 𝓤 H A W (named 0) κ u8 .twice text (v ∷ [])) $ split ! $
         move ! (35 ∷ []) $ use1 W (‵ Own₁ ⊛ ‵ Own₁) (shr-slice-copy 𝓤 H A W (named 1) κ₁ u8 .twice file (f ∷ [])) $ split ! $
         -- [file; file; text; text; the reference; the lender's part; ν's token; _13; …]
@@ -262,9 +263,9 @@ module _ {M : Type 1} (𝓤 : URA M) (H : Heap 𝓤) (A : Atoms 𝓤) (W : Given
         await ! tt $ pick ! (λ r. split ! $ move ! (1 ∷ []) $
         use1 W (some (λ (ws : Unit {0} × (Unit {0} × (List ℕ × (Unit {0} × Unit {0})))).
         ‵ (lasts numbers.ended (κ, (κ₁, (ν ∷ [], tt))) (text, (file, (nums l₄ δ, (length ys, tt)))) ws)
-        ⊛ (raw (fact 𝓤 (ReadTo (text .now) (file .now) (length ys) (ws .1 .1 .0) r)) ⊛ raw (fact 𝓤 (length (ws .1 .1 .0) ≡ 512))))) (id⊢ 𝓤 _) $
+        ⊛ (raw (fact 𝓤 (ReadTo (text .now) (file .now) (length ys) (ws .1 .1 .0) r)) ⊛ raw (fact 𝓤 (length (ws .1 .1 .0) ≡ partsSize))))) (id⊢ 𝓤 _) $
         pick ! (λ ws. split ! $ move ! (1 ∷ []) $ split ! $
-        heard ! (ReadTo (text .now) (file .now) (length ys) (ws .1 .1 .0) r) (λ told. heard ! (length (ws .1 .1 .0) ≡ 512) (λ long.
+        heard ! (ReadTo (text .now) (file .now) (length ys) (ws .1 .1 .0) r) (λ told. heard ! (length (ws .1 .1 .0) ≡ partsSize) (λ long.
         fsplit ! $ let-go ! $ fsplit ! $ let-go ! $ fsplit ! $ move ! (1 ∷ []) $ let-go ! $
         -- [the array's last value; the tokens and the answer; file; text; the lender's part; _13; …]
         move ! (1 ∷ []) $ split ! $ split ! $ move ! (1 ∷ []) $ split ! $ move ! (1 ∷ []) $ split ! $ move ! (4 ∷ []) $
@@ -272,7 +273,7 @@ module _ {M : Type 1} (𝓤 : URA M) (H : Heap 𝓤) (A : Atoms 𝓤) (W : Given
         peeks ! S.the-row (Is S.the-row) (shows 𝓤 H A S.the-row) r (w ∷ []) (λ is.
         land ! (from ! (stop !)) (init ! 23 refl (EL.lawful S.the-type S′.the-laws 𝓤 H A W tt .typed r _ is .0)) $
         move ! (1 ∷ []) $ lft-end ! tt $ move ! (0 ∷ 8 ∷ 5 ∷ []) $
-        use3 W (later (‵ (Kept w64 𝓤 H A W l₄ 512 (ws .1 .1 .0)))) (ref-back 𝓤 H A W (Array usize 512) (ν ∷ []) δ (ws .1 .1 .0) l₄ 0) $ await ! tt $
+        use3 W (later (‵ (Kept w64 𝓤 H A W l₄ partsSize (ws .1 .1 .0)))) (ref-back 𝓤 H A W (Array usize partsSize) (ν ∷ []) δ (ws .1 .1 .0) l₄ 0) $ await ! tt $
         -- [the array; the answer; true; file's token; text's token; file; text; _13; …]
         move ! (1 ∷ []) $
         use1 W (‵ (S.the-row .own r (w ∷ [])) ⊛ ‵ (S.the-row .own r (w ∷ []))) (EL.copy S.the-type S′.the-copy 𝓤 H A W .twice r (w ∷ [])) $ split ! $
@@ -295,8 +296,8 @@ module _ {M : Type 1} (𝓤 : URA M) (H : Heap 𝓤) (A : Atoms 𝓤) (W : Given
         (init ! 9 refl (tt, (tt, (record { fits = lit< tt }, tt)))) $
         -- the array is lent to `write_parts`, for μ
         lft-new ! tt (λ μ. move ! (4 ∷ []) $
-        use1 W (later (some (λ (ε : GName). ‵ (Nums l₄ μ (ws .1 .1 .0) ε) ⊛ ‵ (flent (μ ∷ []) (All w64 𝓤 H A W l₄ 512 (ws .1 .1 .0))))))
-        (lends-all w64 𝓤 H A W l₄ (named 1) (μ ∷ []) 512 (ws .1 .1 .0) long (lit< tt, lit< tt)) $ await ! tt $ pick ! (λ ε. split ! $
+        use1 W (later (some (λ (ε : GName). ‵ (Nums l₄ μ (ws .1 .1 .0) ε) ⊛ ‵ (flent (μ ∷ []) (All w64 𝓤 H A W l₄ partsSize (ws .1 .1 .0))))))
+        (lends-all w64 𝓤 H A W l₄ (named 1) (μ ∷ []) partsSize (ws .1 .1 .0) long (lit< tt, lit< tt)) $ await ! tt $ pick ! (λ ε. split ! $
         move ! (38 ∷ 2 ∷ 39 ∷ 0 ∷ []) $ join ! $
         use3 W (raw (Write 𝓤 H A mem′ run .pre (to-write l₄ μ (ws .1 .1 .0) ε c)))
         (goes-write l₄ μ (ws .1 .1 .0) ε c (isc .1) (may-write (text .now) (file .now) ys (ws .1 .1 .0) r c told e long)) $
@@ -316,7 +317,7 @@ module _ {M : Type 1} (𝓤 : URA M) (H : Heap 𝓤) (A : Atoms 𝓤) (W : Given
         move ! (2 ∷ []) $ split ! $ move ! (1 ∷ []) $ peeks ! unit (Is unit) (shows 𝓤 H A unit) t (z ∷ []) (λ isu.
         land ! (from ! (stop !)) (init ! 21 refl (nothing-lawful 𝓤 H A W .typed t _ isu .0)) $
         move ! (1 ∷ []) $ split ! $ move ! (1 ∷ []) $ split ! $ lft-end ! tt $ move ! (0 ∷ 6 ∷ []) $
-        use2 W (later (‵ (froom (tyArray (tyInt w64) 512) l₄ 0))) (all-back w64 𝓤 H A W l₄ (μ ∷ []) 512 (ws .1 .1 .0)) $ await ! tt $
+        use2 W (later (‵ (froom (tyArray (tyInt w64) partsSize) l₄ 0))) (all-back w64 𝓤 H A W l₄ (μ ∷ []) partsSize (ws .1 .1 .0)) $ await ! tt $
         -- [room for _4; true; parts' token; …; parts' last list; …; the count; true; the answer; true; file's token; text's token; file; text;
         -- _13; …; _5; …; that _4 dies; _3; …; _2; …; _1; …; room for _0; …]
         assigns ! (of-opd ! (load ! (from ! (stop !)) (look ! 28 refl))) (from ! (stop !))

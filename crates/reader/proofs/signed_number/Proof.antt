@@ -9,17 +9,8 @@ cast-result c = column-fits _ _ (c .before .pre) (c .if1 .taken)
 returns : tie.Need-returns
 returns c = column-signed _ _ (c .before .pre) (c .if1 .taken)
 
-cast-result-2 : tie.Need-cast-result-2
-cast-result-2 c = search needs
-
 returns-2 : tie.Need-returns-2
 returns-2 c = high-signed _ _ (c .before .before .pre) (c .before .if1 .left) (c .if2 .taken)
-
-sub-result : tie.Need-sub-result
-sub-result c = search needs
-
-cast-result-3 : tie.Need-cast-result-3
-cast-result-3 c = search needs
 
 sub-result-2 : tie.Need-sub-result-2
 sub-result-2 c = low-fits _ (c .if2 .left)
@@ -33,9 +24,9 @@ signed-number-spec =
     (tie.spec
     cast-result
     returns
-    cast-result-2
+    (λ c. search needs)
     returns-2
-    sub-result
-    cast-result-3
+    (λ c. search needs)
+    (λ c. search needs)
     sub-result-2
     returns-3)

@@ -55,6 +55,7 @@ use denote.Signature.{plain}
 use Rattle.rule.specs.declared.Part.{Part}
 use Rattle.rule.proofs.Part as T
 use Rattle.rule.proofs.Part.Laws as T′
+use Rattle.names.specs.Code.{partSize}
 use Rattle.parser.specs.Parts.{partIn, partsIn, SmallPart, SmallParts}
 use Rattle.reader.proofs.Storing.{stored-list, stored-length, stored-next}
 use Rattle.reader.proofs.part_at as part-at
@@ -75,12 +76,15 @@ stayed = (
 
 -- ---- numbers
 
--- a part has 20 bytes
-offset-fits : {i m : ℕ} → i < m → m * 20 < 2 ^ 63 → i * 20 < 2 ^ 64
+-- the bytes of a part in memory
+abbrev partBytes : ℕ
+partBytes = 20
+
+offset-fits : {i m : ℕ} → i < m → m * partBytes < 2 ^ 63 → i * partBytes < 2 ^ 64
 offset-fits within g = omega arith
 
--- eight numbers stand there for part i
-there : {i n m : ℕ} → i < n → 8 * n ≤ m → 8 * i + 8 ≤ m
+-- the numbers of part i stand there
+there : {i n m : ℕ} → i < n → partSize * n ≤ m → partSize * i + partSize ≤ m
 there small h = omega arith
 
 -- the contract that the proof cites
@@ -145,11 +149,11 @@ module _ {M : Type 1} (𝓤 : URA M) (H : Heap 𝓤) (A : Atoms 𝓤) (W : Given
   abbrev to : ℕ → PartAt 𝓤 H A mem run .Ghost
   to i = (((κ₁, tt), (q₁, tt), tt, (num, (i, tt)), (v ∷ [], (vint w64 i ∷ [], tt))), tt)
 
-  asks : (i : ℕ) → i < 2 ^ 64 → 8 * i + 8 ≤ length ns → SmallPart ns i → ent 𝓤 (sep 𝓤 (A .lft κ₁ q₁) (sem 𝓤 H A Own)) (PartAt 𝓤 H A mem run .pre (to i))
+  asks : (i : ℕ) → i < 2 ^ 64 → partSize * i + partSize ≤ length ns → SmallPart ns i → ent 𝓤 (sep 𝓤 (A .lft κ₁ q₁) (sem 𝓤 H A Own)) (PartAt 𝓤 H A mem run .pre (to i))
   asks i fits h p =
       qed W (‵ (flft κ₁ q₁) ∷ ‵ Own ∷ []) ∵
       suffices ! _
-      (assoc∗ 𝓤 (onEntry 𝓤 H A part-at.signature (κ₁, tt) (q₁, tt) (num, (i, tt)) (v ∷ [], (vint w64 i ∷ [], tt))) (fact 𝓤 (8 * i + 8 ≤ length ns))
+      (assoc∗ 𝓤 (onEntry 𝓤 H A part-at.signature (κ₁, tt) (q₁, tt) (num, (i, tt)) (v ∷ [], (vint w64 i ∷ [], tt))) (fact 𝓤 (partSize * i + partSize ≤ length ns))
       (fact 𝓤 (SmallPart ns i))) $
       says ! p $ says ! h $
       nothing ! $ move ! (1 ∷ 0 ∷ []) $ join ! $ frame ! $
@@ -159,7 +163,7 @@ module _ {M : Type 1} (𝓤 : URA M) (H : Heap 𝓤) (A : Atoms 𝓤) (W : Given
   said i r = exE 𝓤 _ (λ ws. snd∗ 𝓤 (sem 𝓤 H A (lasts part-at.ended (κ₁, tt) (num, (i, tt)) ws)) (fact 𝓤 (r ≡ partIn ns i)))
 
   module _ (𝓣 : Tables 𝓤 H) (known : Triple 𝓤 (𝓣 .C #reader·part-at) (PartAt 𝓤 H A mem run)) (room : Room T.the-row (length ys))
-      (le : n ≤ length ys) (many : 8 * n ≤ length ns) (each : SmallParts ns n) (l₀ l₁ l₂ l₃ l₄ l₅ l₆ l₇ l₈ : ℕ) where
+      (le : n ≤ length ys) (many : partSize * n ≤ length ns) (each : SmallParts ns n) (l₀ l₁ l₂ l₃ l₄ l₅ l₆ l₇ l₈ : ℕ) where
     abbrev C : Calls 𝓤 H
     C = 𝓣 .C
 
@@ -226,7 +230,7 @@ module _ {M : Type 1} (𝓤 : URA M) (H : Heap 𝓤) (A : Atoms 𝓤) (W : Given
         (init ! 8 refl (tt, record { fits = offset-fits inside (room .1) })) $
         assigns ! (bin ! (load ! (from ! (fld ! refl (stop !))) (look-in ! 10 (sub ! 0 refl (whole !)))) (load ! (from ! (stop !)) (look ! 8 refl)) tt)
         (from ! (stop !)) (init ! 9 refl (tt, tt)) $
-        rewrite ! 9 (λ (m : ℕ). ‵ (fat fullShare tyPtr l₈ 0 (vptr b m))) (sym (place-is 20 o i)) refl $
+        rewrite ! 9 (λ (m : ℕ). ‵ (fat fullShare tyPtr l₈ 0 (vptr b m))) (sym (place-is partBytes o i)) refl $
         -- element i is taken out, stored to, and put back
         move ! (4 ∷ []) $
         elem-out ! T.the-row (Is T.the-row) (shows 𝓤 H A T.the-row) (LL.vals T.the-type T′.the-laws) (LL.tells T.the-type T′.the-laws) fullShare
@@ -298,7 +302,7 @@ module _ {M : Type 1} (𝓤 : URA M) (H : Heap 𝓤) (A : Atoms 𝓤) (W : Given
 
   -- the MIR, up to the loop
   walk : (𝓣 : Tables 𝓤 H) → Triple 𝓤 (𝓣 .C #reader·part-at) (PartAt 𝓤 H A mem run) → Room T.the-row (length ys)
-      → Is (ShrSlice (named 1) κ₁ usize) num (v ∷ []) → n ≤ length ys → 8 * n ≤ length ns → SmallParts ns n
+      → Is (ShrSlice (named 1) κ₁ usize) num (v ∷ []) → n ≤ length ys → partSize * n ≤ length ns → SmallParts ns n
       → ent 𝓤 (onEntry 𝓤 H A write.signature (κ, (κ₁, tt)) (q, (q₁, tt)) a vals) (WpFn 𝓤 H (𝓣 .C) (𝓣 .Λ) code.function (s ∷ v ∷ vint w64 n ∷ []) Post)
   unfolding partsIn
   walk 𝓣 known room is le many each =
@@ -324,7 +328,7 @@ module _ {M : Type 1} (𝓤 : URA M) (H : Heap 𝓤) (A : Atoms 𝓤) (W : Given
       walked 𝓤 H A write.ended stayed (write.clauses 𝓤 H A mem run) (WpFn 𝓤 H (𝓣 .C) (𝓣 .Λ) code.function) (λ κs. (slice-vals, (slice-vals, (uint-vals w64, tt))))
       (λ κs. (mut-slice-tells (named 0) (κs .0) T.the-row, (shr-slice-tells (named 1) (κs .1 .0) usize, (uint-tells w64, tt))))
       (λ κs qs bounds a g are.
-      needs 𝓤 ((a .1 .1 .0 ≤ length (a .0 .now)) × ((8 * a .1 .1 .0 ≤ length (a .1 .0 .now)) × SmallParts (a .1 .0 .now) (a .1 .1 .0))) _ (λ h.
+      needs 𝓤 ((a .1 .1 .0 ≤ length (a .0 .now)) × ((partSize * a .1 .1 .0 ≤ length (a .1 .0 .now)) × SmallParts (a .1 .0 .now) (a .1 .1 .0))) _ (λ h.
       walk 𝓤 H A W mem run (κs .0) (κs .1 .0) (qs .0) (qs .1 .0) (a .0 .ptr .0) (a .0 .ptr .1) (a .0 .name) (a .0 .now) (a .1 .0) (a .1 .1 .0) (are .1 .1 .0 .1)
       𝓣 known (are .0 .0 .1) (are .1 .0) (h .0) (h .1 .0) (h .1 .1)))
 

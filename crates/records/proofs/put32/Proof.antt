@@ -4,18 +4,6 @@ use borrow.Author.Needs.{needs}
 use Rattle.records.proofs.put32.Statement.{statement}
 use Rattle.records.proofs.put32.Tie as tie
 
-put16-requires : tie.Need-put16-requires
-put16-requires c κs = search needs
-
-add-put16 : tie.Need-add-put16
-add-put16 c = search needs
-
-put16-requires-2 : tie.Need-put16-requires-2
-put16-requires-2 c κs = search needs
-
-same-length : tie.Need-same-length
-same-length c = search needs
-
 returns : tie.Need-returns
 returns c =
     let o = c .before .before .before .before .before .before .before .before .before in
@@ -24,4 +12,4 @@ returns c =
     (c .before .before .put162 .ensures)
 
 pub put32-spec : {M : Type 1} → statement M
-put32-spec = tie.close (tie.spec put16-requires add-put16 put16-requires-2 same-length returns)
+put32-spec = tie.close (tie.spec (λ c κs. search needs) (λ c. search needs) (λ c κs. search needs) (λ c. search needs) returns)

@@ -6,18 +6,6 @@ use borrow.Author.Needs.{needs}
 use Rattle.records.proofs.put_value.Statement.{statement}
 use Rattle.records.proofs.put_value.Tie as tie
 
-cast-bytes : tie.Need-cast-bytes
-cast-bytes c = search needs
-
-slice-write-bytes : tie.Need-slice-write-bytes
-slice-write-bytes c = search needs
-
-add-put32 : tie.Need-add-put32
-add-put32 c = search needs
-
-add-put32-2 : tie.Need-add-put32-2
-add-put32-2 c = search needs
-
 put32-requires : tie.Need-put32-requires
 put32-requires c κs =
     let o = c .before .before .before in
@@ -34,9 +22,6 @@ returns c =
     put-constant (o .args .bytes .now) _ (o .args .i) (o .args .tag) (o .args .n) (o .pre .1 .1)
     (c .before .before .before .before .if1 .taken)
     (c .before .before .put32 .ensures)
-
-add-put32-3 : tie.Need-add-put32-3
-add-put32-3 c = search needs
 
 put32-requires-2 : tie.Need-put32-requires-2
 put32-requires-2 c κs =
@@ -59,14 +44,14 @@ pub put-value-spec : {M : Type 1} → statement M
 put-value-spec =
     tie.close
     (tie.spec
-    cast-bytes
-    slice-write-bytes
-    add-put32
-    add-put32-2
+    (λ c. search needs)
+    (λ c. search needs)
+    (λ c. search needs)
+    (λ c. search needs)
     put32-requires
     same-length
     returns
-    add-put32-3
+    (λ c. search needs)
     put32-requires-2
     same-length-2
     returns-2)

@@ -7,23 +7,8 @@ use Rattle.roskudla_gate.proofs.Answered.{status-is, number-is}
 use Rattle.roskudla.proofs.roskudla_judge.Statement.{statement}
 use Rattle.roskudla.proofs.roskudla_judge.Tie as tie
 
-judge-requires : tie.Need-judge-requires
-judge-requires c κs = search needs
-
 enum-told : tie.Need-enum-told
 enum-told c = search needs
-
-enum-told-2 : tie.Need-enum-told-2
-enum-told-2 c = search needs
-
-enum-told-3 : tie.Need-enum-told-3
-enum-told-3 c = search needs
-
-enum-known-judged : tie.Need-enum-known-judged
-enum-known-judged c = search needs
-
-refusal-number-requires : tie.Need-refusal-number-requires
-refusal-number-requires c κs = search needs
 
 returns : tie.Need-returns
 returns c =
@@ -53,12 +38,12 @@ pub roskudla-judge-spec : {M : Type 1} → statement M
 roskudla-judge-spec =
     tie.close
     (tie.spec
-    judge-requires
+    (λ c κs. search needs)
     enum-told
-    enum-told-2
-    enum-told-3
-    enum-known-judged
-    refusal-number-requires
+    (λ c. search needs)
+    (λ c. search needs)
+    (λ c. search needs)
+    (λ c κs. search needs)
     returns
     returns-2
     returns-3

@@ -5,9 +5,6 @@ use Rattle.values.proofs.Numbers.{one-blank, none-blank}
 use Rattle.runner.proofs.cells_hold.Statement.{statement}
 use Rattle.runner.proofs.cells_hold.Tie as tie
 
-numbers-hold-requires : tie.Need-numbers-hold-requires
-numbers-hold-requires c κs = search needs
-
 returns : tie.Need-returns
 returns c = let o = c .before .before .before .before in one-blank _ _ (o .args .x) (o .args .y) (c .if1 .taken)
 
@@ -17,4 +14,4 @@ returns-2 c =
     c .before .before .before .numbers-hold .ensures ∙ none-blank _ _ (o .args .x) (o .args .y) (c .if1 .left)
 
 pub cells-hold-spec : {M : Type 1} → statement M
-cells-hold-spec = tie.close (tie.spec numbers-hold-requires returns returns-2)
+cells-hold-spec = tie.close (tie.spec (λ c κs. search needs) returns returns-2)

@@ -18,27 +18,6 @@ loop-holds : tie.Need-loop-holds Inv-loop μ-loop
 unfolding entriesIn
 loop-holds c = (omega arith, omega arith, refl)
 
-mul-entries-of : tie.Need-mul-entries-of Inv-loop μ-loop
-mul-entries-of c = omega arith
-
-mul-entries-of-2 : tie.Need-mul-entries-of-2 Inv-loop μ-loop
-mul-entries-of-2 c = omega arith
-
-element-copy-out-entries-of : tie.Need-element-copy-out-entries-of Inv-loop μ-loop
-element-copy-out-entries-of c = omega arith
-
-entries-of-requires : tie.Need-entries-of-requires Inv-loop μ-loop
-entries-of-requires c κs = search needs
-
-add-entries : tie.Need-add-entries Inv-loop μ-loop
-add-entries c = omega arith
-
-add-i : tie.Need-add-i Inv-loop μ-loop
-add-i c = omega arith
-
-loop-less : tie.Need-loop-less Inv-loop μ-loop
-loop-less c = omega arith
-
 loop-again : tie.Need-loop-again Inv-loop μ-loop
 loop-again c =
     let loop = c .before .before .before .loop in
@@ -59,12 +38,12 @@ count-entries-spec =
     Inv-loop
     μ-loop
     loop-holds
-    mul-entries-of
-    mul-entries-of-2
-    element-copy-out-entries-of
-    entries-of-requires
-    add-entries
-    add-i
-    loop-less
+    (λ c. omega arith)
+    (λ c. omega arith)
+    (λ c. omega arith)
+    (λ c κs. search needs)
+    (λ c. omega arith)
+    (λ c. omega arith)
+    (λ c. omega arith)
     loop-again
     returns)

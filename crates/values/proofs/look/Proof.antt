@@ -22,12 +22,6 @@ sub-first c = let z = level-low (c .before .before .before .pre) (c .before .if1
 add-first : tie.Need-add-first
 add-first c = let z = cell-there (c .before .before .before .pre) (c .before .if1 .left) in omega arith
 
-element-copy-out-t9 : tie.Need-element-copy-out-t9
-element-copy-out-t9 c = search needs
-
-element-copy-out-t13 : tie.Need-element-copy-out-t13
-element-copy-out-t13 c = search needs
-
 cell-requires : tie.Need-cell-requires
 cell-requires c κs =
     let z = cell-there (c .before .before .before .before .before .pre) (c .before .before .before .if1 .left) in
@@ -39,4 +33,4 @@ returns-2 c = λ h. ap seenCell (c .cell .ensures) ∙ window-shows h (c .before
 pub look-spec : {M : Type 1} → statement M
 look-spec =
     tie.close
-    (tie.spec returns mul-first element-copy-out-first sub-first add-first element-copy-out-t9 element-copy-out-t13 cell-requires returns-2)
+    (tie.spec returns mul-first element-copy-out-first sub-first add-first (λ c. search needs) (λ c. search needs) cell-requires returns-2)

@@ -14,13 +14,12 @@ use prog.Memory.{Memory}
 use prog.Routine.{Routine}
 use prog.Wp.{Heap, Calls, Loops, WpFn, Tables}
 use ghost.Atoms.{Atoms, sem}
-use contract.Lifetimes.{Lfts}
 use contract.Monad.{Fun, fact}
 use contract.Running.{givenOf, tables, tablesOf}
 use types.Kit.{Given, ‵, raw, _⊛_, ⋆, some, later, _$_, _∵_, !, qed, by, move, keep, drop, use1, use2, split, join, pick, rewrite, fsplit, fjoin, suffices, frame, await, done}
 use types.Run.{look, init, forget, stop, from, load, of-opd, and-then, no-more, assigns, land, returns, enter, alloc1, alloc0, params1, pass1, pass0, free1, free0}
 use sound.WpLaws.{FmC, fmOf, WpFn-mono}
-use denote.RattleType.{RattleType, owns}
+use denote.RattleType.{owns}
 use denote.Laws.{Is, shows}
 use denote.Plain.{uint-makes, uint-lawful, uint-vals, uint-tells}
 use denote.Builtin.{u8, usize}
@@ -43,20 +42,19 @@ use Rattle.cells.proofs.Seen as S
 use Rattle.cells.proofs.Seen.Laws as S′
 use Rattle.cells.proofs.Place as P
 use Rattle.cells.proofs.Place.Laws as P′
-use Rattle.window.specs.Window.{cellNumber, markAt, valueAt, windowOf, windowPlace, Inside, seenOf, seenAt}
+use Rattle.window.specs.Window.{cellNumber, markAt, valueAt, windowOf, Inside, seenOf, seenAt}
 use Rattle.window.specs.declared.Window.{Window}
 use Rattle.window.proofs.Window as T
 use Rattle.window.proofs.Window.Laws as T′
 use Rattle.window.proofs.Shown.{seen-at}
+use Rattle.window.proofs.Reading.{B, ended, clauses, Reads, calls, asked, answered, of-mark, of-value}
 use Rattle.window.proofs.window_at as new
 use Rattle.window.proofs.window_at.Symbol as new-def
 use Rattle.window.proofs.window_at.Symbol.{name as #window·window-at}
 use Rattle.window.proofs.window_at.Met as new-thm
-use Rattle.window.proofs.mark as mark
 use Rattle.window.proofs.mark.Symbol as mark-def
 use Rattle.window.proofs.mark.Symbol.{name as #window·mark}
 use Rattle.window.proofs.mark.Met as mark-thm
-use Rattle.window.proofs.value as value
 use Rattle.window.proofs.value.Symbol as value-def
 use Rattle.window.proofs.value.Symbol.{name as #window·value}
 use Rattle.window.proofs.value.Met as value-thm
@@ -69,10 +67,6 @@ use Rattle.window.proofs.cell as f
 use Rattle.window.proofs.cell.Statement as stated
 use Rattle.window.proofs.cell.Code as code
 
--- the struct's type, over the signature's lifetimes
-abbrev B : Lfts 1 → RattleType
-B κs = T.the-row (namedLft 1 0 tt κs)
-
 abbrev stayed : Stays (f.ended .signature .params) (f.ended .kept)
 stayed = (stay-none-slice (0 ∷ []) tt (plain (λ _. u8)) yes, (stay-none (λ _. P.the-row) yes, (stay-none (λ _. usize) yes, (stay-none (λ _. usize) yes, tt))))
 
@@ -80,12 +74,6 @@ module _ {M : Type 1} (𝓤 : URA M) (H : Heap 𝓤) (A : Atoms 𝓤) (mem : Mem
   -- the contracts that the proof cites
   abbrev New : Contract 𝓤
   New = tripleOf 𝓤 H A new.signature (new.spec 𝓤 H A mem run)
-
-  abbrev Mark : Contract 𝓤
-  Mark = tripleOf 𝓤 H A mark.signature (mark.spec 𝓤 H A mem run)
-
-  abbrev Value : Contract 𝓤
-  Value = tripleOf 𝓤 H A value.signature (value.spec 𝓤 H A mem run)
 
   abbrev Sight : Contract 𝓤
   Sight = tripleOf 𝓤 H A seen.signature (seen.spec 𝓤 H A mem run)
@@ -135,29 +123,6 @@ module _ {M : Type 1} (𝓤 : URA M) (H : Heap 𝓤) (A : Atoms 𝓤) (W : Given
   new-said : (r : Window) → ent 𝓤 (ensured 𝓤 H A new.ended (new.clauses 𝓤 H A mem run) (κ, tt) (s, (p, tt)) tt r) (fact 𝓤 (r ≡ d))
   new-said r = exE 𝓤 _ (λ ws. snd∗ 𝓤 (sem 𝓤 H A (lasts new.ended (κ, tt) (s, (p, tt)) ws)) (fact 𝓤 (r ≡ d)))
 
-  -- the calls of `mark` and `value`, at the machine value u of the window
-  abbrev to-mark : Val → Mark 𝓤 H A mem run .Ghost
-  to-mark u = (((κ, tt), (q, tt), tt, (d, (i, (j, tt))), (u ∷ [], (vint w64 i ∷ [], (vint w64 j ∷ [], tt)))), tt)
-
-  abbrev to-value : Val → Value 𝓤 H A mem run .Ghost
-  to-value u = (((κ, tt), (q, tt), tt, (d, (i, (j, tt))), (u ∷ [], (vint w64 i ∷ [], (vint w64 j ∷ [], tt)))), tt)
-
-  goes-mark : (u : Val) → Inside (now s) (windowPlace d) i j → ent 𝓤 (⋆ 𝓤 H A (‵ (B (κ, tt) .own d (u ∷ [])) ∷ (‵ (flft κ q) ⊛ ‵ ftrue) ∷ [])) (Mark 𝓤 H A mem run .pre (to-mark u))
-  goes-mark u within =
-      qed W (‵ (B (κ, tt) .own d (u ∷ [])) ∷ (‵ (flft κ q) ⊛ ‵ ftrue) ∷ []) ∵ says ! within $ nothing ! $ owned ! usize (Is usize) (uint-makes 𝓤 H A W w64) j _ (refl, j-fits) $ fjoin ! $ owned ! usize (Is usize) (uint-makes 𝓤 H A W w64) i _ (refl, i-fits) $ fjoin ! $
-      move ! (1 ∷ 0 ∷ []) $ fjoin ! $ move ! (1 ∷ 0 ∷ []) $ frame ! $ done !
-
-  goes-value : (u : Val) → Inside (now s) (windowPlace d) i j → ent 𝓤 (⋆ 𝓤 H A (‵ (B (κ, tt) .own d (u ∷ [])) ∷ (‵ (flft κ q) ⊛ ‵ ftrue) ∷ [])) (Value 𝓤 H A mem run .pre (to-value u))
-  goes-value u within =
-      qed W (‵ (B (κ, tt) .own d (u ∷ [])) ∷ (‵ (flft κ q) ⊛ ‵ ftrue) ∷ []) ∵ says ! within $ nothing ! $ owned ! usize (Is usize) (uint-makes 𝓤 H A W w64) j _ (refl, j-fits) $ fjoin ! $ owned ! usize (Is usize) (uint-makes 𝓤 H A W w64) i _ (refl, i-fits) $ fjoin ! $
-      move ! (1 ∷ 0 ∷ []) $ fjoin ! $ move ! (1 ∷ 0 ∷ []) $ frame ! $ done !
-
-  mark-said : (m : ℕ) → ent 𝓤 (ensured 𝓤 H A mark.ended (mark.clauses 𝓤 H A mem run) (κ, tt) (d, (i, (j, tt))) tt m) (fact 𝓤 (m ≡ markAt (now s) (p .marks) k))
-  mark-said m = exE 𝓤 _ (λ ws. snd∗ 𝓤 (sem 𝓤 H A (lasts mark.ended (κ, tt) (d, (i, (j, tt))) ws)) (fact 𝓤 (m ≡ markAt (now s) (p .marks) k)))
-
-  value-said : (n : ℕ) → ent 𝓤 (ensured 𝓤 H A value.ended (value.clauses 𝓤 H A mem run) (κ, tt) (d, (i, (j, tt))) tt n) (fact 𝓤 (n ≡ valueAt (now s) (p .values) k))
-  value-said n = exE 𝓤 _ (λ ws. snd∗ 𝓤 (sem 𝓤 H A (lasts value.ended (κ, tt) (d, (i, (j, tt))) ws)) (fact 𝓤 (n ≡ valueAt (now s) (p .values) k)))
-
   -- the call of `seen`, at the machine values z of the mark and y of the value
   abbrev to-seen : ℕ → ℕ → Val → Val → Sight 𝓤 H A mem run .Ghost
   to-seen m n z y = ((tt, tt, tt, (m, (n, tt)), (z ∷ [], (y ∷ [], tt))), tt)
@@ -176,7 +141,7 @@ module _ {M : Type 1} (𝓤 : URA M) (H : Heap 𝓤) (A : Atoms 𝓤) (W : Given
       nothing ! $ owned ! usize (Is usize) (uint-makes 𝓤 H A W w64) j _ (refl, j-fits) $ fjoin ! $ owned ! usize (Is usize) (uint-makes 𝓤 H A W w64) i _ (refl, i-fits) $ fjoin ! $
       owned ! P.the-row (Is P.the-row) (LL.makes P.the-type P′.the-plain 𝓤 H A) p _ is-p $ fjoin ! $ move ! (2 ∷ 0 ∷ []) $ fjoin ! $ done !
 
-  module _ (C : Calls 𝓤 H) (Λ : Loops 𝓤 H) (fm : FmC 𝓤 H (W .laws) C) (known-new : Triple 𝓤 (C #window·window-at) (New 𝓤 H A mem run)) (known-mark : Triple 𝓤 (C #window·mark) (Mark 𝓤 H A mem run)) (known-value : Triple 𝓤 (C #window·value) (Value 𝓤 H A mem run)) (known-seen : Triple 𝓤 (C #window·seen) (Sight 𝓤 H A mem run)) where
+  module _ (C : Calls 𝓤 H) (Λ : Loops 𝓤 H) (fm : FmC 𝓤 H (W .laws) C) (known-new : Triple 𝓤 (C #window·window-at) (New 𝓤 H A mem run)) (known-mark : Triple 𝓤 (C #window·mark) (Reads of-mark 𝓤 H A)) (known-value : Triple 𝓤 (C #window·value) (Reads of-value 𝓤 H A)) (known-seen : Triple 𝓤 (C #window·seen) (Sight 𝓤 H A mem run)) where
     walk : Is (ShrSlice (named 0) κ u8) s (v ∷ []) → Inside (now s) p i j → ent 𝓤 (onEntry 𝓤 H A f.signature (κ, tt) (q, tt) a vals) (WpFn 𝓤 H C Λ code.function (v ∷ pv ∷ vint w64 i ∷ vint w64 j ∷ []) Post)
     walk g within =
         qed W (raw (onEntry 𝓤 H A f.signature (κ, tt) (q, tt) a vals) ∷ []) ∵ enter ! C Λ code.function (v ∷ pv ∷ vint w64 i ∷ vint w64 j ∷ []) _ $
@@ -192,18 +157,18 @@ module _ {M : Type 1} (𝓤 : URA M) (H : Heap 𝓤) (A : Atoms 𝓤) (W : Given
         land ! (from ! (stop !)) (init ! 11 refl (LL.lawful (T.the-type αᵉ) (T′.the-laws αᵉ) 𝓤 H A W .typed d _ is .0)) $
         assigns ! (of-opd ! (load ! (from ! (stop !)) (look ! 11 refl))) (from ! (stop !)) (init ! 5 refl (LL.lawful (T.the-type αᵉ) (T′.the-laws αᵉ) 𝓤 H A W .typed d _ is .0)) $
         use1 W (‵ (B (κ, tt) .own d (u ∷ [])) ⊛ ‵ (B (κ, tt) .own d (u ∷ []))) (LL.copy (T.the-type (namedLft 1 0 tt (κ, tt))) (T′.the-copy (namedLft 1 0 tt (κ, tt))) 𝓤 H A W .twice d (u ∷ [])) $ split ! $ move ! (0 ∷ 2 ∷ []) $
-        use2 W (raw (Mark 𝓤 H A mem run .pre (to-mark u))) (goes-mark u within) $
-        calls-at ! fm (Mark 𝓤 H A mem run) known-mark (to-mark u) (and-then ! (load ! (from ! (stop !)) (look ! 5 refl)) (and-then ! (load ! (from ! (stop !)) (look ! 15 refl)) (and-then ! (load ! (from ! (stop !)) (look ! 13 refl)) (no-more !)))) (λ z.
-        use1 W (later (some (λ (m : ℕ). ((‵ (flft κ q) ⊛ ‵ ftrue) ⊛ ‵ (u8 .own m (z ∷ []))) ⊛ raw (ensured 𝓤 H A mark.ended (mark.clauses 𝓤 H A mem run) (κ, tt) (d, (i, (j, tt))) tt m)))) (id⊢ 𝓤 _) $ await ! tt $ pick ! (λ m.
-        split ! $ move ! (1 ∷ []) $ use1 W (raw (fact 𝓤 (m ≡ markAt (now s) (p .marks) k))) (mark-said m) $ heard ! (m ≡ markAt (now s) (p .marks) k) (λ em. split ! $ move ! (1 ∷ []) $
+        use2 W (raw (Reads of-mark 𝓤 H A .pre (calls of-mark 𝓤 H A W κ q d i j i-fits j-fits u))) (asked of-mark 𝓤 H A W κ q d i j i-fits j-fits u within) $
+        calls-at ! fm (Reads of-mark 𝓤 H A) known-mark (calls of-mark 𝓤 H A W κ q d i j i-fits j-fits u) (and-then ! (load ! (from ! (stop !)) (look ! 5 refl)) (and-then ! (load ! (from ! (stop !)) (look ! 15 refl)) (and-then ! (load ! (from ! (stop !)) (look ! 13 refl)) (no-more !)))) (λ z.
+        use1 W (later (some (λ (m : ℕ). ((‵ (flft κ q) ⊛ ‵ ftrue) ⊛ ‵ (u8 .own m (z ∷ []))) ⊛ raw (ensured 𝓤 H A (ended of-mark) (clauses of-mark 𝓤) (κ, tt) (d, (i, (j, tt))) tt m)))) (id⊢ 𝓤 _) $ await ! tt $ pick ! (λ m.
+        split ! $ move ! (1 ∷ []) $ use1 W (raw (fact 𝓤 (m ≡ markAt (now s) (p .marks) k))) (answered of-mark 𝓤 H A W κ q d i j i-fits j-fits m) $ heard ! (m ≡ markAt (now s) (p .marks) k) (λ em. split ! $ move ! (1 ∷ []) $
         -- [the mark; the token; what the window owns; what tables owns; _9; …]
         peeks ! u8 (Is u8) (shows 𝓤 H A u8) m (z ∷ []) (λ ism.
         land ! (from ! (stop !)) (init ! 10 refl (uint-lawful 𝓤 H A W w8 .typed m _ ism .0)) $
         assigns ! (of-opd ! (load ! (from ! (stop !)) (look ! 12 refl))) (from ! (stop !)) (init ! 4 refl (LL.lawful (T.the-type αᵉ) (T′.the-laws αᵉ) 𝓤 H A W .typed d _ is .0)) $
-        move ! (2 ∷ 1 ∷ []) $ use2 W (raw (Value 𝓤 H A mem run .pre (to-value u))) (goes-value u within) $
-        calls-at ! fm (Value 𝓤 H A mem run) known-value (to-value u) (and-then ! (load ! (from ! (stop !)) (look ! 3 refl)) (and-then ! (load ! (from ! (stop !)) (look ! 15 refl)) (and-then ! (load ! (from ! (stop !)) (look ! 13 refl)) (no-more !)))) (λ y.
-        use1 W (later (some (λ (n : ℕ). ((‵ (flft κ q) ⊛ ‵ ftrue) ⊛ ‵ (usize .own n (y ∷ []))) ⊛ raw (ensured 𝓤 H A value.ended (value.clauses 𝓤 H A mem run) (κ, tt) (d, (i, (j, tt))) tt n)))) (id⊢ 𝓤 _) $ await ! tt $ pick ! (λ n.
-        split ! $ move ! (1 ∷ []) $ use1 W (raw (fact 𝓤 (n ≡ valueAt (now s) (p .values) k))) (value-said n) $ heard ! (n ≡ valueAt (now s) (p .values) k) (λ en. split ! $ move ! (1 ∷ []) $
+        move ! (2 ∷ 1 ∷ []) $ use2 W (raw (Reads of-value 𝓤 H A .pre (calls of-value 𝓤 H A W κ q d i j i-fits j-fits u))) (asked of-value 𝓤 H A W κ q d i j i-fits j-fits u within) $
+        calls-at ! fm (Reads of-value 𝓤 H A) known-value (calls of-value 𝓤 H A W κ q d i j i-fits j-fits u) (and-then ! (load ! (from ! (stop !)) (look ! 3 refl)) (and-then ! (load ! (from ! (stop !)) (look ! 15 refl)) (and-then ! (load ! (from ! (stop !)) (look ! 13 refl)) (no-more !)))) (λ y.
+        use1 W (later (some (λ (n : ℕ). ((‵ (flft κ q) ⊛ ‵ ftrue) ⊛ ‵ (usize .own n (y ∷ []))) ⊛ raw (ensured 𝓤 H A (ended of-value) (clauses of-value 𝓤) (κ, tt) (d, (i, (j, tt))) tt n)))) (id⊢ 𝓤 _) $ await ! tt $ pick ! (λ n.
+        split ! $ move ! (1 ∷ []) $ use1 W (raw (fact 𝓤 (n ≡ valueAt (now s) (p .values) k))) (answered of-value 𝓤 H A W κ q d i j i-fits j-fits n) $ heard ! (n ≡ valueAt (now s) (p .values) k) (λ en. split ! $ move ! (1 ∷ []) $
         -- [the value; the token; the mark; what tables owns; _9; …]
         peeks ! usize (Is usize) (shows 𝓤 H A usize) n (y ∷ []) (λ isn.
         land ! (from ! (stop !)) (init ! 8 refl (uint-lawful 𝓤 H A W w64 .typed n _ isn .0)) $
@@ -219,7 +184,7 @@ module _ {M : Type 1} (𝓤 : URA M) (H : Heap 𝓤) (A : Atoms 𝓤) (W : Given
         keep ! (0 ∷ 2 ∷ 3 ∷ []) $ by ! (exits c x (seen-at (now s) p i j m n c em en ec))))))))))))))))))))))))))))
 
 module _ {M : Type 1} (𝓤 : URA M) (H : Heap 𝓤) (A : Atoms 𝓤) (W : Given 𝓤 H A) (mem : Memory → SProp 𝓤) (run : Routine → Fun 𝓤) where
-  cell-walks : (C : Calls 𝓤 H) (Λ : Loops 𝓤 H) → FmC 𝓤 H (W .laws) C → Triple 𝓤 (C #window·window-at) (New 𝓤 H A mem run) → Triple 𝓤 (C #window·mark) (Mark 𝓤 H A mem run) → Triple 𝓤 (C #window·value) (Value 𝓤 H A mem run) → Triple 𝓤 (C #window·seen) (Sight 𝓤 H A mem run)
+  cell-walks : (C : Calls 𝓤 H) (Λ : Loops 𝓤 H) → FmC 𝓤 H (W .laws) C → Triple 𝓤 (C #window·window-at) (New 𝓤 H A mem run) → Triple 𝓤 (C #window·mark) (Reads of-mark 𝓤 H A) → Triple 𝓤 (C #window·value) (Reads of-value 𝓤 H A) → Triple 𝓤 (C #window·seen) (Sight 𝓤 H A mem run)
       → Walks 𝓤 H A f.ended stayed (WpFn 𝓤 H C Λ code.function) (f.clauses 𝓤 H A mem run)
   cell-walks C Λ fm k₁ k₂ k₃ k₄ = walked 𝓤 H A f.ended stayed (f.clauses 𝓤 H A mem run) (WpFn 𝓤 H C Λ code.function)
       (λ κs. (slice-vals, (LL.vals P.the-type P′.the-laws, (uint-vals w64, (uint-vals w64, tt))))) (λ κs. (shr-slice-tells (named 0) (κs .0) u8, (LL.tells P.the-type P′.the-laws, (uint-tells w64, (uint-tells w64, tt)))))
@@ -227,7 +192,7 @@ module _ {M : Type 1} (𝓤 : URA M) (H : Heap 𝓤) (A : Atoms 𝓤) (W : Given
       walk 𝓤 H A W mem run (κs .0) (qs .0) (a .0) (a .1 .0) (a .1 .1 .0) (a .1 .1 .1 .0) (are .1 .0) (are .1 .1 .0 .1) (are .1 .1 .1 .0 .1) C Λ fm k₁ k₂ k₃ k₄ (are .0) within))
 
 cell-meets : {M : Type 1} (𝓤 : URA M) (H : Heap 𝓤) (A : Atoms 𝓤) (W : Given 𝓤 H A) (mem : Memory → SProp 𝓤) (run : Routine → Fun 𝓤) (𝓣 : Tables 𝓤 H)
-    → Triple 𝓤 (𝓣 .C #window·window-at) (New 𝓤 H A mem run) → Triple 𝓤 (𝓣 .C #window·mark) (Mark 𝓤 H A mem run) → Triple 𝓤 (𝓣 .C #window·value) (Value 𝓤 H A mem run) → Triple 𝓤 (𝓣 .C #window·seen) (Sight 𝓤 H A mem run)
+    → Triple 𝓤 (𝓣 .C #window·window-at) (New 𝓤 H A mem run) → Triple 𝓤 (𝓣 .C #window·mark) (Reads of-mark 𝓤 H A) → Triple 𝓤 (𝓣 .C #window·value) (Reads of-value 𝓤 H A) → Triple 𝓤 (𝓣 .C #window·seen) (Sight 𝓤 H A mem run)
     → Meets 𝓤 H A f.signature (WpFn 𝓤 H (𝓣 .C) (𝓣 .Λ) code.function) (f.spec 𝓤 H A mem run)
 cell-meets 𝓤 H A W mem run 𝓣 k₁ k₂ k₃ k₄ =
     walk-meets 𝓤 H A f.ended stayed W (goes-none-slice 𝓤 H A W 1 (0 ∷ []) tt (plain (λ _. u8)) yes, (goes-none 𝓤 H A W 1 (λ _. P.the-row) yes (λ κs x f. refl), (goes-none 𝓤 H A W 1 (λ _. usize) yes (λ κs x f. refl), (goes-none 𝓤 H A W 1 (λ _. usize) yes (λ κs x f. refl), tt)))) (f.clauses 𝓤 H A mem run)
@@ -240,6 +205,6 @@ cell-spec 𝓤 H 𝓜 𝓖 𝓡 =
     (tables 𝓤 H 𝓜 𝓡 code.env .C) (tables 𝓤 H 𝓜 𝓡 code.env .Λ) #window·cell code.function (code.unfolded 𝓤 H 𝓜 𝓡)
     (cell-meets 𝓤 H (𝓖 .A) (givenOf 𝓤 H 𝓜 𝓖) (𝓜 .mem) (𝓡 .run) (tablesOf 𝓤 H 𝓜 (tables 𝓤 H 𝓜 𝓡 code.env))
     (cited 𝓤 H (New 𝓤 H (𝓖 .A) (𝓜 .mem) (𝓡 .run)) 𝓜 𝓡 code.env #window·window-at new-def.routine code.calls-window·window-at (new-thm.met 𝓤 H 𝓜 𝓖 𝓡))
-    (cited 𝓤 H (Mark 𝓤 H (𝓖 .A) (𝓜 .mem) (𝓡 .run)) 𝓜 𝓡 code.env #window·mark mark-def.routine code.calls-window·mark (mark-thm.met 𝓤 H 𝓜 𝓖 𝓡))
-    (cited 𝓤 H (Value 𝓤 H (𝓖 .A) (𝓜 .mem) (𝓡 .run)) 𝓜 𝓡 code.env #window·value value-def.routine code.calls-window·value (value-thm.met 𝓤 H 𝓜 𝓖 𝓡))
+    (cited 𝓤 H (Reads of-mark 𝓤 H (𝓖 .A)) 𝓜 𝓡 code.env #window·mark mark-def.routine code.calls-window·mark (mark-thm.met 𝓤 H 𝓜 𝓖 𝓡))
+    (cited 𝓤 H (Reads of-value 𝓤 H (𝓖 .A)) 𝓜 𝓡 code.env #window·value value-def.routine code.calls-window·value (value-thm.met 𝓤 H 𝓜 𝓖 𝓡))
     (cited 𝓤 H (Sight 𝓤 H (𝓖 .A) (𝓜 .mem) (𝓡 .run)) 𝓜 𝓡 code.env #window·seen seen-def.routine code.calls-window·seen (seen-thm.met 𝓤 H 𝓜 𝓖 𝓡)))

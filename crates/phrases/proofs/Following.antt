@@ -1,0 +1,263 @@
+-- What startValue finds behind a value, and start at a test, by the numbers that stand there.
+use mathlib.Core.Path.{_≡_, refl}
+use mathlib.Core.List.{List, [], _∷_}
+use mathlib.Core.Option.{Option, none, some}
+use Prim.Native.Nat.{ℕ, _+_, _-_, _<_, _≤_}
+use native.Mathlib.Omega.{arith}
+use lib.ListN.{getD}
+use Rattle.tables.specs.Lists.{_>>=_, _<|>_}
+use Rattle.tables.specs.Values.{Comparison, Eq, Ne, comparisonNumber, comparisonOf, Quantifier, Some, All}
+use Rattle.tables.proofs.Values.{comparison-number}
+use Rattle.cells.specs.Code.{fromExcess}
+use Rattle.cells.proofs.Signed.{to-from}
+use Rattle.rule.specs.Tokens.{Token, NOT, EXISTS, IN, SOME, ALL, IS, NULL, Open}
+use Rattle.rule.specs.Condition.{Compare, IsNull, IsNotNull, Atom, Over, WrittenValue, parts, fromsDeep}
+use Rattle.rule.specs.Parts.{listKind, compareKind, nullKind, notNullKind, existsKind}
+use Rattle.rule.specs.Reader.{expect, readValue, readFrom, Start, Whole, Around, OfExists, startList, startValue, start}
+use Rattle.lexer.specs.Code.{comparesCode, letterCode, codeOf}
+use Rattle.phrases.specs.Code.{tokensFrom, writtenOf, noteNumbers, leftNumbers, noted, Moved, ValueIs, FromIs, WholeIs, AroundIs, BracketIs, Starts, ListAt, BehindAt, TestAt}
+use Rattle.phrases.specs.declared.Note.{Note}
+use Rattle.phrases.specs.declared.Start.{Start as Started}
+use Rattle.phrases.specs.declared.Start.the-variants.{Whole as StartedWhole, Around as StartedAround, Bracket as StartedBracket, NoTest}
+use Rattle.phrases.proofs.Tokens.{expect-to, expect-no, comparison-to, comparison-no}
+use Rattle.phrases.proofs.Runs.{moved, no-value}
+use Rattle.phrases.proofs.Begun.{value-numbers}
+
+-- ---- a start that is found farther on is the start here
+
+earlier : {s : List ℕ} {at later next : ℕ} → at ≤ later → Moved s later next → Moved s at next
+earlier p m = record { later = omega (arith, m .later); within = m .within }
+
+pub starts-as : (s : List ℕ) (at later : ℕ) (found begun : Option Start) (r : Started) → at ≤ later → begun ≡ found → Starts s later found r → Starts s at begun r
+starts-as s at later found begun (StartedWhole note next) p e h =
+    record { whole = h .whole; found = rw (e) (h .found); notes = h .notes; one = h .one; flat = h .flat; moved = earlier p (h .moved) }
+starts-as s at later found begun (StartedAround note next) p e h =
+    record { opening = h .opening; found = rw (e) (h .found); notes = h .notes; one = h .one; deeper = h .deeper; moved = earlier p (h .moved) }
+starts-as s at later found begun (StartedBracket next) p e h = record { found = rw (e) (h .found); moved = earlier p (h .moved) }
+starts-as s at later found begun NoTest p e h = rw (e) h
+
+-- alternatives behind one that are none
+or-none : {A : Type 0} (o : Option A) → (o <|> none) ≡ o
+or-none none = refl
+or-none (some x) = refl
+
+-- ---- behind a value
+
+-- the word before a list
+abbrev listWord : Quantifier → Token
+listWord Some = SOME
+listWord All = ALL
+
+module _ (l : WrittenValue) (s : List ℕ) (at : ℕ) where
+  -- IS NULL, IS NOT NULL
+  module _ (is : getD s at 0 ≡ codeOf IS) where
+    behind-is :
+        startValue l (tokensFrom s at)
+        ≡ ((expect NULL (tokensFrom s (at + 1)) >>= (λ rest. some (Whole (Atom (IsNull l)) rest)))
+        <|> (expect NOT (tokensFrom s (at + 1)) >>= (λ vs. expect NULL vs >>= (λ rest. some (Whole (Atom (IsNotNull l)) rest)))))
+    unfolding startValue
+    behind-is =
+        rw (
+          expect-to s at (codeOf IS) (at + 1) tt refl is,
+          comparison-no s at (λ a b. omega arith),
+          expect-no s at (codeOf IN) (λ e. omega arith),
+          expect-no s at (codeOf NOT) (λ e. omega arith),
+        )
+        (simp or-none)
+
+    pub null-found : getD s (at + 1) 0 ≡ codeOf NULL → startValue l (tokensFrom s at) ≡ some (Whole (Atom (IsNull l)) (tokensFrom s (at + 2)))
+    null-found u = rw (behind-is, expect-to s (at + 1) (codeOf NULL) (at + 2) tt (omega arith) u)
+
+    pub no-null : (getD s (at + 1) 0 ≡ codeOf NULL → ⊥) → (getD s (at + 1) 0 ≡ codeOf NOT → ⊥) → startValue l (tokensFrom s at) ≡ none
+    no-null f g = rw (behind-is, expect-no s (at + 1) (codeOf NULL) f, expect-no s (at + 1) (codeOf NOT) g)
+
+    module _ (u : getD s (at + 1) 0 ≡ codeOf NOT) where
+      behind-not-is : startValue l (tokensFrom s at) ≡ (expect NULL (tokensFrom s (at + 2)) >>= (λ rest. some (Whole (Atom (IsNotNull l)) rest)))
+      behind-not-is = rw (behind-is, expect-no s (at + 1) (codeOf NULL) (λ e. omega arith), expect-to s (at + 1) (codeOf NOT) (at + 2) tt (omega arith) u)
+
+      pub no-not-null : (getD s (at + 2) 0 ≡ codeOf NULL → ⊥) → startValue l (tokensFrom s at) ≡ none
+      no-not-null f = rw (behind-not-is, expect-no s (at + 2) (codeOf NULL) f)
+
+      pub not-null-found : getD s (at + 2) 0 ≡ codeOf NULL → startValue l (tokensFrom s at) ≡ some (Whole (Atom (IsNotNull l)) (tokensFrom s (at + 3)))
+      not-null-found w = rw (behind-not-is, expect-to s (at + 2) (codeOf NULL) (at + 3) tt (omega arith) w)
+
+  -- a comparison
+  module _ (low : comparesCode < getD s at 0) (high : getD s at 0 < letterCode) where
+    abbrev op : Comparison
+    op = comparisonOf (getD s at 0 - comparesCode)
+
+    behind-comparison :
+        startValue l (tokensFrom s at)
+        ≡ ((readValue (tokensFrom s (at + 1)) >>= (λ r. some (Whole (Atom (Compare op l (r .0))) (r .1))))
+        <|> (expect SOME (tokensFrom s (at + 1)) >>= (λ us. startList Some op l us))
+        <|> (expect ALL (tokensFrom s (at + 1)) >>= (λ us. startList All op l us)))
+    unfolding startValue
+    behind-comparison =
+        rw (
+          expect-no s at (codeOf IS) (λ e. omega arith),
+          comparison-to s at (at + 1) refl low high,
+          expect-no s at (codeOf IN) (λ e. omega arith),
+          expect-no s at (codeOf NOT) (λ e. omega arith),
+        )
+        (simp or-none)
+
+    pub listed-found : (q : Quantifier) → getD s (at + 1) 0 ≡ codeOf (listWord q) → startValue l (tokensFrom s at) ≡ startList q op l (tokensFrom s (at + 2))
+    listed-found Some u =
+        rw (
+          behind-comparison,
+          no-value s (at + 1) (getD s (at + 1) 0) refl (omega arith),
+          expect-to s (at + 1) (codeOf SOME) (at + 2) tt (omega arith) u,
+          expect-no s (at + 1) (codeOf ALL) (λ e. omega arith),
+        )
+        (simp or-none)
+    listed-found All u =
+        rw (
+          behind-comparison,
+          no-value s (at + 1) (getD s (at + 1) 0) refl (omega arith),
+          expect-no s (at + 1) (codeOf SOME) (λ e. omega arith),
+          expect-to s (at + 1) (codeOf ALL) (at + 2) tt (omega arith) u,
+        )
+
+    pub nothing-compared :
+        (getD s (at + 1) 0 ≡ codeOf SOME → ⊥) → (getD s (at + 1) 0 ≡ codeOf ALL → ⊥) → readValue (tokensFrom s (at + 1)) ≡ none → startValue l (tokensFrom s at) ≡ none
+    nothing-compared f g e = rw (behind-comparison, e, expect-no s (at + 1) (codeOf SOME) f, expect-no s (at + 1) (codeOf ALL) g)
+
+    pub compared-found : (r m next : ℕ) → ValueIs s (at + 1) r m next → startValue l (tokensFrom s at) ≡ some (Whole (Atom (Compare op l (writtenOf r m))) (tokensFrom s next))
+    compared-found r m next v = rw (behind-comparison, v .found)
+
+  -- IN, NOT IN, and nothing of all
+  pub in-found : getD s at 0 ≡ codeOf IN → startValue l (tokensFrom s at) ≡ startList Some Eq l (tokensFrom s (at + 1))
+  unfolding startValue
+  in-found is =
+      rw (
+        expect-no s at (codeOf IS) (λ e. omega arith),
+        comparison-no s at (λ a b. omega arith),
+        expect-to s at (codeOf IN) (at + 1) tt refl is,
+        expect-no s at (codeOf NOT) (λ e. omega arith),
+      )
+      (simp or-none)
+
+  module _ (is : getD s at 0 ≡ codeOf NOT) where
+    behind-not : startValue l (tokensFrom s at) ≡ (expect IN (tokensFrom s (at + 1)) >>= (λ vs. startList All Ne l vs))
+    unfolding startValue
+    behind-not =
+        rw (
+          expect-no s at (codeOf IS) (λ e. omega arith),
+          comparison-no s at (λ a b. omega arith),
+          expect-no s at (codeOf IN) (λ e. omega arith),
+          expect-to s at (codeOf NOT) (at + 1) tt refl is,
+        )
+
+    pub no-in : (getD s (at + 1) 0 ≡ codeOf IN → ⊥) → startValue l (tokensFrom s at) ≡ none
+    no-in f = rw (behind-not, expect-no s (at + 1) (codeOf IN) f)
+
+    pub not-in-found : getD s (at + 1) 0 ≡ codeOf IN → startValue l (tokensFrom s at) ≡ startList All Ne l (tokensFrom s (at + 2))
+    not-in-found u = rw (behind-not, expect-to s (at + 1) (codeOf IN) (at + 2) tt (omega arith) u)
+
+  pub nothing-behind :
+      (getD s at 0 ≡ codeOf IS → ⊥) → (getD s at 0 ≡ codeOf IN → ⊥) → (getD s at 0 ≡ codeOf NOT → ⊥) → (comparesCode < getD s at 0 → getD s at 0 < letterCode → ⊥)
+      → startValue l (tokensFrom s at) ≡ none
+  unfolding startValue
+  nothing-behind f g h k = rw (expect-no s at (codeOf IS) f, comparison-no s at k, expect-no s at (codeOf IN) g, expect-no s at (codeOf NOT) h)
+
+-- the same, as what the functions answer: x and n are the value's numbers
+module _ (x n : ℕ) (s : List ℕ) (at : ℕ) where
+  module _ (is : getD s at 0 ≡ codeOf IS) (note : Note) where
+    pub a-null : getD s (at + 1) 0 ≡ codeOf NULL → noteNumbers note ≡ leftNumbers nullKind x n → WholeIs s at (startValue (writtenOf x n) (tokensFrom s at)) note (at + 2)
+    unfolding noted parts fromsDeep
+    a-null u e = record {
+      whole = Atom (IsNull (writtenOf x n));
+      found = null-found (writtenOf x n) s at is u;
+      notes = rw (e, value-numbers x n);
+      one = refl;
+      flat = refl;
+      moved = moved s at (at + 1) (at + 2) (omega arith) (omega arith) (omega arith);
+    }
+
+    pub a-not-null :
+        getD s (at + 1) 0 ≡ codeOf NOT → getD s (at + 2) 0 ≡ codeOf NULL → noteNumbers note ≡ leftNumbers notNullKind x n
+        → WholeIs s at (startValue (writtenOf x n) (tokensFrom s at)) note (at + 3)
+    unfolding noted parts fromsDeep
+    a-not-null u w e = record {
+      whole = Atom (IsNotNull (writtenOf x n));
+      found = not-null-found (writtenOf x n) s at is u w;
+      notes = rw (e, value-numbers x n);
+      one = refl;
+      flat = refl;
+      moved = moved s at (at + 2) (at + 3) (omega arith) (omega arith) (omega arith);
+    }
+
+  -- t is the number of a comparison
+  module _ (t : ℕ) (is : t ≡ getD s at 0) (low : comparesCode < t) (high : t < letterCode) where
+    pub a-comparison : (r m next : ℕ) → ValueIs s (at + 1) r m next → (note : Note) → noteNumbers note ≡ compareKind ∷ (t - comparesCode) ∷ 0 ∷ 0 ∷ x ∷ n ∷ r ∷ m ∷ []
+        → WholeIs s at (startValue (writtenOf x n) (tokensFrom s at)) note next
+    unfolding noted parts fromsDeep
+    a-comparison r m next v note e = record {
+      whole = Atom (Compare (comparisonOf (t - comparesCode)) (writtenOf x n) (writtenOf r m));
+      found = rw (is) (compared-found (writtenOf x n) s at (omega arith) (omega arith) r m next v);
+      notes = rw (e, comparison-number (t - comparesCode) (omega arith) (omega arith), value-numbers x n, value-numbers r m);
+      one = refl;
+      flat = refl;
+      moved = earlier (omega arith) (v .moved);
+    }
+
+    pub a-listed : (q : Quantifier) → getD s (at + 1) 0 ≡ codeOf (listWord q) → (r : Started) → ListAt s (at + 2) (listKind q) (t - comparesCode) x n r → BehindAt s at x n r
+    a-listed q u r h =
+        starts-as s at (at + 2) _ _ r (omega arith) (rw (is) (listed-found (writtenOf x n) s at (omega arith) (omega arith) q u)) (h q refl)
+
+  pub an-in : getD s at 0 ≡ codeOf IN → (r : Started) → ListAt s (at + 1) (listKind Some) (comparisonNumber Eq) x n r → BehindAt s at x n r
+  an-in is r h = starts-as s at (at + 1) _ _ r (omega arith) (in-found (writtenOf x n) s at is) (h Some refl)
+
+  pub a-not-in : getD s at 0 ≡ codeOf NOT → getD s (at + 1) 0 ≡ codeOf IN → (r : Started) → ListAt s (at + 2) (listKind All) (comparisonNumber Ne) x n r → BehindAt s at x n r
+  a-not-in is u r h = starts-as s at (at + 2) _ _ r (omega arith) (not-in-found (writtenOf x n) s at is u) (h All refl)
+
+-- ---- a test
+
+module _ (s : List ℕ) (at : ℕ) where
+  pub a-bracket : getD s at 0 ≡ codeOf Open → BracketIs s at (start (tokensFrom s at)) (at + 1)
+  unfolding start
+  a-bracket is = record {
+    found = rw (expect-to s at (codeOf Open) (at + 1) tt refl is);
+    moved = moved s at at (at + 1) (omega arith) refl (omega arith);
+  }
+
+  module _ (is : getD s at 0 ≡ codeOf EXISTS) where
+    behind-exists : start (tokensFrom s at) ≡ (expect Open (tokensFrom s (at + 1)) >>= (λ vs. readFrom vs >>= (λ f. some (Around (OfExists (f .0)) (f .1)))))
+    unfolding start
+    behind-exists =
+        rw (expect-no s at (codeOf Open) (λ e. omega arith), expect-to s at (codeOf EXISTS) (at + 1) tt refl is, no-value s at (getD s at 0) refl (omega arith))
+        (simp or-none)
+
+    pub no-exists : (getD s (at + 1) 0 ≡ codeOf Open → ⊥) → start (tokensFrom s at) ≡ none
+    no-exists f = rw (behind-exists, expect-no s (at + 1) (codeOf Open) f)
+
+    module _ (u : getD s (at + 1) 0 ≡ codeOf Open) where
+      behind-bracket : start (tokensFrom s at) ≡ (readFrom (tokensFrom s (at + 2)) >>= (λ f. some (Around (OfExists (f .0)) (f .1))))
+      behind-bracket = rw (behind-exists, expect-to s (at + 1) (codeOf Open) (at + 2) tt (omega arith) u)
+
+      pub no-rows : readFrom (tokensFrom s (at + 2)) ≡ none → start (tokensFrom s at) ≡ none
+      no-rows e = rw (behind-bracket, e)
+
+      pub an-exists :
+          (t y next : ℕ) → FromIs s (at + 2) t y next → (note : Note) → noteNumbers note ≡ existsKind ∷ 0 ∷ t ∷ y ∷ 0 ∷ 0 ∷ 0 ∷ 0 ∷ []
+          → AroundIs s at (start (tokensFrom s at)) note next
+      unfolding noted parts fromsDeep
+      an-exists t y next f note e = record {
+        opening = OfExists (Over (fromExcess t) y);
+        found = rw (behind-bracket, f .found);
+        notes = λ w. rw (e, to-from t);
+        one = λ w. refl;
+        deeper = λ w. refl;
+        moved = earlier (omega arith) (f .moved);
+      }
+
+  module _ (f : getD s at 0 ≡ codeOf Open → ⊥) (g : getD s at 0 ≡ codeOf EXISTS → ⊥) where
+    value-first : start (tokensFrom s at) ≡ (readValue (tokensFrom s at) >>= (λ l. startValue (l .0) (l .1)))
+    unfolding start
+    value-first = rw (expect-no s at (codeOf Open) f, expect-no s at (codeOf EXISTS) g)
+
+    pub no-test : readValue (tokensFrom s at) ≡ none → start (tokensFrom s at) ≡ none
+    no-test e = rw (value-first, e)
+
+    pub a-value-test : (x n next : ℕ) → ValueIs s at x n next → (r : Started) → BehindAt s next x n r → TestAt s at r
+    a-value-test x n next v r h = starts-as s at next _ _ r (omega (arith, v .moved .later)) (rw (value-first, v .found)) h

@@ -1,0 +1,4 @@
+pub mod Tokens
+pub mod Runs
+pub mod Begun
+pub mod Following

@@ -1,0 +1,127 @@
+-- What the functions of src/ promise one another and their callers, in the terms of the code: tokens and parts as numbers. The contract of a public
+-- call cites nothing of this file.
+use mathlib.Core.Path.{_≡_}
+use mathlib.Core.Bool.{cond}
+use mathlib.Core.List.{List, [], _∷_, _++_}
+use mathlib.Core.Option.{Option, none, some}
+use Prim.Native.Nat.{ℕ, _+_, _<_, _≤_}
+use lib.Dec.{eqb}
+use lib.ListN.{length, drop}
+use Rattle.tables.specs.Values.{comparisonNumber, comparisonOf, Quantifier}
+use Rattle.cells.specs.Code.{fromExcess, toExcess}
+use Rattle.rule.specs.Condition.{Compare, IsNull, IsNotNull, Atom, Join, Not, Exists, Listed, WrittenValue, Plain, Named, Over, WrittenCondition, parts, fromsDeep}
+use Rattle.rule.specs.Parts.{joinKind, listKind, notKind, compareKind, nullKind, notNullKind, existsKind}
+use Rattle.rule.specs.Grammar.{Tokens}
+use Rattle.rule.specs.Reader.{readValue, readFrom, Opening, Bracket, closed, Start, Whole, Around, startList, startValue, start}
+use Rattle.lexer.specs.Code.{tokensIn}
+use Rattle.phrases.specs.declared.Note.{Note}
+use Rattle.phrases.specs.declared.ValueRead.{ValueRead}
+use Rattle.phrases.specs.declared.ValueRead.the-variants.{Value as ReadValue, NoValue}
+use Rattle.phrases.specs.declared.FromRead.{FromRead}
+use Rattle.phrases.specs.declared.FromRead.the-variants.{From as ReadFrom, NoFrom}
+use Rattle.phrases.specs.declared.Start.{Start as Started}
+use Rattle.phrases.specs.declared.Start.the-variants.{Whole as StartedWhole, Around as StartedAround, Bracket as StartedBracket, NoTest}
+
+-- ---- a part as numbers
+
+-- kind, comparison, the number and the letter of its FROM, and its values: a letter and a number each
+abbrev pub noteNumbers : Note → List ℕ
+noteNumbers p =
+    p .kind ∷ p .comparison ∷ p .table ∷ p .letter ∷ p .«left_letter» ∷ p .«left_number» ∷ p .«right_letter» ∷ p .«right_number» ∷ []
+
+-- a value as it is written: a letter, 0 for a number alone, and a number plus 2 ^ 31
+abbrev pub writtenNumbers : WrittenValue → List ℕ
+writtenNumbers (Plain k) = 0 ∷ toExcess k ∷ []
+writtenNumbers (Named x k) = x ∷ toExcess k ∷ []
+
+abbrev pub writtenOf : ℕ → ℕ → WrittenValue
+writtenOf x n = cond (eqb x 0) (Plain (fromExcess n)) (Named x (fromExcess n))
+
+-- a part of this kind with a left value alone, or with none
+abbrev pub leftNumbers : ℕ → ℕ → ℕ → List ℕ
+leftNumbers kind x n = kind ∷ 0 ∷ 0 ∷ 0 ∷ x ∷ n ∷ 0 ∷ 0 ∷ []
+
+abbrev pub plainNoteNumbers : ℕ → List ℕ
+plainNoteNumbers kind = leftNumbers kind 0 0
+
+-- the parts of a condition as they are written, each after its inner parts
+unfoldable pub noted : WrittenCondition → List ℕ
+noted (Atom (Compare op l r)) = compareKind ∷ comparisonNumber op ∷ 0 ∷ 0 ∷ (writtenNumbers l ++ writtenNumbers r)
+noted (Atom (IsNull l)) = nullKind ∷ 0 ∷ 0 ∷ 0 ∷ (writtenNumbers l ++ (0 ∷ 0 ∷ []))
+noted (Atom (IsNotNull l)) = notNullKind ∷ 0 ∷ 0 ∷ 0 ∷ (writtenNumbers l ++ (0 ∷ 0 ∷ []))
+noted (Join j a b) = noted a ++ (noted b ++ plainNoteNumbers (joinKind j))
+noted (Not a) = noted a ++ plainNoteNumbers notKind
+noted (Exists (Over n x) w) = noted w ++ (existsKind ∷ 0 ∷ toExcess n ∷ x ∷ 0 ∷ 0 ∷ 0 ∷ 0 ∷ [])
+noted (Listed q op l s (Over n x) w) =
+    noted w ++ (listKind q ∷ comparisonNumber op ∷ toExcess n ∷ x ∷ (writtenNumbers l ++ writtenNumbers s))
+
+-- ---- places
+
+-- the tokens from a place on
+abbrev pub tokensFrom : List ℕ → ℕ → Tokens
+tokensFrom s at = drop at (tokensIn s)
+
+-- a place after another, among the tokens
+pub record Moved (s : List ℕ) (at next : ℕ) : Type 0 where
+  pub later : at < next
+  pub within : next ≤ length s
+
+-- ---- runs of tokens
+
+pub record ValueIs (s : List ℕ) (at x n next : ℕ) : Type 0 where
+  pub found : readValue (tokensFrom s at) ≡ some (writtenOf x n, tokensFrom s next)
+  pub moved : Moved s at next
+
+abbrev pub ValueAt : List ℕ → ℕ → ValueRead → Type 0
+ValueAt s at (ReadValue x n next) = ValueIs s at x n next
+ValueAt s at NoValue = readValue (tokensFrom s at) ≡ none
+
+pub record FromIs (s : List ℕ) (at t x next : ℕ) : Type 0 where
+  pub found : readFrom (tokensFrom s at) ≡ some (Over (fromExcess t) x, tokensFrom s next)
+  pub moved : Moved s at next
+
+abbrev pub FromAt : List ℕ → ℕ → FromRead → Type 0
+FromAt s at (ReadFrom t x next) = FromIs s at t x next
+FromAt s at NoFrom = readFrom (tokensFrom s at) ≡ none
+
+-- ---- starts: `begun` is what the definition finds at a place
+
+-- a test that is read to its end is one part, with these numbers
+pub record WholeIs (s : List ℕ) (at : ℕ) (begun : Option Start) (note : Note) (next : ℕ) : Type 0 where
+  pub whole : WrittenCondition
+  pub found : begun ≡ some (Whole whole (tokensFrom s next))
+  pub notes : noted whole ≡ noteNumbers note
+  pub one : parts whole ≡ 1
+  pub flat : fromsDeep whole ≡ 0
+  pub moved : Moved s at next
+
+-- what stands before a condition makes one part more of it, and one FROM
+pub record AroundIs (s : List ℕ) (at : ℕ) (begun : Option Start) (note : Note) (next : ℕ) : Type 0 where
+  pub opening : Opening
+  pub found : begun ≡ some (Around opening (tokensFrom s next))
+  pub notes : (w : WrittenCondition) → noted (closed opening w) ≡ noted w ++ noteNumbers note
+  pub one : (w : WrittenCondition) → parts (closed opening w) ≡ 1 + parts w
+  pub deeper : (w : WrittenCondition) → fromsDeep (closed opening w) ≡ 1 + fromsDeep w
+  pub moved : Moved s at next
+
+pub record BracketIs (s : List ℕ) (at : ℕ) (begun : Option Start) (next : ℕ) : Type 0 where
+  pub found : begun ≡ some (Around Bracket (tokensFrom s next))
+  pub moved : Moved s at next
+
+abbrev pub Starts : List ℕ → ℕ → Option Start → Started → Type 0
+Starts s at begun (StartedWhole note next) = WholeIs s at begun note next
+Starts s at begun (StartedAround note next) = AroundIs s at begun note next
+Starts s at begun (StartedBracket next) = BracketIs s at begun next
+Starts s at begun NoTest = begun ≡ none
+
+-- of a list, behind its value and comparison
+abbrev pub ListAt : (s : List ℕ) (at kind comparison x n : ℕ) → Started → Type 0
+ListAt s at kind comparison x n r =
+    (q : Quantifier) → kind ≡ listKind q → Starts s at (startList q (comparisonOf comparison) (writtenOf x n) (tokensFrom s at)) r
+
+-- behind a value
+abbrev pub BehindAt : (s : List ℕ) (at x n : ℕ) → Started → Type 0
+BehindAt s at x n r = Starts s at (startValue (writtenOf x n) (tokensFrom s at)) r
+
+abbrev pub TestAt : List ℕ → ℕ → Started → Type 0
+TestAt s at r = Starts s at (start (tokensFrom s at)) r

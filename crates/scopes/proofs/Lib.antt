@@ -1,0 +1,4 @@
+pub mod Looking
+pub mod Resolving
+pub mod Comparing
+pub mod Scopes

@@ -1,0 +1,119 @@
+-- What the functions of src/ promise one another and their callers, in the terms of the code: bound letters as numbers. The contract of a public call
+-- cites nothing of this file.
+use mathlib.Core.Path.{_≡_}
+use mathlib.Core.Bool.{_||_, cond}
+use mathlib.Core.List.{List, [], _∷_, _++_}
+use mathlib.Core.Option.{Option, none, some, Option·map}
+use Prim.Native.Nat.{ℕ, zero, suc, _+_, _*_, _<_, _≤_}
+use lib.Dec.{eqb, ltb}
+use lib.ListN.{length, getD, set, replicate}
+use Rattle.tables.specs.Tables.{tableCount}
+use Rattle.tables.specs.Values.{mostLevels, constantTag, Value}
+use Rattle.cells.specs.Code.{toExcess}
+use Rattle.rule.specs.Condition.{WrittenValue}
+use Rattle.rule.specs.Names.{judgedTable, judgedLetter, Binding, Scope, nearest}
+use Rattle.rule.specs.Parts.{nullKind, notNullKind, existsKind, taggedOf, naturalOf}
+use Rattle.rule.specs.declared.TaggedValue.{TaggedValue}
+use Rattle.phrases.specs.Code.{writtenOf}
+use Rattle.grammar.specs.Code.{noteLeftLetter, noteRightLetter}
+use Rattle.scopes.specs.declared.Fields.{Fields}
+use Rattle.scopes.specs.declared.Resolved.{Resolved}
+use Rattle.scopes.specs.declared.Resolved.the-variants.{Value as ResolvedValue, Unresolved}
+use Rattle.scopes.specs.declared.Compared.{Compared}
+use Rattle.scopes.specs.declared.Compared.the-variants.{Part as ComparedPart, NoValues}
+
+-- ---- how many letters may be bound around a part: the judged row's and those of the FROMs; each takes two elements, its letter and its table
+
+abbrev pub scopeSize : ℕ
+scopeSize = 2 * mostLevels
+
+-- ---- values as numbers
+
+-- a value: its tag, and a constant plus 2 ^ 31 or a column; 0 and 0 where a part has none
+abbrev pub taggedNumbers : TaggedValue → List ℕ
+taggedNumbers v = v .tag ∷ cond (eqb (v .tag) constantTag) (toExcess (v .number)) (naturalOf (v .number)) ∷ []
+
+abbrev pub valueNumbers : Value → List ℕ
+valueNumbers v = taggedNumbers (taggedOf v)
+
+-- ---- numbers and letters
+
+-- a table or column; 0 for none
+abbrev pub existingAs : ℕ → Option ℕ
+existingAs zero = none
+existingAs (suc n) = some (suc n)
+
+-- level k, and all the levels below a number, the nearest first
+abbrev pub bindingIn : List ℕ → ℕ → Binding
+bindingIn scope k = record { letter = getD scope (2 * k) 0; level = k; table = getD scope (2 * k + 1) 0 }
+
+unfoldable pub scopeIn : List ℕ → ℕ → Scope
+scopeIn scope zero = []
+scopeIn scope (suc k) = bindingIn scope k ∷ scopeIn scope k
+
+-- the scope with the letter x, which ranges over the table t, at the next level
+abbrev pub binding : List ℕ → ℕ → ℕ → ℕ → List ℕ
+binding scope levels x t = set (set scope (2 * levels) x) (2 * levels + 1) t
+
+-- around a whole rule m alone is bound, which ranges over table 1
+abbrev pub outerScope : List ℕ
+outerScope = binding (replicate scopeSize 0) 0 judgedLetter judgedTable
+
+-- r is the level of the nearest binding of x, or the number of levels if there is none
+pub record NearestAt (scope : List ℕ) (levels x r : ℕ) : Type 0 where
+  pub within : r ≤ levels
+  pub found : nearest (scopeIn scope levels) x ≡ cond (ltb r levels) (some (bindingIn scope r)) none
+
+-- there is room for the levels, and the table of each level exists
+pub record ScopeFits (file scope : List ℕ) (levels : ℕ) : Type 0 where
+  pub size : length scope ≡ scopeSize
+  pub few : levels ≤ mostLevels
+  pub table-low : (k : ℕ) → k < levels → 1 ≤ getD scope (2 * k + 1) 0
+  pub table-high : (k : ℕ) → k < levels → getD scope (2 * k + 1) 0 ≤ tableCount file
+
+-- what a value came to: its numbers, or it means nothing
+abbrev pub resolvedAs : Resolved → Option (List ℕ)
+resolvedAs (ResolvedValue t n) = some (t ∷ n ∷ [])
+resolvedAs Unresolved = none
+
+-- the value that is noted from element i on
+abbrev pub writtenAt : List ℕ → ℕ → WrittenValue
+writtenAt notes i = writtenOf (getD notes i 0) (getD notes (i + 1) 0)
+
+-- ---- parts as numbers
+
+-- kind, comparison, table, end, and two values of a tag and a number each
+abbrev pub partFields : Fields → List ℕ
+partFields p = p .kind ∷ p .comparison ∷ p .table ∷ p .end ∷ p .«left_tag» ∷ p .«left_number» ∷ p .«right_tag» ∷ p .«right_number» ∷ []
+
+-- a part that says no more than its kind
+abbrev pub plainPartNumbers : ℕ → ℕ → List ℕ
+plainPartNumbers kind end′ = kind ∷ 0 ∷ 0 ∷ end′ ∷ 0 ∷ 0 ∷ 0 ∷ 0 ∷ []
+
+-- the left and the right value of the part that is noted from element b on
+abbrev pub leftWritten : List ℕ → ℕ → WrittenValue
+leftWritten notes b = writtenAt notes (b + noteLeftLetter)
+
+abbrev pub rightWritten : List ℕ → ℕ → WrittenValue
+rightWritten notes b = writtenAt notes (b + noteRightLetter)
+
+-- the numbers of a part with two values: its kind, comparison, table and end, and its values; or one of them means nothing
+abbrev pub comparedNumbers : ℕ → ℕ → ℕ → ℕ → Option Value → Option Value → Option (List ℕ)
+comparedNumbers kind op t e (some v) (some w) = some (kind ∷ op ∷ t ∷ e ∷ (valueNumbers v ++ valueNumbers w))
+comparedNumbers kind op t e (some v) none = none
+comparedNumbers kind op t e none w = none
+
+-- the same of IS NULL and IS NOT NULL, which have a left value alone
+abbrev pub nullNumbers : ℕ → ℕ → Option Value → Option (List ℕ)
+nullNumbers kind e v = Option·map (λ x. kind ∷ 0 ∷ 0 ∷ e ∷ (valueNumbers x ++ (0 ∷ 0 ∷ []))) v
+
+-- and of any part but AND, OR and NOT: EXISTS has no values
+abbrev pub ownPartNumbers : ℕ → ℕ → ℕ → ℕ → Option Value → Option Value → Option (List ℕ)
+ownPartNumbers kind op t e v w =
+    cond (eqb kind existsKind) (some (kind ∷ 0 ∷ t ∷ e ∷ 0 ∷ 0 ∷ 0 ∷ 0 ∷ []))
+    (cond (eqb kind nullKind || eqb kind notNullKind) (nullNumbers kind e v) (comparedNumbers kind op t e v w))
+
+-- what it came to
+abbrev pub comparedAs : Compared → Option (List ℕ)
+comparedAs (ComparedPart p) = some (partFields p)
+comparedAs NoValues = none

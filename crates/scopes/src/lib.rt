@@ -1,0 +1,279 @@
+// The letters that are bound around a part; what a noted value, a table or a column stands for there, and so a part's fields.
+// Short names: scope, the bound letters, the outermost first; levels, how many of them there are; notes, the parts as they are written; e, a part's end.
+ghost use mathlib.Core.Path.{_≡_};
+ghost use mathlib.Core.Option.{Option·map};
+ghost use Prim.Native.Nat.{_+_, _<_, _≤_};
+ghost use lib.ListN.{length, getD};
+ghost use Rattle.tables.specs.Tables.{columnsOf};
+ghost use Rattle.tables.specs.Values.{mostLevels};
+ghost use Rattle.cells.specs.Code.{fromExcess, Sized};
+ghost use Rattle.rule.specs.Names.{existing, valueIn};
+ghost use Rattle.phrases.specs.Code.{writtenOf};
+ghost use Rattle.grammar.specs.Code.{noteSize, noteComparison};
+ghost use Rattle.rule.specs.Parts.{notNullKind, existsKind};
+ghost use Rattle.scopes.specs.Code.{scopeSize, existingAs, scopeIn, binding, outerScope, NearestAt, ScopeFits, valueNumbers, resolvedAs, writtenAt, leftWritten, rightWritten, partFields, plainPartNumbers, comparedNumbers, nullNumbers, ownPartNumbers, comparedAs};
+use cells::EXCESS;
+use grammar::MOST_FROMS;
+use grammar::NOTE_COMPARISON;
+use grammar::NOTE_LEFT_LETTER;
+use grammar::NOTE_RIGHT_LETTER;
+use rule::EXISTS_PART;
+use rule::NOT_NULL_PART;
+use rule::NULL_PART;
+use values::CONSTANT;
+
+// The judged row's letter and those of the FROMs around a part: a letter and a table for each.
+pub const SCOPE_NUMBERS: usize = 2 * (1 + MOST_FROMS);
+
+// The letter of the judged row, m, and the table that it ranges over.
+const JUDGED_LETTER: usize = 109;
+
+const JUDGED_TABLE: usize = 1;
+
+// What a value stands for: its tag and its number.
+pub enum Resolved {
+    Value(usize, usize),
+    Unresolved,
+}
+
+// The fields of a part as numbers; a constant is the number plus 2 ^ 31.
+pub struct Fields {
+    pub kind: usize,
+    pub comparison: usize,
+    pub table: usize,
+    pub end: usize,
+    pub left_tag: usize,
+    pub left_number: usize,
+    pub right_tag: usize,
+    pub right_number: usize,
+}
+
+// A part by its fields, or one of its values means nothing.
+pub enum Compared {
+    Part(Fields),
+    NoValues,
+}
+
+// The table or column with a noted number, of which there are so many; 0 if there is none.
+pub fn find_numbered(number: usize, most: usize) -> usize
+    requires { ⌜ most < 256 ⌝ }
+    ensures is { λ r. ⌜ existingAs r ≡ existing most (fromExcess number) ⌝ }
+    ensures small { λ r. ⌜ r ≤ most ⌝ }
+{
+    if number <= EXCESS {
+        return 0;
+    }
+    if EXCESS + most < number {
+        return 0;
+    }
+    number - EXCESS
+}
+
+// The level of the nearest binding of a letter; the number of levels if there is none.
+fn find_letter(scope: &[usize; SCOPE_NUMBERS], levels: usize, letter: usize) -> usize
+    requires { ⌜ length (now scope) ≡ scopeSize ⌝ ∗ ⌜ levels ≤ mostLevels ⌝ }
+    ensures { λ r. ⌜ NearestAt (now (scope .entry)) levels letter r ⌝ }
+{
+    let mut k: usize = levels;
+    while 0 < k {
+        if scope[2 * (k - 1)] == letter {
+            return k - 1;
+        }
+        k -= 1;
+    }
+    levels
+}
+
+// What a noted value stands for where these letters are bound.
+fn resolve(
+    file: &[u8],
+    scope: &[usize; SCOPE_NUMBERS],
+    levels: usize,
+    letter: usize,
+    number: usize,
+) -> Resolved
+    requires { ⌜ Sized (now file) ⌝ ∗ ⌜ ScopeFits (now file) (now scope) levels ⌝ }
+    ensures { λ r. ⌜ resolvedAs r ≡ Option·map valueNumbers (valueIn (columnsOf (now (file .entry))) (scopeIn (now (scope .entry)) levels) (writtenOf letter number)) ⌝ }
+{
+    if letter == 0 {
+        return Resolved::Value(CONSTANT, number);
+    }
+    let level = find_letter(scope, levels, letter);
+    if level == levels {
+        return Resolved::Unresolved;
+    }
+    let table = scope[2 * level + 1];
+    let column = find_numbered(number, cells::table_columns(file, table - 1));
+    if column == 0 {
+        return Resolved::Unresolved;
+    }
+    Resolved::Value(level, column)
+}
+
+// What the value that is noted from element i on stands for; its number stands behind its letter.
+fn resolve_noted(
+    file: &[u8],
+    notes: &[usize],
+    i: usize,
+    scope: &[usize; SCOPE_NUMBERS],
+    levels: usize,
+) -> Resolved
+    requires { ⌜ Sized (now file) ⌝ ∗ ⌜ i + 2 ≤ length (now notes) ⌝ ∗ ⌜ ScopeFits (now file) (now scope) levels ⌝ }
+    ensures { λ r. ⌜ resolvedAs r ≡ Option·map valueNumbers (valueIn (columnsOf (now (file .entry))) (scopeIn (now (scope .entry)) levels) (writtenAt (now (notes .entry)) i)) ⌝ }
+{
+    resolve(file, scope, levels, notes[i], notes[i + 1])
+}
+
+// The scope with one letter more, which ranges over this table.
+pub fn bind(
+    scope: &[usize; SCOPE_NUMBERS],
+    levels: usize,
+    letter: usize,
+    table: usize,
+) -> [usize; SCOPE_NUMBERS]
+    requires { ⌜ length (now scope) ≡ scopeSize ⌝ ∗ ⌜ levels < mostLevels ⌝ }
+    ensures { λ r. ⌜ r ≡ binding (now (scope .entry)) levels letter table ⌝ }
+{
+    let mut inside = *scope;
+    inside[2 * levels] = letter;
+    inside[2 * levels + 1] = table;
+    inside
+}
+
+// The scope of a whole rule: m alone.
+pub fn outermost() -> [usize; SCOPE_NUMBERS]
+    ensures { λ r. ⌜ r ≡ outerScope ⌝ }
+{
+    let none = [0; SCOPE_NUMBERS];
+    bind(&none, 0, JUDGED_LETTER, JUDGED_TABLE)
+}
+
+// The part with two values that is noted from element b on, with this table and this end; each value sees so many levels of the scope.
+fn compared_part(
+    file: &[u8],
+    notes: &[usize],
+    b: usize,
+    scope: &[usize; SCOPE_NUMBERS],
+    left_levels: usize,
+    right_levels: usize,
+    table: usize,
+    e: usize,
+) -> Compared
+    requires { ⌜ Sized (now file) ⌝ ∗ ⌜ b + noteSize ≤ length (now notes) ⌝ ∗ ⌜ ScopeFits (now file) (now scope) «right_levels» ⌝ ∗ ⌜ «left_levels» ≤ «right_levels» ⌝ }
+    ensures { λ r. ⌜ comparedAs r ≡ comparedNumbers (getD (now (notes .entry)) b 0) (getD (now (notes .entry)) (b + noteComparison) 0) table e (valueIn (columnsOf (now (file .entry))) (scopeIn (now (scope .entry)) «left_levels») (leftWritten (now (notes .entry)) b)) (valueIn (columnsOf (now (file .entry))) (scopeIn (now (scope .entry)) «right_levels») (rightWritten (now (notes .entry)) b)) ⌝ }
+{
+    let left = resolve_noted(file, notes, b + NOTE_LEFT_LETTER, scope, left_levels);
+    let Resolved::Value(left_tag, left_number) = left else {
+        return Compared::NoValues;
+    };
+    let right = resolve_noted(file, notes, b + NOTE_RIGHT_LETTER, scope, right_levels);
+    let Resolved::Value(right_tag, right_number) = right else {
+        return Compared::NoValues;
+    };
+    let part = Fields {
+        kind: notes[b],
+        comparison: notes[b + NOTE_COMPARISON],
+        table,
+        end: e,
+        left_tag,
+        left_number,
+        right_tag,
+        right_number,
+    };
+    Compared::Part(part)
+}
+
+// The part of IS NULL or IS NOT NULL that is noted from element b on.
+fn null_part(
+    file: &[u8],
+    notes: &[usize],
+    b: usize,
+    scope: &[usize; SCOPE_NUMBERS],
+    levels: usize,
+    e: usize,
+) -> Compared
+    requires { ⌜ Sized (now file) ⌝ ∗ ⌜ b + noteSize ≤ length (now notes) ⌝ ∗ ⌜ ScopeFits (now file) (now scope) levels ⌝ }
+    ensures { λ r. ⌜ comparedAs r ≡ nullNumbers (getD (now (notes .entry)) b 0) e (valueIn (columnsOf (now (file .entry))) (scopeIn (now (scope .entry)) levels) (leftWritten (now (notes .entry)) b)) ⌝ }
+{
+    let left = resolve_noted(file, notes, b + NOTE_LEFT_LETTER, scope, levels);
+    let Resolved::Value(left_tag, left_number) = left else {
+        return Compared::NoValues;
+    };
+    let part = Fields {
+        kind: notes[b],
+        comparison: 0,
+        table: 0,
+        end: e,
+        left_tag,
+        left_number,
+        right_tag: 0,
+        right_number: 0,
+    };
+    Compared::Part(part)
+}
+
+// The part of a test that is noted from element b on.
+pub fn test_part(
+    file: &[u8],
+    notes: &[usize],
+    b: usize,
+    scope: &[usize; SCOPE_NUMBERS],
+    levels: usize,
+    e: usize,
+) -> Compared
+    requires { ⌜ Sized (now file) ⌝ ∗ ⌜ b + noteSize ≤ length (now notes) ⌝ ∗ ⌜ ScopeFits (now file) (now scope) levels ⌝ ∗ ⌜ getD (now notes) b 0 ≤ notNullKind ⌝ }
+    ensures { λ r. ⌜ comparedAs r ≡ ownPartNumbers (getD (now (notes .entry)) b 0) (getD (now (notes .entry)) (b + noteComparison) 0) 0 e (valueIn (columnsOf (now (file .entry))) (scopeIn (now (scope .entry)) levels) (leftWritten (now (notes .entry)) b)) (valueIn (columnsOf (now (file .entry))) (scopeIn (now (scope .entry)) levels) (rightWritten (now (notes .entry)) b)) ⌝ }
+{
+    let kind = notes[b];
+    if kind == NULL_PART || kind == NOT_NULL_PART {
+        return null_part(file, notes, b, scope, levels, e);
+    }
+    compared_part(file, notes, b, scope, levels, levels, 0, e)
+}
+
+// The part with a FROM that is noted from element b on: that of EXISTS has no values.
+pub fn from_part(
+    file: &[u8],
+    notes: &[usize],
+    b: usize,
+    scope: &[usize; SCOPE_NUMBERS],
+    left_levels: usize,
+    right_levels: usize,
+    table: usize,
+    e: usize,
+) -> Compared
+    requires { ⌜ Sized (now file) ⌝ ∗ ⌜ b + noteSize ≤ length (now notes) ⌝ ∗ ⌜ ScopeFits (now file) (now scope) «right_levels» ⌝ ∗ ⌜ «left_levels» ≤ «right_levels» ⌝ ∗ ⌜ existsKind ≤ getD (now notes) b 0 ⌝ }
+    ensures { λ r. ⌜ comparedAs r ≡ ownPartNumbers (getD (now (notes .entry)) b 0) (getD (now (notes .entry)) (b + noteComparison) 0) table e (valueIn (columnsOf (now (file .entry))) (scopeIn (now (scope .entry)) «left_levels») (leftWritten (now (notes .entry)) b)) (valueIn (columnsOf (now (file .entry))) (scopeIn (now (scope .entry)) «right_levels») (rightWritten (now (notes .entry)) b)) ⌝ }
+{
+    let kind = notes[b];
+    if kind != EXISTS_PART {
+        return compared_part(file, notes, b, scope, left_levels, right_levels, table, e);
+    }
+    let part = Fields {
+        kind,
+        comparison: 0,
+        table,
+        end: e,
+        left_tag: 0,
+        left_number: 0,
+        right_tag: 0,
+        right_number: 0,
+    };
+    Compared::Part(part)
+}
+
+// A part that says no more than its kind.
+pub fn plain_part(kind: usize, end: usize) -> Fields
+    ensures { λ r. ⌜ partFields r ≡ plainPartNumbers kind end ⌝ }
+{
+    Fields {
+        kind,
+        comparison: 0,
+        table: 0,
+        end,
+        left_tag: 0,
+        left_number: 0,
+        right_tag: 0,
+        right_number: 0,
+    }
+}
