@@ -1,11 +1,11 @@
 -- Parts as they are noted, one after the other.
-use mathlib.Core.Path.{_≡_, refl, sym, ap, _∙_}
-use mathlib.Core.List.{List, [], _∷_, _++_, append-assoc, append-nil}
+use mathlib.Core.Path.{_≡_, refl, sym, ap, ap₂, _∙_}
+use mathlib.Core.List.{List, _∷_, _++_, append-assoc, append-nil}
 use Prim.Native.Nat.{ℕ, zero, suc, _+_, _*_, _≤_, _<_}
 use native.Mathlib.Numerals.{add-one}
 use native.Mathlib.Omega.{arith}
-use lib.ListN.{length, take, set, length-set}
-use lib.Seq.{take-suc-set}
+use lib.ListN.{length, take, set}
+use Rattle.tables.proofs.Placed.{fill, filled, taken-through, placed-length}
 use Rattle.rule.specs.Condition.{Not, WrittenCondition, parts, fromsDeep}
 use Rattle.rule.specs.Names.{mostParts}
 use Rattle.rule.specs.Parts.{notKind}
@@ -15,34 +15,15 @@ use Rattle.phrases.specs.declared.Note.{Note}
 
 -- ---- one part
 
--- the first n elements are those of b, and then those of x
-pub record Filled (l : List ℕ) (n : ℕ) (b x : List ℕ) : Type 0 where
-  pub first : take n l ≡ b ++ x
-  pub size : length l ≡ notesSize
-
-put : {l b x : List ℕ} (i j a : ℕ) → j ≡ suc i → i < notesSize → Filled l i b x → Filled (set l i a) j b (x ++ (a ∷ []))
-put {l} {b} {x} i j a e h f =
-    let n : i < length l = omega (arith, f .size) in
-    record { first = rw e (take-suc-set l i a n ∙ ap (_++ (a ∷ [])) (f .first) ∙ append-assoc b x (a ∷ [])); size = length-set l i a ∙ f .size }
-
--- numbers put one after the other, from place at + k on
-abbrev fill : List ℕ → ℕ → ℕ → List ℕ → List ℕ
-fill l at k [] = l
-fill l at k (a ∷ y) = fill (set l (at + k) a) at (k + 1) y
-
-all-put : {l b x : List ℕ} (at k n : ℕ) (y : List ℕ) → n ≡ at + k + length y → n ≤ notesSize → Filled l (at + k) b x → Filled (fill l at k y) n b (x ++ y)
-all-put {x = x} at k n [] e h f = let z : n ≡ at + k = omega arith in rw (z, append-nil x) f
-all-put {x = x} at k n (a ∷ y) e h f =
-    rw (append-assoc x (a ∷ []) y) at (all-put at (k + 1) n y (omega arith) h (put (at + k) (at + (k + 1)) a (omega arith) (omega arith) f))
-
 -- the numbers of a part behind w parts
-pub filled :
-    (l : List ℕ) (w : ℕ) → length l ≡ notesSize → w < mostParts → (a : ℕ) (y : List ℕ) → 1 + length y ≡ noteSize
-    → Filled (fill (set l (noteSize * w) a) (noteSize * w) 1 y) (noteSize * (w + 1)) (take (noteSize * w) l) (a ∷ y)
-filled l w size h a y e =
+pub one-put : (l : List ℕ) (w : ℕ) → length l ≡ notesSize → w < mostParts → (a : ℕ) (y : List ℕ) → 1 + length y ≡ noteSize
+    → (take (noteSize * (w + 1)) (fill (set l (noteSize * w) a) (noteSize * w) 1 y) ≡ take (noteSize * w) l ++ (a ∷ y))
+    × (length (fill (set l (noteSize * w) a) (noteSize * w) 1 y) ≡ notesSize)
+one-put l w size h a y e =
     let at = noteSize * w in
-    let empty : Filled l at (take at l) [] = record { first = sym (append-nil (take at l)); size = size } in
-    all-put at 1 (noteSize * (w + 1)) y (omega arith) (omega arith) (put at (at + 1) a (omega arith) (omega arith) empty)
+    let is = filled l at a y (omega arith) in
+    let through : noteSize * (w + 1) ≡ at + length (a ∷ y) = omega arith in
+    (ap₂ take through is ∙ taken-through l at (a ∷ y) (omega arith), ap length is ∙ placed-length l at (a ∷ y) (omega arith) ∙ size)
 
 -- ---- one part after the other
 

@@ -1,13 +1,13 @@
--- A list with another in its place from some number on: its length, one after another, one over another, the list around a part that was lent, and a
--- list copied element by element.
+-- A list with another in its place from some number on: its length, one after another, one over another, the list around a part that was lent, a
+-- list copied element by element, and elements stored one after the other.
 use mathlib.Core.Path.{_≡_, refl, sym, ap, ap₂, _∙_}
 use mathlib.Core.List.{List, [], _∷_, _++_, append-assoc}
-use Prim.Native.Nat.{ℕ, _+_, _-_, _<_, _≤_}
+use Prim.Native.Nat.{ℕ, suc, _+_, _-_, _<_, _≤_}
 use native.Mathlib.Nat.{zero-add, add-zero}
 use native.Mathlib.Numerals.{add-one}
 use native.Mathlib.Omega.{arith}
 use lib.ListN.{length, getD, take, drop, set, length-append, length-drop, length-set, take-append-drop}
-use lib.Seq.{length-take-le, take-at, drop-at, take-all, take-suc, take-take, take-append-le, take-append-seam, drop-drop, set-split}
+use lib.Seq.{length-take-le, take-at, drop-at, take-all, take-suc, take-take, take-append-le, take-append-seam, drop-drop, set-split, sets, sets-eq}
 use Rattle.tables.specs.Lists.{placed}
 
 module _ {A : Type 0} where
@@ -46,6 +46,15 @@ module _ {A : Type 0} where
   pub dropped-before : (old : List A) (i : ℕ) (new : List A) → i ≤ length old → drop i (placed old i new) ≡ new ++ drop (i + length new) old
   unfolding placed
   dropped-before old i new h = drop-at (take i old) _ i (length-take-le i old h)
+
+  -- up to its end
+  pub taken-through : (old : List A) (i : ℕ) (new : List A) → i ≤ length old → take (i + length new) (placed old i new) ≡ take i old ++ new
+  unfolding placed
+  taken-through old i new h =
+      let t = length-take-le i old h in
+      let front = take i old ++ new in
+      let rest = drop (i + length new) old in
+      ap (take (i + length new)) (sym (append-assoc (take i old) new rest)) ∙ take-at front rest (i + length new) (simp length-append (omega arith))
 
   -- behind the first m of what was placed
   pub dropped-part : (old : List A) (i : ℕ) (xs zs : List A) (m : ℕ) → i ≤ length old → length xs ≡ m
@@ -149,3 +158,20 @@ module _ {A : Type 0} where
 
     pub copied-same : (n : ℕ) → k ≡ n → n ≤ length from → take n new ≡ take n from
     copied-same n e h = ap (take n) (copied-front n e h) ∙ take-at (take n from) (drop n old) n (length-take-le n from h)
+
+module _ {A : Type 0} where
+  -- ---- stored one after the other, at places that are counted from the first one
+
+  abbrev pub fill : List A → ℕ → ℕ → List A → List A
+  fill l at k [] = l
+  fill l at k (a ∷ y) = fill (set l (at + k) a) at (k + 1) y
+
+  fill-sets : (y l : List A) (at k : ℕ) → fill l at k y ≡ sets l (at + k) y
+  fill-sets [] l at k = refl
+  fill-sets (a ∷ y) l at k =
+      let e : at + (k + 1) ≡ suc (at + k) = omega arith in
+      fill-sets y (set l (at + k) a) at (k + 1) ∙ ap (λ (j : ℕ). sets (set l (at + k) a) j y) e
+
+  pub filled : (l : List A) (at : ℕ) (a : A) (y : List A) → at + length (a ∷ y) ≤ length l → fill (set l at a) at 1 y ≡ placed l at (a ∷ y)
+  unfolding placed
+  filled l at a y h = fill-sets y (set l at a) at 1 ∙ ap (λ (j : ℕ). sets (set l at a) j y) (add-one at) ∙ sets-eq (a ∷ y) l at h ∙ append-assoc (take at l) (a ∷ y) _
