@@ -1,10 +1,10 @@
 /* Roskudla: entry rules with blanks, turned into cards that answer yes or no.
  *
- * Six calls. Each returns 0, or the number of a refusal (1 to 12, below): the lowest that applies. The answer comes through pointers, and a
- * refusal leaves everything that they point to as it was; after a success what lies past the answer is untouched. docs/RULES.md says how
- * rules are written and what they mean, docs/FORMATS.md what the bytes of tables and cards are; the definitions that the calls are proved
- * against are in crates/rule/specs, crates/tables/specs, crates/card/specs and crates/translation/specs, with an index in
- * docs/ARCHITECTURE.md.
+ * Six calls. Each returns 0, or the number of a refusal (1 to 12, below). Where several refusals apply, it is the first in the order that stands
+ * at the call; the numbers rise in each of these orders, so it is the lowest. The answer comes through pointers, and a refusal leaves everything
+ * that they point to as it was; after a success what lies past the answer is untouched. docs/RULES.md says how rules are written and what they
+ * mean, docs/FORMATS.md what the bytes of tables and cards are; the definitions that the calls are proved against are in crates/rule/specs,
+ * crates/tables/specs, crates/card/specs and crates/translation/specs, with an index in docs/ARCHITECTURE.md.
  *
  * A slice is a pointer and its length, in elements. Where the length is 0 the pointer is not looked at and may be NULL. All other pointers
  * point to as many elements as their length says, or to one where they have no length; they are never NULL, and are aligned as C aligns what
@@ -29,7 +29,7 @@
 extern "C" {
 #endif
 
-/* What a call returns; where several refusals apply, the lowest. */
+/* What a call returns. */
 enum roskudla_status {
     ROSKUDLA_OK = 0,
     ROSKUDLA_TABLES = 1,    /* tables: sizes or length wrong */
@@ -67,27 +67,27 @@ struct roskudla_part {
     struct roskudla_value right;
 };
 
-/* READ: the parts of a rule, from the start of parts on; *count becomes how many they are. Refusals 1 to 8 and 12. */
+/* READ: the parts of a rule, from the start of parts on; *count becomes how many they are. Refusals, in this order: 1 to 8, 12. */
 uint32_t roskudla_read(const uint8_t *text, size_t text_len, const uint8_t *tables, size_t tables_len,
                        struct roskudla_part *parts, size_t parts_len, size_t *count);
 
-/* JUDGE: *value becomes the value of a rule on a row of table 1: 0 false, 1 unknown, 2 true. Refusals 1 to 8 and 11. */
+/* JUDGE: *value becomes the value of a rule on a row of table 1: 0 false, 1 unknown, 2 true. Refusals, in this order: 1 to 8, 11. */
 uint32_t roskudla_judge(const uint8_t *text, size_t text_len, const uint8_t *tables, size_t tables_len,
                         size_t row, uint8_t *value);
 
-/* CARD: the card of a rule, from the start of card on; *length becomes how many bytes it has. Refusals 1 to 8 and 12. */
+/* CARD: the card of a rule, from the start of card on; *length becomes how many bytes it has. Refusals, in this order: 1 to 8, 12. */
 uint32_t roskudla_card(const uint8_t *text, size_t text_len, const uint8_t *tables, size_t tables_len,
                        uint8_t *card, size_t card_len, size_t *length);
 
 /* CHECK: whether a card is sound. Refusal 9. */
 uint32_t roskudla_check(const uint8_t *card, size_t card_len);
 
-/* RUN: *answer becomes what a card says of a row of table 1: 0 no, 1 yes. Refusals 1, 2 and 9 to 11. */
+/* RUN: *answer becomes what a card says of a row of table 1: 0 no, 1 yes. Refusals, in this order: 1, 2, 9 to 11. */
 uint32_t roskudla_run(const uint8_t *card, size_t card_len, const uint8_t *tables, size_t tables_len,
                       size_t row, uint8_t *answer);
 
 /* LIST: the numbers of the rows of table 1 that a card says yes to, rising, from the start of rows on; *count becomes how many they are.
- * Refusals 1, 2, 9, 10 and 12. */
+ * Refusals, in this order: 1, 2, 9, 10, 12. */
 uint32_t roskudla_list(const uint8_t *card, size_t card_len, const uint8_t *tables, size_t tables_len,
                        uint32_t *rows, size_t rows_len, size_t *count);
 

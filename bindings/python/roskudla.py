@@ -34,7 +34,7 @@ REASONS = {
 
 
 class Refused(Exception):
-    """A call was refused; `number` is the lowest refusal that applies."""
+    """A call was refused; `number` is the first refusal that applies, in the order that the call states. The numbers rise there, so it is the lowest."""
 
     def __init__(self, number):
         super().__init__(number)
@@ -148,17 +148,17 @@ class Calls:
         return answer.value
 
     def read(self, text, tables):
-        """READ: the parts of a rule. Refusals 1 to 8."""
+        """READ: the parts of a rule. Refusals, in this order: 1 to 8."""
         parts = self.lent("read", text, tables, PartLayout, MOST_PARTS)
         return [Part(part.kind, part.comparison, part.table, part.end, Value(part.left.tag, part.left.number), Value(part.right.tag, part.right.number))
                 for part in parts]
 
     def judge(self, text, tables, row):
-        """JUDGE: the value of a rule on a row of table 1. Refusals 1 to 8 and 11."""
+        """JUDGE: the value of a rule on a row of table 1. Refusals, in this order: 1 to 8, 11."""
         return Truth(self.answered("judge", text, tables, row))
 
     def card(self, text, tables):
-        """CARD: the card of a rule. Refusals 1 to 8."""
+        """CARD: the card of a rule. Refusals, in this order: 1 to 8."""
         return bytes(self.lent("card", text, tables, ctypes.c_uint8, MOST_CARD_BYTES))
 
     def check(self, card):
@@ -166,9 +166,9 @@ class Calls:
         self.called("check", *sliced(card))
 
     def run(self, card, tables, row):
-        """RUN: whether a card says yes to a row of table 1. Refusals 1, 2 and 9 to 11."""
+        """RUN: whether a card says yes to a row of table 1. Refusals, in this order: 1, 2, 9 to 11."""
         return self.answered("run", card, tables, row) == 1
 
     def list_rows(self, card, tables):
-        """LIST: the rows of table 1 that a card says yes to, rising. Refusals 1, 2, 9 and 10."""
+        """LIST: the rows of table 1 that a card says yes to, rising. Refusals, in this order: 1, 2, 9, 10."""
         return self.lent("list", card, tables, ctypes.c_uint32, MOST_ROWS)

@@ -1,5 +1,6 @@
-//! The six calls (section "What the product holds"). Each gives the lowest refusal that applies to its whole input, because its
-//! steps stand in the order of their refusals. A lent buffer is written last, and no further than the answer goes.
+//! The six calls (section "What the product holds"). Each gives the first refusal of its order that applies to its whole input, because
+//! its steps stand in that order; the numbers rise in it, so this is the lowest that applies. A lent buffer is written last, and no
+//! further than the answer goes.
 
 use crate::card::{self, Card};
 use crate::grammar;
@@ -12,14 +13,14 @@ use crate::tables::Tables;
 use crate::text;
 use crate::translate;
 
-/// READ: text and tables to the list of parts, whose number is given. Refusals 1 to 8, and 12.
+/// READ: text and tables to the list of parts, whose number is given. Refusals, in this order: 1 to 8, 12.
 pub fn read(text: &[u8], tables: &[u8], parts: &mut [Part]) -> Result<usize, Refusal> {
     let tables = Tables::read(tables)?;
     let rule = accepted(text, &tables)?;
     lend(&rule, parts)
 }
 
-/// JUDGE: text, tables and row number to true, false or unknown. Refusals 1 to 8, and 11.
+/// JUDGE: text, tables and row number to true, false or unknown. Refusals, in this order: 1 to 8, 11.
 pub fn judge(text: &[u8], tables: &[u8], row: usize) -> Result<Truth, Refusal> {
     let tables = Tables::read(tables)?;
     let rule = accepted(text, &tables)?;
@@ -27,7 +28,7 @@ pub fn judge(text: &[u8], tables: &[u8], row: usize) -> Result<Truth, Refusal> {
     Ok(meaning::judge(&rule, &tables, row))
 }
 
-/// CARD: text and tables to card bytes, whose number is given. Refusals 1 to 8, and 12.
+/// CARD: text and tables to card bytes, whose number is given. Refusals, in this order: 1 to 8, 12.
 pub fn card(text: &[u8], tables: &[u8], card: &mut [u8]) -> Result<usize, Refusal> {
     let tables = Tables::read(tables)?;
     let rule = accepted(text, &tables)?;
@@ -40,7 +41,7 @@ pub fn check(card: &[u8]) -> Result<(), Refusal> {
     Card::read(card).map(|_| ())
 }
 
-/// RUN: card, tables and row number to yes or no. Refusals 1, 2, 9, 10 and 11.
+/// RUN: card, tables and row number to yes or no. Refusals, in this order: 1, 2, 9, 10, 11.
 pub fn run(card: &[u8], tables: &[u8], row: usize) -> Result<bool, Refusal> {
     let tables = Tables::read(tables)?;
     let card = fitting(card, &tables)?;
@@ -48,7 +49,7 @@ pub fn run(card: &[u8], tables: &[u8], row: usize) -> Result<bool, Refusal> {
     Ok(Runner::new(&card, &tables).admits(row))
 }
 
-/// LIST: card and tables to the admitted row numbers, rising, whose count is given. Refusals 1, 2, 9, 10 and 12.
+/// LIST: card and tables to the admitted row numbers, rising, whose count is given. Refusals, in this order: 1, 2, 9, 10, 12.
 pub fn list(card: &[u8], tables: &[u8], rows: &mut [u32]) -> Result<usize, Refusal> {
     let tables = Tables::read(tables)?;
     let card = fitting(card, &tables)?;

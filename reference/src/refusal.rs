@@ -1,6 +1,6 @@
 //! The twelve refusals (section "Gate says why not").
 
-/// The number of a refusal, 1 to 12. The lowest number that applies to the whole input is given.
+/// The number of a refusal, 1 to 12. Of those that apply to the whole input the first in the call's order is given.
 pub type Refusal = u32;
 
 /// Tables: sizes or length wrong.

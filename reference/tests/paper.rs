@@ -135,7 +135,7 @@ fn the_examples_of_the_refusal_table() {
 }
 
 #[test]
-fn the_lowest_refusal_over_the_whole_input() {
+fn the_first_refusal_over_the_whole_input() {
     let tables = paper_tables();
     let mut spoilt = tables.clone();
     *spoilt.last_mut().unwrap() = 2;

@@ -53,7 +53,7 @@ def refusal_sorts(*numbers):
 
 
 def refusal_sets(call, given):
-    """Every set of a call's refusals together, where document 01 gives the lowest; without any, the answer is of the sort `given`."""
+    """Every set of a call's refusals together, where document 01 gives the lowest, the first in the call's order; without any, the answer is of the sort `given`."""
     refusals = cases.REFUSALS_OF[call]
     for count in range(len(refusals) + 1):
         for chosen in itertools.combinations(refusals, count):

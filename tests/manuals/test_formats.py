@@ -2,7 +2,8 @@
 
 The manual is read as it stands: its tables by their headers, its formulas and bytes in backticks, the clauses of a sound card by their numbers, the worked
 examples by their names in bold (File F, Card A, Card B, Rule C), and its code, which is run. The bytes of a worked example are those of its table, row by row,
-and each row's meaning has to be what the bytes mean there. Every answer is asked of the model and of the library, and has to be the same.
+and each row's meaning has to be what the bytes mean there. Every answer is asked of the model and of the library, and has to be the same. The order of each
+call's refusals is compared with the definitions, the header and the wrappers too.
 
 Exit status 0 when all of it agrees, and nothing that the manual should have is missing. Every table of the manual has to have been compared.
 """
@@ -29,6 +30,8 @@ import roskudla  # noqa: E402
 
 MANUAL = ROOT / "docs" / "FORMATS.md"
 HEADER = ROOT / "include" / "roskudla.h"
+RUST_WRAPPER = ROOT / "bindings" / "rust" / "src" / "lib.rs"
+PYTHON_WRAPPER = ROOT / "bindings" / "python" / "roskudla.py"
 SEED = 20261116
 DRAWN_FILES = 60
 DRAWN_CARDS = 400
@@ -468,7 +471,7 @@ WHY = {
     "a byte is left over": lambda file, refused_by: refused_by(file[:-1]) is None,
     "table 1 has 0 columns": lambda file, refused_by: file[1] == 0 and refused_by(changed_at(file, 1, 1)) is None,
     "the mark is 2": lambda file, refused_by: file[-1] == 2 and refused_by(file[:-1] + b"\1") is None,
-    "1 and 2 apply, and 1 is the lower": lambda file, refused_by: refused_by(file[:-1]) == 2,
+    "1 and 2 apply, and 1 comes first": lambda file, refused_by: refused_by(file[:-1]) == 2,
     "one blank cell": lambda file, refused_by: model.tables_of(file) == model.Tables([1], [[[None]]]),
     "one column and no rows": lambda file, refused_by: model.tables_of(file) == model.Tables([1], [[]]),
 }
@@ -1306,24 +1309,55 @@ def check_parts(manual, ask, known):
 
 # ---- section 7
 
-def header_refusals():
-    """The refusals of each call in the header, and its C function."""
-    text = re.sub(r"\n \* ", " ", HEADER.read_text())
+def without_breaks(path):
+    """The text of the header or of a wrapper, a comment on one line."""
+    return re.sub(r"\n *(?:\*|//[/!]?) ", " ", path.read_text())
+
+
+def stated_refusals(text):
+    """The refusals of each call, in the order that the header or a wrapper states at the call."""
     found = {}
-    for call, refusals, function in re.findall(r"/\* ([A-Z]+): [^/]*?Refusals? ([^.]*)\. ?\*/\s*uint32_t (\w+)\(", text):
-        numbers = []
-        for first, last in re.findall(r"(\d+)(?: to (\d+))?", refusals):
-            numbers += range(int(first), int(last or first) + 1)
-        found[call] = (function, tuple(numbers))
+    for call, refusals in re.findall(r"\b([A-Z]{3,}): .*?(?:Refusal|Refusals, in this order:) ([^.]*)\.", text, flags=re.DOTALL):
+        ranges = re.findall(r"(\d+)(?: to (\d+))?", refusals)
+        found[call] = tuple(number for first, last in ranges for number in range(int(first), int(last or first) + 1))
     return found
+
+
+def header_functions():
+    """The C function of each call in the header."""
+    return dict(re.findall(r"/\* ([A-Z]+): [^/]*?\*/\s*uint32_t (\w+)\(", HEADER.read_text()))
+
+
+def published_orders():
+    """The order of each call's refusals in the definitions; that the calls follow it is proved."""
+    found = {}
+    for path in (ROOT / "crates").glob("*/specs/Calls.antt"):
+        for call, numbers in re.findall(r"^(\w+)Order = ((?:\d+ ∷ )+)\[\]$", path.read_text(), flags=re.MULTILINE):
+            found[call.upper()] = tuple(int(number) for number in re.findall(r"\d+", numbers))
+    return found
+
+
+def check_orders(manual, orders):
+    """The order of each call's refusals, as the manual's table has it: the same in the definitions, the model, the header and the wrappers, of which Python's
+    lends room for every answer. Where the orders are called rising, they rise."""
+    room_aside = {call: tuple(number for number in order if number != 12) for call, order in orders.items()}
+    same("the orders in the definitions", published_orders(), orders)
+    same("the orders in the model", cases.REFUSALS_OF, orders)
+    rising = all(order == tuple(sorted(order)) for order in orders.values())
+    same("the manual says that the orders rise", "the numbers rise in each of these orders, so it is the lowest" in " ".join(manual.sections[0].split()), rising)
+    for path, wanted in ((HEADER, orders), (RUST_WRAPPER, orders), (PYTHON_WRAPPER, room_aside)):
+        text = without_breaks(path)
+        same(f"the orders in {path.name}", stated_refusals(text), wanted)
+        same(f"{path.name} says that the orders rise", "numbers rise" in text, rising)
+        COUNTS["orders stated"] += len(wanted)
 
 
 def check_calls(manual, ask, known):
     rows = manual.table(7, "Call", "C function", "Takes", "Answers", "Refusals, in the order in which they are tried").rows
-    said = {call: (in_backticks(function), numbers_in(refusals)) for call, function, _, _, refusals in rows}
-    same("the calls and their refusals in the header", said, header_refusals())
-    same("the calls and their refusals in the model", {call: refusals for call, (_, refusals) in said.items()}, cases.REFUSALS_OF)
-    for call, (_, refusals) in said.items():
+    same("the calls and their functions in the header", {call: in_backticks(function) for call, function, _, _, _ in rows}, header_functions())
+    orders = {call: numbers_in(refusals) for call, _, _, _, refusals in rows}
+    check_orders(manual, orders)
+    for call, refusals in orders.items():
         for applying in itertools.chain(itertools.combinations(refusals, 1), itertools.combinations(refusals, 2)):
             if call == "CHECK":
                 got = ask.check(cases.card_refused_with(applying))
@@ -1356,6 +1390,7 @@ SENTENCES = (
     (0, "A signed field has # bytes in two's complement,", (4,)),
     (0, "Tables and columns are numbered from #; rows, cells, entries, parts and levels from #.", (1, 0)),
     (0, "A refusal is a number from # to #.", (min(roskudla.REASONS), max(roskudla.REASONS))),
+    (0, "Where several refusals of a call apply, the first in the call's order in section # is given;", (7,)),
     (1, "A table without rows has no cells; its columns are still # to #.", (1, model.MOST_COLUMNS)),
     (1, "Refusal #: T, the columns or the rows of a table, or C is not within these limits, or the length is not exactly this.", (1,)),
     (1, "Every call that takes a tables file looks for #, then for #, before anything else.", (1, 2)),

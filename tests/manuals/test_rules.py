@@ -320,6 +320,8 @@ MEASURES = {
 # those that sentences of the manual state too, where a text has at most so many, or is refused with over so many
 IN_SENTENCES = ("bytes", "digits", "more `(` than `)`", "parts", "FROMs")
 RANGE_SENTENCE = r"(−[\d,]+) to ([\d,]+)"
+ORDER_SENTENCE = "Where several apply, the first in the order of this table is given"
+RISING_SENTENCE = "the numbers rise in it, so it is the lowest"
 TABLES_SENTENCE = r"There are (\d+) to (\d+) tables, with (\d+) to (\d+) columns and (\d+) to ([\d,]+) rows each, and at most ([\d,]+) cells in all\."
 
 
@@ -468,7 +470,7 @@ class Manual:
         self.section, self.sections = WHOLE, []
         self.file, self.first_file, self.rule = b"", b"", None
         self.letters, self.comparisons = set(), ()
-        self.most, self.refused, self.fronts = {}, set(), set()
+        self.most, self.refused, self.fronts, self.order = {}, set(), set(), []
         self.sorts = {
             "Token": self.try_tokens, "Limit": self.try_limits, "In front": self.try_connectives,
             "Values in the list": self.try_lists, "Refusal": self.try_refusals}
@@ -509,6 +511,7 @@ class Manual:
             self.try_block(block)
         self.section = WHOLE
         self.tried(1, "sentences", self.try_sentences)
+        self.tried(1, "sentences", self.try_order)
         self.tried(1, "sentences", self.try_tables_sentence)
         for target in re.findall(r"\]\(([^)]+)\)", self.text):
             self.tried(1, "links", self.try_link, target)
@@ -707,9 +710,9 @@ class Manual:
         self.tried(line, "refusals", self.try_refusal, cells)
 
     def try_refusal(self, cells):
-        """A line of the refusals, which stand in their order, each with what to do; those beyond reading are tried on document 01's examples."""
+        """A line of the refusals, each with what to do; those beyond reading are tried on document 01's examples."""
         number = int(cells["Refusal"])
-        compare.same("the number of the refusal", number, self.counts[self.section]["refusals"])
+        self.order.append(number)
         if not cells["When"] or not cells["What to do"]:
             raise Fault("it is not said when, or what to do")
         if number not in READING_REFUSALS:
@@ -749,6 +752,14 @@ class Manual:
                 raise Fault(f"{word} {found} {name}, and by the table of limits {self.most[name]}")
         ends = [tuple(number_from(end) for end in pair) for pair in re.findall(RANGE_SENTENCE, whole)]
         compare.same("the range of numbers", set(ends), {(self.most["smallest number"], self.most["largest number"])})
+
+    def try_order(self):
+        """The table of refusals has those of every call, in the order of every call; it is said that they rise exactly where they do."""
+        compare.same("the refusals of the table", sorted(self.order), sorted(set(itertools.chain(*cases.REFUSALS_OF.values()))))
+        for call, refusals in cases.REFUSALS_OF.items():
+            compare.same(f"the order of {call}", tuple(number for number in self.order if number in refusals), refusals)
+        compare.same(f"the order is said once: {ORDER_SENTENCE}", self.text.count(ORDER_SENTENCE), 1)
+        compare.same(f"it is said: {RISING_SENTENCE}", RISING_SENTENCE in self.text, self.order == sorted(self.order))
 
     def try_tables_sentence(self):
         """The limits of tables, from both sides."""

@@ -20,7 +20,7 @@ pub const MOST_CARD_BYTES: usize = 2891;
 /// The most rows that a table has.
 pub const MOST_ROWS: usize = 1000;
 
-/// Why a call was refused: the lowest number that applies.
+/// Why a call was refused: the number of the first refusal that applies, in the order that the call states. The numbers rise there, so it is the lowest.
 #[derive(Clone, Copy, Debug, PartialEq, Eq)]
 pub struct Refusal(pub u32);
 
@@ -66,7 +66,7 @@ fn answer_of<T>(status: u32, answer: T) -> Result<T, Refusal> {
 // Each pointer below comes from a slice or a local, with the slice's length, and `&mut` keeps what is written from being reachable otherwise: that is all that
 // the C functions ask.
 
-/// READ: writes the parts of a rule from the start of `parts` on, and answers how many they are. Refusals 1 to 8 and 12.
+/// READ: writes the parts of a rule from the start of `parts` on, and answers how many they are. Refusals, in this order: 1 to 8, 12.
 pub fn read(text: &[u8], tables: &[u8], parts: &mut [Part]) -> Result<usize, Refusal> {
     let mut count = 0;
     let status = unsafe {
@@ -75,7 +75,7 @@ pub fn read(text: &[u8], tables: &[u8], parts: &mut [Part]) -> Result<usize, Ref
     answer_of(status, count)
 }
 
-/// JUDGE: the value of a rule on a row of table 1. Refusals 1 to 8 and 11.
+/// JUDGE: the value of a rule on a row of table 1. Refusals, in this order: 1 to 8, 11.
 pub fn judge(text: &[u8], tables: &[u8], row: usize) -> Result<Truth, Refusal> {
     let mut value = 0;
     let status = unsafe { ffi::roskudla_judge(text.as_ptr(), text.len(), tables.as_ptr(), tables.len(), row, &mut value) };
@@ -87,7 +87,7 @@ pub fn judge(text: &[u8], tables: &[u8], row: usize) -> Result<Truth, Refusal> {
     })
 }
 
-/// CARD: writes the card of a rule from the start of `card` on, and answers how many bytes it has. Refusals 1 to 8 and 12.
+/// CARD: writes the card of a rule from the start of `card` on, and answers how many bytes it has. Refusals, in this order: 1 to 8, 12.
 pub fn card(text: &[u8], tables: &[u8], card: &mut [u8]) -> Result<usize, Refusal> {
     let mut length = 0;
     let status =
@@ -100,7 +100,7 @@ pub fn check(card: &[u8]) -> Result<(), Refusal> {
     answer_of(unsafe { ffi::roskudla_check(card.as_ptr(), card.len()) }, ())
 }
 
-/// RUN: whether a card says yes to a row of table 1. Refusals 1, 2 and 9 to 11.
+/// RUN: whether a card says yes to a row of table 1. Refusals, in this order: 1, 2, 9 to 11.
 pub fn run(card: &[u8], tables: &[u8], row: usize) -> Result<bool, Refusal> {
     let mut answer = 0;
     let status = unsafe { ffi::roskudla_run(card.as_ptr(), card.len(), tables.as_ptr(), tables.len(), row, &mut answer) };
@@ -108,7 +108,7 @@ pub fn run(card: &[u8], tables: &[u8], row: usize) -> Result<bool, Refusal> {
 }
 
 /// LIST: writes the numbers of the rows of table 1 that a card says yes to, rising, from the start of `rows` on, and answers how many they are.
-/// Refusals 1, 2, 9, 10 and 12.
+/// Refusals, in this order: 1, 2, 9, 10, 12.
 pub fn list(card: &[u8], tables: &[u8], rows: &mut [u32]) -> Result<usize, Refusal> {
     let mut count = 0;
     let status =

@@ -41,6 +41,18 @@ gateRefusals card file = tablesRefusals file ++ (checkRefusals card ++ ((10 if n
 unfoldable pub runRefusals : List ℕ → List ℕ → ℕ → List Refusal
 runRefusals card file row = gateRefusals card file ++ (rowRefusal file row ∷ [])
 
+-- ---- the published order of each call's refusals: where several apply, the first in the call's list is given. Document 01 says 'the lowest applying number is
+-- given', and its rows stand in the order of their numbers: each list rises
+
+abbrev pub checkOrder : List ℕ
+checkOrder = 9 ∷ []
+
+abbrev pub runOrder : List ℕ
+runOrder = 1 ∷ 2 ∷ 9 ∷ 10 ∷ 11 ∷ []
+
+abbrev pub listOrder : List ℕ
+listOrder = 1 ∷ 2 ∷ 9 ∷ 10 ∷ 12 ∷ []
+
 -- ---- the calls
 
 -- CHECK looks at a card alone: nothing to answer, or refusal 9

@@ -1,16 +1,16 @@
 -- What proofs/ shows of these definitions.
 use mathlib.Core.Path.{_≡_}
 use mathlib.Core.Bool.{true, false}
-use mathlib.Core.List.{List, [], _∷_, _++_, map}
+use mathlib.Core.List.{List, _++_, map}
 use mathlib.Core.Option.{none, some}
 use Prim.Native.Nat.{ℕ, _<_, _≤_}
 use lib.ListN.{length, getD, drop}
 use Rattle.tables.specs.Tables.{rowCount}
-use Rattle.tables.specs.Refusals.{firstApplying, Refused, Given, shortRefusal}
+use Rattle.tables.specs.Refusals.{numbers, firstApplying, Refused, Given, lendRefusals}
 use Rattle.card.specs.Card.{Card, entries}
 use Rattle.card.specs.Layout.{cardBytes, cardLength, columnsIn, cardFrom}
 use Rattle.card.specs.Sound.{sound, Sound}
-use Rattle.card.specs.Calls.{saysYes, yesRows, checkRefusals, gateRefusals, runRefusals, checkCall, runCall, listCall}
+use Rattle.card.specs.Calls.{saysYes, yesRows, checkRefusals, gateRefusals, runRefusals, checkOrder, runOrder, listOrder, checkCall, runCall, listCall}
 use Rattle.card.specs.Cases.{edges, gateEdges, gateAnswers, gateExpected, kindCases, kindAnswers, kindExpected}
 
 -- the test of a sound card passes just those bytes that are the bytes of a fitting card, and reads that card and its columns from them; what
@@ -41,12 +41,12 @@ pub record CallsClaim : Type 0 where
   pub list-given : (card file buffer : List ℕ) → firstApplying (gateRefusals card file) ≡ none → length (yesRows card file) ≤ length buffer
       → listCall card file buffer ≡ record { result = Given (length (yesRows card file)); buffer = yesRows card file ++ drop (length (yesRows card file)) buffer }
 
--- the numbers of the refusals of CHECK, RUN and LIST, in the order in which they are tried: they rise, so the lowest that applies is given
+-- CHECK, RUN and LIST try their refusals in the published order, whatever they are given, and so the first in that order is given (FirstClaim of the crate
+-- tables)
 pub record OrderClaim : Type 0 where
-  pub checking : (card : List ℕ) → map (λ r. r .number) (checkRefusals card) ≡ 9 ∷ []
-  pub running : (card file : List ℕ) (row : ℕ) → map (λ r. r .number) (runRefusals card file row) ≡ 1 ∷ 2 ∷ 9 ∷ 10 ∷ 11 ∷ []
-  pub listing : (card file buffer : List ℕ)
-      → map (λ r. r .number) (gateRefusals card file ++ (shortRefusal (yesRows card file) buffer ∷ [])) ≡ 1 ∷ 2 ∷ 9 ∷ 10 ∷ 12 ∷ []
+  pub checking : (card : List ℕ) → numbers (checkRefusals card) ≡ checkOrder
+  pub running : (card file : List ℕ) (row : ℕ) → numbers (runRefusals card file row) ≡ runOrder
+  pub listing : (card file buffer : List ℕ) → numbers (lendRefusals (gateRefusals card file) (yesRows card file) buffer) ≡ listOrder
 
 -- RUN and LIST on cards and files of which several may be wrong, together
 abbrev pub GateEdgesClaim : Type 0

@@ -23,7 +23,7 @@ use Rattle.rule.specs.Meaning.{Truth, Unknown, isTrue, judged}
 abbrev pub mostBytes : ℕ
 mostBytes = 4096
 
--- it is there and fails the test; where it is missing, a lower refusal applies already
+-- it is there and fails the test; where it is missing, a refusal before it applies already
 abbrev pub fails : {A : Type 0} → (A → Bool) → Option A → Bool
 fails p none = false
 fails p (some x) = not (p x)
@@ -80,6 +80,15 @@ judgeRefusals text file row = readingRefusals text file ++ (rowRefusal file row 
 unfoldable pub judgeCall : List ℕ → List ℕ → ℕ → Answer Truth
 judgeCall text file row =
     unless (firstApplying (judgeRefusals text file row)) (λ _. withRule (ruleOf text (columnsOf file)) Unknown (judged (tablesOf file) row))
+
+-- ---- the published order of each call's refusals: where several apply, the first in the call's list is given. Document 01 says 'the lowest applying number is
+-- given', and its rows stand in the order of their numbers: each list rises. 'Reading goes before judging'
+
+abbrev pub readOrder : List ℕ
+readOrder = 1 ∷ 2 ∷ 3 ∷ 4 ∷ 5 ∷ 6 ∷ 7 ∷ 8 ∷ 12 ∷ []
+
+abbrev pub judgeOrder : List ℕ
+judgeOrder = 1 ∷ 2 ∷ 3 ∷ 4 ∷ 5 ∷ 6 ∷ 7 ∷ 8 ∷ 11 ∷ []
 
 -- ---- the rows that a rule admits
 

@@ -1,14 +1,14 @@
 -- What proofs/ shows of these definitions.
 use mathlib.Core.Path.{_≡_}
 use mathlib.Core.Bool.{true}
-use mathlib.Core.List.{List, [], _∷_, _++_, map}
+use mathlib.Core.List.{List, _++_, map}
 use mathlib.Core.Logic.{_↔_}
 use mathlib.Core.Option.{none, some}
 use Prim.Native.Nat.{ℕ, _+_, _≤_, _<_}
 use lib.IntN.{pos}
 use lib.ListN.{length, getD, drop}
 use Rattle.tables.specs.Tables.{sizesFit, marksFit, columnsOf, rowCount, tablesOf}
-use Rattle.tables.specs.Refusals.{Refused, Given, firstApplying, shortRefusal}
+use Rattle.tables.specs.Refusals.{Refused, Given, numbers, firstApplying, lendRefusals}
 use Rattle.tables.specs.Values.{judgedLevels}
 use Rattle.rule.specs.Tokens.{tokensOf, opensFit}
 use Rattle.rule.specs.Condition.{WrittenCondition, Rule, parts, fromsDeep}
@@ -18,7 +18,7 @@ use Rattle.rule.specs.Names.{mostParts, mostFroms, outermost, ruleIn, Fi
 use Rattle.rule.specs.Parts.{partsFrom, partsOf, ruleOfParts}
 use Rattle.rule.specs.declared.Part.{Part}
 use Rattle.rule.specs.Meaning.{judged}
-use Rattle.rule.specs.Calls.{mostBytes, ruleOf, readingRefusals, Accepted, readCall, judgeRefusals, judgeCall}
+use Rattle.rule.specs.Calls.{mostBytes, ruleOf, readingRefusals, Accepted, readCall, judgeRefusals, judgeCall, readOrder, judgeOrder}
 use Rattle.rule.specs.Cases.{cases, judgedAt, expectedAt, testCases, partsCases, partsRead, partsGiven, everyWord, everyToken, edges, refusalAt}
 
 -- the reader finds a reading exactly when the grammar has one, and no tokens have two
@@ -79,14 +79,12 @@ pub record CallsClaim : Type 0 where
   pub judge-given : (text file : List ℕ) (row : ℕ) → Accepted text file → (r : Rule) → ruleOf text (columnsOf file) ≡ some r
       → row < rowCount file 1 → judgeCall text file row ≡ Given (judged (tablesOf file) row r)
 
--- the numbers of the refusals of READ and CARD, and of JUDGE, in the order in which they are tried: they rise, so the lowest that applies is given
--- (LowestClaim of the crate tables)
+-- READ and JUDGE try their refusals in the published order, whatever they are given, and so the first in that order is given (FirstClaim of the crate tables);
+-- the program's list, `admitCall`, has READ's order
 pub record OrderClaim : Type 0 where
-  pub reading : (text file : List ℕ) (answer buffer : List Part)
-      → map (λ r. r .number) (readingRefusals text file ++ (shortRefusal answer buffer ∷ [])) ≡ 1 ∷ 2 ∷ 3 ∷ 4 ∷ 5 ∷ 6 ∷ 7 ∷ 8 ∷ 12 ∷ []
-  pub carding : (text file answer buffer : List ℕ)
-      → map (λ r. r .number) (readingRefusals text file ++ (shortRefusal answer buffer ∷ [])) ≡ 1 ∷ 2 ∷ 3 ∷ 4 ∷ 5 ∷ 6 ∷ 7 ∷ 8 ∷ 12 ∷ []
-  pub judging : (text file : List ℕ) (row : ℕ) → map (λ r. r .number) (judgeRefusals text file row) ≡ 1 ∷ 2 ∷ 3 ∷ 4 ∷ 5 ∷ 6 ∷ 7 ∷ 8 ∷ 11 ∷ []
+  pub reading : (text file : List ℕ) (answer buffer : List Part) → numbers (lendRefusals (readingRefusals text file) answer buffer) ≡ readOrder
+  pub judging : (text file : List ℕ) (row : ℕ) → numbers (judgeRefusals text file row) ≡ judgeOrder
+  pub admitting : (text file answer buffer : List ℕ) → numbers (lendRefusals (readingRefusals text file) answer buffer) ≡ readOrder
 
 -- cases 1 to 12, together
 abbrev pub CasesClaim : Type 0

@@ -7,6 +7,6 @@ pub mod Tabulated
 pub mod Sizes
 pub mod Rows
 pub mod Numbering
-pub mod Lowest
+pub mod First
 pub mod Blanks
 pub mod Placed

@@ -1,4 +1,4 @@
--- Laws of the lowest refusal, and of calls that lend a buffer.
+-- Laws of the first refusal that applies, and of calls that lend a buffer.
 use mathlib.Core.Path.{_≡_, refl, _∙_}
 use mathlib.Core.Bool.{Bool, true, false}
 use mathlib.Core.List.{List, [], _∷_, _++_}
@@ -14,7 +14,7 @@ unfolding firstApplying
 first-nil = refl
 
 -- the first of a list does not apply, and so the rest decides
-skipped : (n : ℕ) (b : Bool) (rs : List Refusal) → b ≡ false → firstApplying ((n if b) ∷ rs) ≡ firstApplying rs
+pub skipped : (n : ℕ) (b : Bool) (rs : List Refusal) → b ≡ false → firstApplying ((n if b) ∷ rs) ≡ firstApplying rs
 unfolding firstApplying
 skipped n true rs e = let z : _≡_ {A = ℕ} 0 1 = cc in absurd (omega arith)
 skipped n false rs e = refl

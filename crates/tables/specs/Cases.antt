@@ -41,7 +41,7 @@ abbrev empties : ℕ → List ℕ
 empties zero = []
 empties (suc t) = 1 ∷ 0 ∷ 0 ∷ empties t
 
--- the number of tables and of columns, the length, and the marks; with a wrong size and a wrong mark, 1 is the lower
+-- the number of tables and of columns, the length, and the marks; with a wrong size and a wrong mark, 1 comes first
 unfoldable pub edges : List Edge
 edges =
     ([] refused 1) ∷ ((0 ∷ []) refused 1) ∷ accepted (8 ∷ empties 8) ∷ ((9 ∷ empties 9) refused 1)

@@ -1,13 +1,13 @@
 -- What proofs/ shows of these definitions.
 use mathlib.Core.Path.{_≡_}
 use mathlib.Core.Bool.{Bool, true}
-use mathlib.Core.List.{List, map, List·Memᴰ, IsChain}
+use mathlib.Core.List.{List, _∷_, _++_, map, List·Memᴰ, IsChain}
 use mathlib.Core.Logic.{_↔_}
 use mathlib.Core.Option.{none, some}
 use Prim.Native.Nat.{ℕ, _<_, _≤_}
 use lib.ListN.{length}
 use Rattle.tables.specs.Tables.{sizes, columnsOf, rowCount, cellCount, valueBits, markOf, sizesFit, tablesOf, rowsWhere}
-use Rattle.tables.specs.Refusals.{Refusal, _if_, firstApplying, tablesRefusals}
+use Rattle.tables.specs.Refusals.{Refusal, _if_, numbers, firstApplying, tablesRefusals}
 use Rattle.tables.specs.Cases.{sampleFile, sampleTables, edges, sizeEdges, refusalAt, comparisons, comparedSays, valueCases, valueCaseFits}
 
 -- the sample file holds the sample tables
@@ -53,9 +53,24 @@ pub record SameTables (file other : List ℕ) : Type 0 where
 abbrev pub BlankCellsClaim : Type 0
 BlankCellsClaim = (file other : List ℕ) → BlanksDiffer file other → SameTables file other
 
--- 'the lowest applying number is given, and none where no row applies': a number that is given is that of a refusal of the list which applies; none is
--- given exactly where none applies; and where the numbers of the list rise, no lower one applies
-pub record LowestClaim : Type 0 where
-  pub given-applies : (rs : List Refusal) (n : ℕ) → firstApplying rs ≡ some n → List·Memᴰ (n if true) rs
-  pub none-applies : (rs : List Refusal) → (firstApplying rs ≡ none) ↔ ((n : ℕ) → ¬ List·Memᴰ (n if true) rs)
-  pub lowest : (rs : List Refusal) (n m : ℕ) → IsChain _<_ (map (λ r. r .number) rs) → firstApplying rs ≡ some n → List·Memᴰ (m if true) rs → n ≤ m
+-- ---- which refusal is given
+
+-- a refusal of a list has this number and applies
+abbrev pub AppliesIn : ℕ → List Refusal → Type 0
+AppliesIn n rs = List·Memᴰ (n if true) rs
+
+-- it is the first of the list that applies: none before it does
+pub record FirstIn (n : ℕ) (rs : List Refusal) : Type 0 where
+  pub before : List Refusal
+  pub after : List Refusal
+  pub stands : rs ≡ before ++ ((n if true) ∷ after)
+  pub none-before : (m : ℕ) → ¬ AppliesIn m before
+
+-- a number is given exactly where it is that of the first refusal of the list that applies; none is given exactly where none applies
+pub record FirstClaim : Type 0 where
+  pub given : (rs : List Refusal) (n : ℕ) → (firstApplying rs ≡ some n) ↔ FirstIn n rs
+  pub none-given : (rs : List Refusal) → (firstApplying rs ≡ none) ↔ ((n : ℕ) → ¬ AppliesIn n rs)
+
+-- 'the lowest applying number is given', of a list whose numbers rise: a number is given exactly where it applies and no lower one does
+abbrev pub LowestClaim : Type 0
+LowestClaim = (rs : List Refusal) (n : ℕ) → IsChain _<_ (numbers rs) → (firstApplying rs ≡ some n) ↔ (AppliesIn n rs × ((m : ℕ) → AppliesIn m rs → n ≤ m))

@@ -1,8 +1,9 @@
 -- Document 01, 'Gate says why not', the sentences under the table: which of the refusals that apply is given, and what a buffer holds after a
 -- success. That a refusal leaves every buffer as it was is the product's first demand.
--- A call lists its refusals in the order in which they are tried; a refusal that is added later is put into that list at its place.
+-- A call lists its refusals in the order in which they are tried, and the first that applies is given. The numbers of that list are the call's published order
+-- (`readOrder` and the like, in Calls.antt of rule, translation and card). Where they rise, that is 'the lowest applying number' (LowestClaim).
 use mathlib.Core.Bool.{Bool, true, false, not}
-use mathlib.Core.List.{List, [], _∷_, _++_}
+use mathlib.Core.List.{List, [], _∷_, _++_, map}
 use mathlib.Core.Option.{Option, none, some}
 use Prim.Native.Nat.{ℕ}
 use lib.Dec.{ltb}
@@ -17,6 +18,10 @@ pub record Refusal : Type 0 where
 infix 10 _if_
 abbrev pub _if_ : ℕ → Bool → Refusal
 n if b = record { number = n; applies = b }
+
+-- the numbers of a list of refusals, in the order of the list
+abbrev pub numbers : List Refusal → List ℕ
+numbers rs = map (λ r. r .number) rs
 
 -- the number of the first refusal of a list that applies
 unfoldable pub firstApplying : List Refusal → Option ℕ
@@ -63,8 +68,12 @@ module _ {A : Type 0} where
   lendUnless none answer buffer = filledWith answer buffer
 
   -- the call's own refusals, and then 12
+  abbrev pub lendRefusals : List Refusal → List A → List A → List Refusal
+  lendRefusals refusals answer buffer = refusals ++ (shortRefusal answer buffer ∷ [])
+
+  -- the first of these that applies, or else the answer
   unfoldable pub lend : List Refusal → List A → List A → Lent A
-  lend refusals answer buffer = lendUnless (firstApplying (refusals ++ (shortRefusal answer buffer ∷ []))) answer buffer
+  lend refusals answer buffer = lendUnless (firstApplying (lendRefusals refusals answer buffer)) answer buffer
 
 -- ---- refusals that several calls share
 

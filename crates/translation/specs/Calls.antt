@@ -1,5 +1,5 @@
 -- CARD (document 01, What the product holds): which refusal, or which card bytes, for any text, tables and room.
-use mathlib.Core.List.{List, []}
+use mathlib.Core.List.{List, [], _∷_}
 use Prim.Native.Nat.{ℕ}
 use Rattle.tables.specs.Tables.{columnsOf}
 use Rattle.tables.specs.Refusals.{Lent, lend}
@@ -15,3 +15,8 @@ ruleBytes file r = cardBytes (columnsOf file) (ruleCard r)
 -- CARD writes the rule's card into a lent buffer, and answers how many bytes it has
 unfoldable pub cardCall : List ℕ → List ℕ → List ℕ → Lent ℕ
 cardCall text file buffer = lend (readingRefusals text file) (withRule (ruleOf text (columnsOf file)) [] (ruleBytes file)) buffer
+
+-- the published order of CARD's refusals: where several apply, the first in this list is given. Document 01 says 'the lowest applying number is given', and its
+-- rows stand in the order of their numbers: the list rises
+abbrev pub cardOrder : List ℕ
+cardOrder = 1 ∷ 2 ∷ 3 ∷ 4 ∷ 5 ∷ 6 ∷ 7 ∷ 8 ∷ 12 ∷ []

@@ -1,27 +1,27 @@
 -- What proofs/ shows of these definitions.
 use mathlib.Core.Path.{_≡_}
 use mathlib.Core.Bool.{true, false, not}
-use mathlib.Core.List.{List, [], _∷_, _++_, map}
+use mathlib.Core.List.{List, [], _∷_, _++_, map, IsChain}
 use mathlib.Core.Option.{none, some}
-use Prim.Native.Nat.{ℕ, _≤_}
+use Prim.Native.Nat.{ℕ, _<_, _≤_}
 use lib.ListN.{length, replicate}
 use Rattle.tables.specs.Tables.{Tables, mostRows}
 use Rattle.tables.specs.Claims.{BlanksDiffer}
 use Rattle.tables.specs.Values.{Env}
-use Rattle.tables.specs.Refusals.{Answer, Refused, Given, firstApplying}
+use Rattle.tables.specs.Refusals.{Answer, Refused, Given, numbers, firstApplying, lendRefusals}
 use Rattle.tables.specs.Exports.{statusOf, isGiven}
 use Rattle.card.specs.Card.{AsNo, AsYes, Card, answer, entries}
 use Rattle.card.specs.Sound.{mostCardBytes}
-use Rattle.card.specs.Calls.{gateRefusals, checkCall, runCall, listCall}
+use Rattle.card.specs.Calls.{gateRefusals, checkOrder, runOrder, listOrder, checkCall, runCall, listCall}
 use Rattle.card.specs.Cases.{workedCard}
 use Rattle.rule.specs.Cases.{caseTables}
 use Rattle.rule.specs.Condition.{Rule}
 use Rattle.rule.specs.declared.Part.{Part}
 use Rattle.rule.specs.Names.{mostParts, Scoped}
-use Rattle.rule.specs.Calls.{readingRefusals, Accepted, readCall, judgeCall, admitCall}
+use Rattle.rule.specs.Calls.{readingRefusals, Accepted, readCall, judgeCall, readOrder, judgeOrder, admitCall}
 use Rattle.rule.specs.Meaning.{isTrue, isFalse, meaning}
 use Rattle.translation.specs.Translation.{negated, cardOf, ruleCard, entrySum}
-use Rattle.translation.specs.Calls.{cardCall}
+use Rattle.translation.specs.Calls.{cardCall, cardOrder}
 use Rattle.translation.specs.Demand3.{Later, Demand3For}
 use Rattle.translation.specs.Cases.{workedText, workedTables, fullText, fullCard, laterTables, thirdCard, refusalExamples, refusalNumbers}
 
@@ -72,6 +72,19 @@ BlanksClaim = (file other : List ℕ) → BlanksDiffer file other → SameAnswer
 abbrev pub CardRefusedClaim : Type 0
 CardRefusedClaim = (text file buffer : List ℕ) (n : ℕ) → firstApplying (readingRefusals text file) ≡ some n
     → cardCall text file buffer ≡ record { result = Refused n; buffer = buffer }
+
+-- CARD tries its refusals in the published order, whatever it is given, and so the first in that order is given (FirstClaim of the crate tables)
+abbrev pub OrderClaim : Type 0
+OrderClaim = (text file answer buffer : List ℕ) → numbers (lendRefusals (readingRefusals text file) answer buffer) ≡ cardOrder
+
+-- the published orders of the calls rise, and so the first that applies is the lowest (LowestClaim of the crate tables)
+pub record RisingClaim : Type 0 where
+  pub reading : IsChain _<_ readOrder
+  pub judging : IsChain _<_ judgeOrder
+  pub making : IsChain _<_ cardOrder
+  pub checking : IsChain _<_ checkOrder
+  pub running : IsChain _<_ runOrder
+  pub listing : IsChain _<_ listOrder
 
 -- other row counts, values and marks make a later file: the tables of the proved cases, and three with one, no and two rows
 abbrev pub LaterCaseClaim : Type 0

@@ -185,7 +185,7 @@ pub fn damaged(draw: &mut Draw, sizes: &[Size]) -> Vec<u8> {
         5 => random_file(draw),
         6 => Vec::new(),
         _ => {
-            // two faults at once: the lower number is the answer
+            // two faults at once: 1 comes before 2
             let mut bytes = mark_above_one(draw, sizes);
             bytes.push(draw.pick(&[0, 1, 2]));
             bytes
