@@ -10,7 +10,7 @@ use lib.IntN.{ℤ}
 use borrow.Author.Tests.{eqb-true}
 use Rattle.tables.specs.Lists.{only, _>>=_, _<|>_}
 use Rattle.tables.specs.Values.{Comparison, Eq, Ne, Quantifier, Some, All}
-use Rattle.rule.specs.Tokens.{Fixed, Compares, Letter, Number, NOT, EXISTS, IN, SOME, ALL, IS, NULL, SELECT, FROM, WHERE, Open, Close, Point}
+use Rattle.rule.specs.Tokens.{Fixed, Compares, Letter, Number, AND, OR, NOT, EXISTS, IN, SOME, ALL, IS, NULL, SELECT, FROM, WHERE, Open, Close, Point}
 use Rattle.rule.specs.Condition.{Compare, IsNull, IsNotNull, Atom, Listed, WrittenValue, Plain, Named, From, Over, WrittenCondition}
 use Rattle.rule.specs.Grammar.{Tokens, IsValue, number, column, IsCondition, IsTest, bracketed, exists, is-null, is-not-null, compared, some-of, all-of, is-in, not-in, IsList, list}
 use Rattle.rule.specs.Reader.{expect, readNumber, readLetter, readComparison, readValue, readFrom, Opening, OfList, closed, Start, Whole, Around, startList, startValue, start}
@@ -132,49 +132,109 @@ start-promised ts =
     (expect-at Promised (λ _. nothing) 4 _ (λ us. expect-at (λ vs o. Promised (EXISTS ∷ vs) o) (λ _. nothing) 13 _ (λ vs. from-at (λ ws o. Promised (EXISTS ∷ Open ∷ ws) o) (λ _. nothing) _ (λ n x ws. around (λ w rest c. exists c)) vs) us) ts))
     (value-at Promised (λ _. nothing) _ (λ l us vs is. value-promised l vs us is) ts)
 
+-- ---- what may stand behind a form: a form is found where the token behind it does not go on with it
+
+-- behind a condition: nothing, the bracket that closes around it, or the OR that joins it to a conjunction
+pub data AfterCondition : Tokens → Type 0 where
+  end-after : AfterCondition []
+  close-after : {us : Tokens} → AfterCondition (Close ∷ us)
+  or-after : {us : Tokens} → AfterCondition (OR ∷ us)
+
+-- behind a conjunction, a factor or a test: what may stand behind the condition that it ends, or the AND that joins it to a factor
+pub data AfterTest : Tokens → Type 0 where
+  condition-ends : {rest : Tokens} → AfterCondition rest → AfterTest rest
+  and-after : {us : Tokens} → AfterTest (AND ∷ us)
+
+-- behind a value: the token with which its test or its list goes on, or what may stand behind the test that it ends
+data AfterValue : Tokens → Type 0 where
+  is-after : {us : Tokens} → AfterValue (IS ∷ us)
+  not-after : {us : Tokens} → AfterValue (NOT ∷ us)
+  in-after : {us : Tokens} → AfterValue (IN ∷ us)
+  comparison-after : {op : Comparison} {us : Tokens} → AfterValue (Compares op ∷ us)
+  from-after : {us : Tokens} → AfterValue (FROM ∷ us)
+  test-ends : {rest : Tokens} → AfterTest rest → AfterValue rest
+
+-- behind a condition stands no AND
+pub no-and : {rest : Tokens} → AfterCondition rest → expect AND rest ≡ none
+unfolding expect
+no-and end-after = refl
+no-and close-after = refl
+no-and or-after = refl
+
+-- behind a test, its closing bracket or its last value, stands no IS
+pub no-is : {rest : Tokens} → AfterTest rest → expect IS rest ≡ none
+unfolding expect
+no-is (condition-ends end-after) = refl
+no-is (condition-ends close-after) = refl
+no-is (condition-ends or-after) = refl
+no-is and-after = refl
+
+-- behind a value stands no point, the sign within a value
+no-point : {rest : Tokens} → AfterValue rest → expect Point rest ≡ none
+unfolding expect
+no-point is-after = refl
+no-point not-after = refl
+no-point in-after = refl
+no-point comparison-after = refl
+no-point from-after = refl
+no-point (test-ends (condition-ends end-after)) = refl
+no-point (test-ends (condition-ends close-after)) = refl
+no-point (test-ends (condition-ends or-after)) = refl
+no-point (test-ends and-after) = refl
+
 -- ---- every form is found
 
-start-value : {ts us : Tokens} {l : WrittenValue} → IsValue ts l us → start ts ≡ startValue l us
-unfolding start expect readValue readNumber
-start-value number = refl
-start-value column = refl
+-- a value, where what stands behind it does not go on with it
+value-found : {ts us : Tokens} {v : WrittenValue} → IsValue ts v us → AfterValue us → readValue ts ≡ some (v, us)
+unfolding readValue expect readNumber
+value-found number k = refl
+value-found column k = refl
+
+-- a test that begins with a value has one of the forms of startValue
+value-first : {ts us : Tokens} {l : WrittenValue} → IsValue ts l us → start ts ≡ (readValue ts >>= (λ v. startValue (v .0) (v .1)))
+unfolding start expect
+value-first number = refl
+value-first column = refl
+
+start-value : {ts us : Tokens} {l : WrittenValue} → IsValue ts l us → AfterValue us → start ts ≡ startValue l us
+start-value v k = value-first v ∙ ap (_>>= (λ x. startValue (x .0) (x .1))) (value-found v k)
 
 pub null-found : {ts rest : Tokens} {l : WrittenValue} → IsValue ts l (IS ∷ NULL ∷ rest) → start ts ≡ some (Whole (Atom (IsNull l)) rest)
 unfolding startValue expect
-null-found v = start-value v
+null-found v = start-value v is-after
 
 pub not-null-found : {ts rest : Tokens} {l : WrittenValue} → IsValue ts l (IS ∷ NOT ∷ NULL ∷ rest) → start ts ≡ some (Whole (Atom (IsNotNull l)) rest)
 unfolding startValue expect
-not-null-found v = start-value v
+not-null-found v = start-value v is-after
 
-pub compared-found : {ts us rest : Tokens} {op : Comparison} {l r : WrittenValue} → IsValue ts l (Compares op ∷ us) → IsValue us r rest → start ts ≡ some (Whole (Atom (Compare op l r)) rest)
-unfolding startValue expect readComparison readValue readNumber
-compared-found v number = start-value v
-compared-found v column = start-value v
+or-left : {A : Type 0} (o o′ : Option A) {x : A} → o ≡ some x → (o <|> o′) ≡ some x
+or-left o o′ e = ap (_<|> o′) e
+
+pub compared-found : {ts us rest : Tokens} {op : Comparison} {l r : WrittenValue} → IsValue ts l (Compares op ∷ us) → IsValue us r rest → AfterTest rest → start ts ≡ some (Whole (Atom (Compare op l r)) rest)
+unfolding startValue expect readComparison
+compared-found {op = op} {l = l} v w k =
+    start-value v comparison-after
+    ∙ or-left _ _ (or-left _ _ (or-left _ _ (or-left _ _ (ap (_>>= (λ x. some (Whole (Atom (Compare op l (x .0))) (x .1)))) (value-found w (test-ends k))))))
 
 pub list-found : (q : Quantifier) (op : Comparison) (l : WrittenValue) {us vs : Tokens} {s : WrittenValue} {n : ℤ} {x : ℕ}
     → IsValue us s (FROM ∷ Number n ∷ Letter x ∷ WHERE ∷ vs) → startList q op l (Open ∷ SELECT ∷ us) ≡ some (Around (OfList q op l s (Over n x)) vs)
 unfolding startList expect readValue readNumber readFrom readLetter
-list-found q op l number = refl
-list-found q op l column = refl
-
-or-left : {A : Type 0} (o o′ : Option A) {x : A} → o ≡ some x → (o <|> o′) ≡ some x
-or-left o o′ e = ap (_<|> o′) e
+list-found q op l v = ap (_>>= (λ s. readFrom (s .1) >>= (λ f. some (Around (OfList q op l (s .0) (f .0)) (f .1))))) (value-found v from-after)
 
 -- a list after SOME, ALL, IN and NOT IN
 module _ {ts us : Tokens} {l : WrittenValue} {x : Start} where
   pub some-found : (op : Comparison) → startList Some op l us ≡ some x → IsValue ts l (Compares op ∷ SOME ∷ us) → start ts ≡ some x
   unfolding startValue expect readComparison readValue
-  some-found op e v = start-value v ∙ or-left _ _ (or-left _ _ (or-left _ _ e))
+  some-found op e v = start-value v comparison-after ∙ or-left _ _ (or-left _ _ (or-left _ _ e))
 
   pub all-found : (op : Comparison) → startList All op l us ≡ some x → IsValue ts l (Compares op ∷ ALL ∷ us) → start ts ≡ some x
   unfolding startValue expect readComparison readValue
-  all-found op e v = start-value v ∙ or-left _ _ (or-left _ _ e)
+  all-found op e v = start-value v comparison-after ∙ or-left _ _ (or-left _ _ e)
 
   pub in-found : startList Some Eq l us ≡ some x → IsValue ts l (IN ∷ us) → start ts ≡ some x
   unfolding startValue expect readComparison readValue
-  in-found e v = start-value v ∙ or-left _ _ e
+  in-found e v = start-value v in-after ∙ or-left _ _ e
 
   pub not-in-found : startList All Ne l us ≡ some x → IsValue ts l (NOT ∷ IN ∷ us) → start ts ≡ some x
   unfolding startValue expect readComparison readValue
-  not-in-found e v = start-value v ∙ e
+  not-in-found e v = start-value v not-after ∙ e

@@ -17,7 +17,7 @@ use Rattle.rule.specs.Condition.{Join, Not, WrittenValue, From, Over, Wr
 use Rattle.rule.specs.Grammar.{Tokens, IsValue, number, column, IsCondition, one-conjunction, joined-by-or, IsConjunction, one-factor, joined-by-and, IsFactor, not-factor, one-test, IsTest, bracketed, exists, is-null, is-not-null, compared, some-of, all-of, is-in, not-in, IsList, list, Reads}
 use Rattle.rule.specs.Reader.{expect, readNumber, readLetter, readFrom, Opening, Bracket, OfExists, OfList, closed, Start, Whole, Around, startList, start, Goal, condition, conjunction, factor, test, more-or, more-and, Found, branch, started, closing, read, depthFor, reading, atEnd, readAll}
 use Rattle.rule.specs.Claims.{ReadingClaim}
-use Rattle.rule.proofs.Found.{bind-ind, expect-at, Promised, nothing, whole, around, start-promised, null-found, not-null-found, compared-found, list-found, some-found, all-found, in-found, not-in-found}
+use Rattle.rule.proofs.Found.{bind-ind, expect-at, Promised, nothing, whole, around, start-promised, AfterCondition, end-after, close-after, or-after, AfterTest, condition-ends, and-after, no-and, null-found, not-null-found, compared-found, list-found, some-found, all-found, in-found, not-in-found}
 
 -- ---- a reading of the function is one of the grammar
 
@@ -243,13 +243,9 @@ record ListRead (ts : Tokens) (s : WrittenValue) (f : From) (w : WrittenConditio
   begins : (q : Quantifier) (op : Comparison) (l : WrittenValue) → startList q op l ts ≡ some (Around (OfList q op l s f) inner)
   reads : (e : ℕ) → depthFor condition inner ≤ e → read e condition inner ≡ some (w, Close ∷ rest)
 
-closes : {d : ℕ} {ts rest : Tokens} {a : WrittenCondition} → (expect AND (Close ∷ rest) ≡ none → Goes d condition ts (more-or a) (Close ∷ rest)) → read d condition ts ≡ some (a, Close ∷ rest)
+closes : {d : ℕ} {ts rest : Tokens} {a : WrittenCondition} → Goes d condition ts (more-or a) (Close ∷ rest) → read d condition ts ≡ some (a, Close ∷ rest)
 unfolding expect
-closes g = or-ends refl (g refl)
-
-or-is-no-and : (us : Tokens) → expect AND (OR ∷ us) ≡ none
-unfolding expect
-or-is-no-and us = refl
+closes g = or-ends refl g
 
 bracket-start : (ts : Tokens) → start (Open ∷ ts) ≡ some (Around Bracket ts)
 unfolding start expect
@@ -260,46 +256,46 @@ unfolding start expect readFrom readNumber readLetter
 exists-start n x ts = refl
 
 mutual
-  condition-goes : {ts rest : Tokens} {a : WrittenCondition} → IsCondition ts a rest → (d : ℕ) → depthFor condition ts ≤ d → expect AND rest ≡ none → Goes d condition ts (more-or a) rest
-  condition-goes {ts} (one-conjunction r) d h n = condition-step d ts h (conjunction-inside r) (λ e g. and-ends n (conjunction-goes r e g))
-  condition-goes (joined-by-or {us = us} r q) d h n = or-goes (conjunction-inside q) (condition-goes r d h (or-is-no-and us)) (λ e g. and-ends n (conjunction-goes q e g))
+  condition-goes : {ts rest : Tokens} {a : WrittenCondition} → IsCondition ts a rest → (d : ℕ) → depthFor condition ts ≤ d → AfterCondition rest → Goes d condition ts (more-or a) rest
+  condition-goes {ts} (one-conjunction r) d h k = condition-step d ts h (conjunction-inside r) (λ e g. and-ends (no-and k) (conjunction-goes r e g (condition-ends k)))
+  condition-goes (joined-by-or r q) d h k = or-goes (conjunction-inside q) (condition-goes r d h or-after) (λ e g. and-ends (no-and k) (conjunction-goes q e g (condition-ends k)))
 
-  conjunction-goes : {ts rest : Tokens} {a : WrittenCondition} → IsConjunction ts a rest → (d : ℕ) → depthFor conjunction ts ≤ d → Goes d conjunction ts (more-and a) rest
-  conjunction-goes {ts} (one-factor r) d h = conjunction-step d ts h (factor-inside r) (λ e g. factor-read r e g)
-  conjunction-goes (joined-by-and r q) d h = and-goes (factor-inside q) (conjunction-goes r d h) (λ e g. factor-read q e g)
+  conjunction-goes : {ts rest : Tokens} {a : WrittenCondition} → IsConjunction ts a rest → (d : ℕ) → depthFor conjunction ts ≤ d → AfterTest rest → Goes d conjunction ts (more-and a) rest
+  conjunction-goes {ts} (one-factor r) d h k = conjunction-step d ts h (factor-inside r) (λ e g. factor-read r e g k)
+  conjunction-goes (joined-by-and r q) d h k = and-goes (factor-inside q) (conjunction-goes r d h and-after) (λ e g. factor-read q e g k)
 
-  factor-read : {ts rest : Tokens} {a : WrittenCondition} → IsFactor ts a rest → (d : ℕ) → depthFor factor ts ≤ d → read d factor ts ≡ some (a, rest)
-  factor-read (not-factor {ts = us} r) d h = not-step d us h (λ e g. factor-read r e g)
-  factor-read {ts} (one-test r) d h = factor-step d ts h (no-not r) (λ e g. test-read r e g)
+  factor-read : {ts rest : Tokens} {a : WrittenCondition} → IsFactor ts a rest → (d : ℕ) → depthFor factor ts ≤ d → AfterTest rest → read d factor ts ≡ some (a, rest)
+  factor-read (not-factor {ts = us} r) d h k = not-step d us h (λ e g. factor-read r e g k)
+  factor-read {ts} (one-test r) d h k = factor-step d ts h (no-not r) (λ e g. test-read r e g k)
 
-  test-read : {ts rest : Tokens} {a : WrittenCondition} → IsTest ts a rest → (d : ℕ) → depthFor test ts ≤ d → read d test ts ≡ some (a, rest)
-  test-read (bracketed {ts = us} r) d h = around-step d Bracket (Open ∷ us) us h (omega arith) (bracket-start us) (λ e g. closes (λ n. condition-goes r e g n))
-  test-read (exists {n = n} {x = x} {ts = us} r) d h =
-      around-step d (OfExists (Over n x)) _ us h (omega arith) (exists-start n x us) (λ e g. closes (λ n. condition-goes r e g n))
-  test-read {ts} (is-null v) d h = whole-step d ts h (null-found v)
-  test-read {ts} (is-not-null v) d h = whole-step d ts h (not-null-found v)
-  test-read {ts} (compared v w) d h = whole-step d ts h (compared-found v w)
-  test-read {ts} (some-of {op = op} {l = l} {s = s} {f = f} v r) d h =
+  test-read : {ts rest : Tokens} {a : WrittenCondition} → IsTest ts a rest → (d : ℕ) → depthFor test ts ≤ d → AfterTest rest → read d test ts ≡ some (a, rest)
+  test-read (bracketed {ts = us} r) d h k = around-step d Bracket (Open ∷ us) us h (omega arith) (bracket-start us) (λ e g. closes (condition-goes r e g close-after))
+  test-read (exists {n = n} {x = x} {ts = us} r) d h k =
+      around-step d (OfExists (Over n x)) _ us h (omega arith) (exists-start n x us) (λ e g. closes (condition-goes r e g close-after))
+  test-read {ts} (is-null v) d h k = whole-step d ts h (null-found v)
+  test-read {ts} (is-not-null v) d h k = whole-step d ts h (not-null-found v)
+  test-read {ts} (compared v w) d h k = whole-step d ts h (compared-found v w k)
+  test-read {ts} (some-of {op = op} {l = l} {s = s} {f = f} v r) d h k =
       let q = list-read r in
       around-step d (OfList Some op l s f) ts (q .inner) h (omega (arith, q .shorter, value-inside v)) (some-found op (q .begins Some op l) v) (q .reads)
-  test-read {ts} (all-of {op = op} {l = l} {s = s} {f = f} v r) d h =
+  test-read {ts} (all-of {op = op} {l = l} {s = s} {f = f} v r) d h k =
       let q = list-read r in
       around-step d (OfList All op l s f) ts (q .inner) h (omega (arith, q .shorter, value-inside v)) (all-found op (q .begins All op l) v) (q .reads)
-  test-read {ts} (is-in {l = l} {s = s} {f = f} v r) d h =
+  test-read {ts} (is-in {l = l} {s = s} {f = f} v r) d h k =
       let q = list-read r in
       around-step d (OfList Some Eq l s f) ts (q .inner) h (omega (arith, q .shorter, value-inside v)) (in-found (q .begins Some Eq l) v) (q .reads)
-  test-read {ts} (not-in {l = l} {s = s} {f = f} v r) d h =
+  test-read {ts} (not-in {l = l} {s = s} {f = f} v r) d h k =
       let q = list-read r in
       around-step d (OfList All Ne l s f) ts (q .inner) h (omega (arith, q .shorter, value-inside v)) (not-in-found (q .begins All Ne l) v) (q .reads)
 
   list-read : {ts rest : Tokens} {s : WrittenValue} {f : From} {w : WrittenCondition} → IsList ts s f w rest → ListRead ts s f w rest
-  list-read (list {us = us} v r) = record { inner = us; shorter = omega (arith, value-inside v); begins = λ q op l. list-found q op l v; reads = λ e g. closes (λ n. condition-goes r e g n) }
+  list-read (list {us = us} v r) = record { inner = us; shorter = omega (arith, value-inside v); begins = λ q op l. list-found q op l v; reads = λ e g. closes (condition-goes r e g close-after) }
 
 -- ---- all the tokens
 
 pub read-complete : (ts : Tokens) (a : WrittenCondition) → Reads ts a → readAll ts ≡ some a
 unfolding readAll reading expect
-read-complete ts a r = ap (_>>= atEnd) (or-ends refl (condition-goes r (depthFor condition ts) (le-refl (depthFor condition ts)) refl))
+read-complete ts a r = ap (_>>= atEnd) (or-ends refl (condition-goes r (depthFor condition ts) (le-refl (depthFor condition ts)) end-after))
 
 abbrev ReadsSome : Tokens → Option WrittenCondition → Type 0
 ReadsSome ts none = Unit {0}
