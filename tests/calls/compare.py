@@ -53,11 +53,11 @@ def refusal_sorts(*numbers):
 
 
 def refusal_sets(call, given):
-    """Every set of a call's refusals together, where document 01 gives the lowest, the first in the call's order; without any, the answer is of the sort `given`."""
+    """Every set of a call's refusals together, of which the first in the call's order is given; without any, the answer is of the sort `given`."""
     refusals = cases.REFUSALS_OF[call]
     for count in range(len(refusals) + 1):
         for chosen in itertools.combinations(refusals, count):
-            yield Stated(cases.refusal_set_case(call, chosen), f"refused {min(chosen)}" if chosen else given)
+            yield Stated(cases.refusal_set_case(call, chosen), f"refused {chosen[0]}" if chosen else given)
 
 
 class Comparison:

@@ -1,6 +1,6 @@
 -- The bytes of a card read back as the card, so what is sound passes the test.
 use mathlib.Core.Path.{_≡_, refl, sym, ap, ap₂, fun-ext, _∙_}
-use mathlib.Core.Bool.{Bool, true}
+use mathlib.Core.Bool.{Bool, true, _&&_}
 use mathlib.Core.List.{List, [], _∷_, _++_, append-nil}
 use mathlib.Core.Option.{some}
 use Prim.Native.Nat.{ℕ, zero, suc, _+_, _≤_, _<_}
@@ -10,12 +10,12 @@ use borrow.Author.Tests.{eq-eqb, ne-eqb}
 use lib.Dec.{T, leb, ltb, eqb, leb→le, ltb→lt, eqb-refl}
 use lib.Ieee.Fits.{and-i}
 use lib.ListN.{length, getD, drop, length-append}
-use Rattle.tables.specs.Lists.{tabulate, numbered, all, only}
+use Rattle.tables.specs.Lists.{tabulate, numbered, all, only, _>>=_}
 use Rattle.tables.specs.Bytes.{between, byteAt, word32, bytes32, bits, inRange}
 use Rattle.tables.specs.Tables.{mostTables, mostColumns}
-use Rattle.tables.specs.Values.{constantTag, judgedLevels, Value, Constant, Column, Comparison, Eq, Ne, Lt, Le, Gt, Ge, comparisonNumber, And, Or, Some, All, valueFits}
-use Rattle.card.specs.Card.{mostRowEntries, AsNo, AsYes, Leaf, CompareLeaf, BlankLeaf, NotBlankLeaf, Card, LeafEntry, PairEntry, RowEntry, entries, leafFits, rowEntryFits, cardFits}
-use Rattle.card.specs.Layout.{recordSize, valueSize, leftPlace, rightPlace, Head, LeafHead, PairHead, RowHead, kindOf, valueBytes, noValue, recordBytes, cardBytes, valueOf, valueFrom, zeros, headFrom, inside, entryFrom, cardFrom}
+use Rattle.tables.specs.Values.{constantTag, judgedLevels, Value, Constant, Column, unusedValue, Comparison, Eq, Ne, Lt, Le, Gt, Ge, comparisonNumber, And, Or, Some, All, Null, NotNull, valueFits}
+use Rattle.card.specs.Card.{mostRowEntries, AsNo, AsYes, Leaf, CompareLeaf, MarkLeaf, Card, LeafEntry, PairEntry, RowEntry, entries, leafFits, rowEntryFits, cardFits}
+use Rattle.card.specs.Layout.{recordSize, valueSize, leftPlace, rightPlace, Kind, PairKind, RowKind, ComparisonKind, MarkKind, kindNumber, kindWith, uses, Head, LeafHead, PairHead, RowHead, kindOf, valueBytes, recordBytes, cardBytes, valueOf, valueFrom, zeros, recordFits, headIn, headFrom, inside, entryFrom, cardFrom}
 use Rattle.card.specs.Sound.{mostEntries, columnsFit, laid, sound, Sound}
 use Rattle.tables.proofs.Values.{comparison-back}
 use Rattle.tables.proofs.Tests.{is-true, both, bounds}
@@ -52,8 +52,7 @@ abbrev HeadShort : Head → Type 0
 HeadShort (PairHead j) = Unit {0}
 HeadShort (RowHead q t) = Unit {0}
 HeadShort (LeafHead (CompareLeaf u op l r)) = ValueShort l × ValueShort r
-HeadShort (LeafHead (BlankLeaf l)) = ValueShort l
-HeadShort (LeafHead (NotBlankLeaf l)) = ValueShort l
+HeadShort (LeafHead (MarkLeaf m l)) = ValueShort l
 
 only-true : {A : Type 0} {t : Bool} {x y : A} → t ≡ true → x ≡ y → only t x ≡ some y
 only-true e p = ap₂ only e p
@@ -70,34 +69,48 @@ module _ (bs : List ℕ) (l : Value) (short : ValueShort l) where
   right-back r s d = value-back r bs rightPlace [] s (behind (valueBytes r) d ∙ sym (append-nil (valueBytes r)))
 
   -- so that the right value's place has zeros
-  no-right : drop leftPlace bs ≡ valueBytes l ++ noValue → zeros bs rightPlace recordSize ≡ true
+  no-right : drop leftPlace bs ≡ valueBytes l ++ valueBytes unusedValue → zeros bs rightPlace recordSize ≡ true
   unfolding zeros
   no-right d =
-      let f : (k : ℕ) → eqb (byteAt bs (rightPlace + k)) 0 ≡ eqb (byteAt noValue k) 0 = λ k. ap (λ (x : ℕ). eqb x 0) (at bs rightPlace k noValue (behind noValue d)) in
+      let none = valueBytes unusedValue in
+      let f : (k : ℕ) → eqb (byteAt bs (rightPlace + k)) 0 ≡ eqb (byteAt none k) 0 = λ k. ap (λ (x : ℕ). eqb x 0) (at bs rightPlace k none (behind none d)) in
       ap (λ (p : ℕ → Bool). all p (tabulate valueSize (λ k. k))) (fun-ext f)
 
-head-back : (h : Head) (e : ℕ) → HeadShort h → headFrom (kindOf h) (recordBytes e h) ≡ some h
-unfolding headFrom zeros
-head-back (PairHead And) e s = refl
-head-back (PairHead Or) e s = refl
-head-back (RowHead Some t) e s = refl
-head-back (RowHead All t) e s = refl
-head-back (LeafHead (CompareLeaf AsNo op l r)) e s =
-    let bs = recordBytes e (LeafHead (CompareLeaf AsNo op l r)) in
+-- a kind comes back from its number
+pub kind-back : (k : Kind) → kindWith (kindNumber k) ≡ some k
+kind-back (PairKind And) = refl
+kind-back (PairKind Or) = refl
+kind-back (RowKind Some) = refl
+kind-back (RowKind All) = refl
+kind-back (ComparisonKind AsNo) = refl
+kind-back (ComparisonKind AsYes) = refl
+kind-back (MarkKind Null) = refl
+kind-back (MarkKind NotNull) = refl
+
+-- the record of what an entry says is as its kind wants it, and says the same
+record Back (h : Head) (r : List ℕ) : Type 0 where
+  fits : recordFits (uses (kindOf h)) r ≡ true
+  says : headIn (kindOf h) r ≡ h
+
+record-back : (h : Head) (e : ℕ) → HeadShort h → Back h (recordBytes e h)
+unfolding recordFits zeros
+record-back (PairHead j) e s = record { fits = refl; says = refl }
+record-back (RowHead q t) e s = record { fits = refl; says = refl }
+record-back (LeafHead (CompareLeaf u op l r)) e s =
+    let bs = recordBytes e (LeafHead (CompareLeaf u op l r)) in
     let p = left-back bs l (s .0) (valueBytes r) refl in
     let q = right-back bs l (s .0) r (s .1) refl in
-    only-true (comparison-known op) (λ i. LeafHead (CompareLeaf AsNo (comparison-back op i) (p i) (q i)))
-head-back (LeafHead (CompareLeaf AsYes op l r)) e s =
-    let bs = recordBytes e (LeafHead (CompareLeaf AsYes op l r)) in
-    let p = left-back bs l (s .0) (valueBytes r) refl in
-    let q = right-back bs l (s .0) r (s .1) refl in
-    only-true (comparison-known op) (λ i. LeafHead (CompareLeaf AsYes (comparison-back op i) (p i) (q i)))
-head-back (LeafHead (BlankLeaf l)) e s =
-    let bs = recordBytes e (LeafHead (BlankLeaf l)) in
-    only-true (no-right bs l s refl) (λ i. LeafHead (BlankLeaf (left-back bs l s noValue refl i)))
-head-back (LeafHead (NotBlankLeaf l)) e s =
-    let bs = recordBytes e (LeafHead (NotBlankLeaf l)) in
-    only-true (no-right bs l s refl) (λ i. LeafHead (NotBlankLeaf (left-back bs l s noValue refl i)))
+    record { fits = ap (λ (b : Bool). b && true) (comparison-known op); says = λ i. LeafHead (CompareLeaf u (comparison-back op i) (p i) (q i)) }
+record-back (LeafHead (MarkLeaf m l)) e s =
+    let bs = recordBytes e (LeafHead (MarkLeaf m l)) in
+    record { fits = no-right bs l s refl; says = λ i. LeafHead (MarkLeaf m (left-back bs l s (valueBytes unusedValue) refl i)) }
+
+head-back : (h : Head) (e : ℕ) → HeadShort h → headFrom (kindNumber (kindOf h)) (recordBytes e h) ≡ some h
+unfolding headFrom
+head-back h e s =
+    let r = recordBytes e h in
+    let b = record-back h e s in
+    ap (_>>= (λ k. only (recordFits (uses k) r) (headIn k r))) (kind-back (kindOf h)) ∙ only-true (b .fits) (b .says)
 
 -- ---- an entry with its inner ones
 
@@ -135,8 +148,7 @@ module _ (columns : List ℕ) (sized : T (columnsFit columns)) (levels : List �
   leaf-short (CompareLeaf u op l r) f =
       let (p, q) = both (valueFits columns levels l) (valueFits columns levels r) f in
       (value-short l p, value-short r q)
-  leaf-short (BlankLeaf l) f = value-short l f
-  leaf-short (NotBlankLeaf l) f = value-short l f
+  leaf-short (MarkLeaf m l) f = value-short l f
 
 -- entries that stand at i are read from there on
 module _ (bs columns : List ℕ) (sized : T (columnsFit columns)) where

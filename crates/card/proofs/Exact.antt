@@ -1,6 +1,6 @@
 -- Bytes that pass the test are those of the card that they hold.
 use mathlib.Core.Path.{_≡_, refl, sym, ap, ap₂, subst, _∙_}
-use mathlib.Core.Bool.{Bool, true, false, _&&_, cond}
+use mathlib.Core.Bool.{Bool, true, false, _&&_, _||_, cond}
 use mathlib.Core.List.{List, [], _∷_, _++_, append-assoc, append-nil}
 use mathlib.Core.Option.{Option, none, some}
 use Prim.Native.Nat.{ℕ, zero, suc, _+_, _-_, _≤_, _<_}
@@ -11,9 +11,9 @@ use lib.ListN.{length, getD, take, drop, length-drop, take-append-drop, drop-of-
 use lib.Seq.{take-take, drop-cons, drop-drop, getD-drop, length-take-le}
 use Rattle.tables.specs.Lists.{tabulate, all, only, _>>=_}
 use Rattle.tables.specs.Bytes.{between, byteAt, word16, word32, bytes16, bytes32, signed}
-use Rattle.tables.specs.Values.{constantTag, judgedLevels, Constant, Column, comparisonNumber, comparisonOf, Connective, And, Or, Quantifier, Some, All}
-use Rattle.card.specs.Card.{Interpretation, AsNo, AsYes, Leaf, CompareLeaf, BlankLeaf, NotBlankLeaf, Card, LeafEntry, PairEntry, RowEntry, entries, cardFits}
-use Rattle.card.specs.Layout.{recordSize, tablePlace, comparisonPlace, leftPlace, rightPlace, usesEnd, usesTable, usesComparison, usesLeft, Head, LeafHead, PairHead, RowHead, kindOf, valueBytes, noValue, fieldBytes, recordBytes, kindBytes, recordsFrom, cardBytes, cardLength, entryCount, tablesIn, columnsIn, kindAt, recordAt, endAt, valueFrom, zeros, headFrom, Taken, inside, entryFrom, cardFrom}
+use Rattle.tables.specs.Values.{constantTag, judgedLevels, Value, Constant, Column, unusedValue, Uses, Comparison, comparisonNumber, comparisonOf, Connective, Quantifier}
+use Rattle.card.specs.Card.{Leaf, Card, LeafEntry, PairEntry, RowEntry, entries, cardFits}
+use Rattle.card.specs.Layout.{recordSize, valueSize, tablePlace, comparisonPlace, leftPlace, rightPlace, Kind, PairKind, RowKind, ComparisonKind, MarkKind, pairKind, rowKind, kindNumber, kindWith, uses, Head, LeafHead, PairHead, RowHead, kindOf, headWith, valueBytes, fieldsWith, fieldBytes, recordBytes, kindBytes, recordsFrom, cardBytes, cardLength, entryCount, tablesIn, columnsIn, kindAt, recordAt, endAt, valueFrom, zeros, recordFits, headIn, headFrom, Taken, inside, entryFrom, cardFrom}
 use Rattle.card.specs.Sound.{mostEntries, columnsFit, holdsFitting, laid, sound, Sound}
 use Rattle.tables.proofs.Values.{comparison-number}
 use Rattle.tables.proofs.Tests.{both, bounds}
@@ -49,6 +49,14 @@ module _ {A : Type 0} where
 
 -- ---- one entry
 
+-- the number of a kind that may be missing
+abbrev numberOf : Option Kind → ℕ
+numberOf none = 0
+numberOf (some k) = kindNumber k
+
+numbered-as : {x k : Kind} → some x ≡ some k → kindNumber k ≡ kindNumber x
+numbered-as e = sym (ap numberOf e)
+
 -- a value is its five bytes
 value-of : (tag n : ℕ) → n < 4294967296 → (t : Bool) → eqb tag constantTag ≡ t
     → valueBytes (cond t (Constant (signed n)) (Column tag n)) ≡ tag ∷ bytes32 n
@@ -66,7 +74,7 @@ comparison-exact n t = let (low, high) = bounds 1 6 n t in comparison-number n l
 
 -- the record r with this kind is the entry h
 record Says (r : List ℕ) (kind : ℕ) (h : Head) : Type 0 where
-  kind-is : kindOf h ≡ kind
+  kind-is : kindNumber (kindOf h) ≡ kind
   bytes-are : recordBytes (word16 r 0) h ≡ tabulate recordSize (byteAt r)
 
 module _ (r : List ℕ) (b : Bytes r) where
@@ -83,44 +91,75 @@ module _ (r : List ℕ) (b : Bytes r) where
   unfolding zeros
   zeros-exact i j t = all-zero (j - i) (λ k. byteAt r (i + k)) (λ k. k) t
 
-  says : (h : Head) → fieldBytes h ≡ tabulate (recordSize - tablePlace) (λ k. byteAt r (tablePlace + k)) → Says r (kindOf h) h
-  says h p = record { kind-is = refl; bytes-are = ap₂ _++_ (to16 (byteAt r 0) (byteAt r 1) (b 0) (b 1)) p }
+  -- a field that is used is as it was read, and one that is not is 0
+  table-exact : (b : Bool) → T (b || zeros r tablePlace comparisonPlace) → cond b (byteAt r tablePlace) 0 ≡ byteAt r tablePlace
+  table-exact true t = refl
+  table-exact false t = ap (λ (l : List ℕ). getD l 0 0) (sym (zeros-exact tablePlace comparisonPlace t))
 
-  both-says : (j : Connective) → T (usesEnd r) → Says r (kindOf (PairHead j)) (PairHead j)
-  both-says j t = says (PairHead j) (sym (zeros-exact tablePlace recordSize t))
+  comparison-used : (b : Bool) → let n = byteAt r comparisonPlace in T (cond b (between 1 6 n) (zeros r comparisonPlace leftPlace))
+      → cond b (comparisonNumber (comparisonOf n)) 0 ≡ n
+  comparison-used true t = comparison-exact (byteAt r comparisonPlace) t
+  comparison-used false t = ap (λ (l : List ℕ). getD l 0 0) (sym (zeros-exact comparisonPlace leftPlace t))
 
-  rows-says : (q : Quantifier) → T (usesTable r) → let h = RowHead q (byteAt r tablePlace) in Says r (kindOf h) h
-  rows-says q t = says (RowHead q (byteAt r tablePlace)) (ap (λ (l : List ℕ). byteAt r tablePlace ∷ l) (sym (zeros-exact comparisonPlace recordSize t)))
+  value-used : (b : Bool) (i j : ℕ) → j - i ≡ valueSize → valueBytes (valueFrom r i) ≡ tabulate (j - i) (λ k. byteAt r (i + k)) → T (b || zeros r i j)
+      → valueBytes (cond b (valueFrom r i) unusedValue) ≡ tabulate (j - i) (λ k. byteAt r (i + k))
+  value-used true i j e v t = v
+  value-used false i j e v t = sym (zeros-exact i j t ∙ ap (λ (n : ℕ). tabulate n (λ k. 0)) e)
 
-  compare-says : (u : Interpretation) → T (usesComparison r)
-      → let h = LeafHead (CompareLeaf u (comparisonOf (byteAt r comparisonPlace)) (valueFrom r leftPlace) (valueFrom r rightPlace)) in Says r (kindOf h) h
-  compare-says u t =
-      let (z, c) = both (zeros r tablePlace comparisonPlace) (between 1 6 (byteAt r comparisonPlace)) t in
-      let first : 0 ∷ comparisonNumber (comparisonOf (byteAt r comparisonPlace)) ∷ [] ≡ byteAt r tablePlace ∷ byteAt r comparisonPlace ∷ [] =
-      ap₂ _++_ (sym (zeros-exact tablePlace comparisonPlace z)) (ap (λ (n : ℕ). n ∷ []) (comparison-exact (byteAt r comparisonPlace) c)) in
-      says (LeafHead (CompareLeaf u (comparisonOf (byteAt r comparisonPlace)) (valueFrom r leftPlace) (valueFrom r rightPlace))) (ap₂ _++_ first (ap₂ _++_ (value-exact leftPlace) (value-exact rightPlace)))
+  -- the fields that a kind uses, read from a record that is as the kind wants it, are the record's
+  fields-exact : (u : Uses) → T (recordFits u r)
+      → fieldsWith u (byteAt r tablePlace) (comparisonOf (byteAt r comparisonPlace)) (valueFrom r leftPlace) (valueFrom r rightPlace)
+      ≡ tabulate (recordSize - tablePlace) (λ k. byteAt r (tablePlace + k))
+  unfolding recordFits
+  fields-exact u t =
+      let (t1, t2) = both (u .table || zeros r tablePlace comparisonPlace) _ t in
+      let (t3, t4) = both (cond (u .comparison) (between 1 6 (byteAt r comparisonPlace)) (zeros r comparisonPlace leftPlace)) _ t2 in
+      let (t5, t6) = both (u .left || zeros r leftPlace rightPlace) (u .right || zeros r rightPlace recordSize) t4 in
+      ap₂ _∷_ (table-exact (u .table) t1)
+      (ap₂ _∷_ (comparison-used (u .comparison) t3) (ap₂ _++_ (value-used (u .left) leftPlace rightPlace refl (value-exact leftPlace) t5) (value-used (u .right) rightPlace recordSize refl (value-exact rightPlace) t6)))
 
-  -- the fields of a record that has a left value alone
-  left-alone : T (usesLeft r) → 0 ∷ 0 ∷ valueBytes (valueFrom r leftPlace) ++ noValue ≡ tabulate (recordSize - tablePlace) (λ k. byteAt r (tablePlace + k))
-  left-alone t =
-      let (z, w) = both (zeros r tablePlace leftPlace) (zeros r rightPlace recordSize) t in
-      ap₂ _++_ (sym (zeros-exact tablePlace leftPlace z)) (ap₂ _++_ (value-exact leftPlace) (sym (zeros-exact rightPlace recordSize w)))
+-- the kind with a number has that number
+pub kind-number : (n : ℕ) (k : Kind) → kindWith n ≡ some k → kindNumber k ≡ n
+kind-number zero k e = absurd (none-some e)
+kind-number (suc zero) k e = numbered-as e
+kind-number (suc (suc zero)) k e = numbered-as e
+kind-number (suc (suc (suc zero))) k e = numbered-as e
+kind-number (suc (suc (suc (suc zero)))) k e = numbered-as e
+kind-number (suc (suc (suc (suc (suc zero))))) k e = numbered-as e
+kind-number (suc (suc (suc (suc (suc (suc zero)))))) k e = numbered-as e
+kind-number (suc (suc (suc (suc (suc (suc (suc zero))))))) k e = numbered-as e
+kind-number (suc (suc (suc (suc (suc (suc (suc (suc zero)))))))) k e = numbered-as e
+kind-number (suc (suc (suc (suc (suc (suc (suc (suc (suc n))))))))) k e = absurd (none-some e)
 
-  said : (t : Bool) (x h : Head) → (T t → Says r (kindOf x) x) → only t x ≡ some h → Says r (kindOf x) h
-  said t x h f e = let (u, p) = only-some t x h e in subst (Says r (kindOf x)) p (f u)
+-- what an entry says by its kind has that kind, and the fields that the kind uses
+module _ (t : ℕ) (op : Comparison) (l r : Value) where
+  pub kind-with : (k : Kind) → kindOf (headWith k t op l r) ≡ k
+  kind-with (PairKind j) = refl
+  kind-with (RowKind q) = refl
+  kind-with (ComparisonKind u) = refl
+  kind-with (MarkKind m) = refl
 
-  head-exact : (kind : ℕ) (h : Head) → headFrom kind r ≡ some h → Says r kind h
+  fields-with : (k : Kind) → fieldBytes (headWith k t op l r) ≡ fieldsWith (uses k) t op l r
+  fields-with (PairKind j) = refl
+  fields-with (RowKind q) = refl
+  fields-with (ComparisonKind u) = refl
+  fields-with (MarkKind m) = refl
+
+module _ (r : List ℕ) (b : Bytes r) where
+  head-exact : (n : ℕ) (h : Head) → headFrom n r ≡ some h → Says r n h
   unfolding headFrom
-  head-exact zero h e = absurd (none-some e)
-  head-exact (suc zero) h e = said (usesEnd r) _ h (both-says And) e
-  head-exact (suc (suc zero)) h e = said (usesEnd r) _ h (both-says Or) e
-  head-exact (suc (suc (suc zero))) h e = said (usesTable r) _ h (rows-says Some) e
-  head-exact (suc (suc (suc (suc zero)))) h e = said (usesTable r) _ h (rows-says All) e
-  head-exact (suc (suc (suc (suc (suc zero))))) h e = said (usesComparison r) _ h (compare-says AsNo) e
-  head-exact (suc (suc (suc (suc (suc (suc zero)))))) h e = said (usesComparison r) _ h (compare-says AsYes) e
-  head-exact (suc (suc (suc (suc (suc (suc (suc zero))))))) h e = said (usesLeft r) _ h (λ t. says (LeafHead (BlankLeaf (valueFrom r leftPlace))) (left-alone t)) e
-  head-exact (suc (suc (suc (suc (suc (suc (suc (suc zero)))))))) h e = said (usesLeft r) _ h (λ t. says (LeafHead (NotBlankLeaf (valueFrom r leftPlace))) (left-alone t)) e
-  head-exact (suc (suc (suc (suc (suc (suc (suc (suc (suc n))))))))) h e = absurd (none-some e)
+  head-exact n h e =
+      let (k, pk, e′) = bind-some (kindWith n) _ h e in
+      let (t, p) = only-some (recordFits (uses k) r) (headIn k r) h e′ in
+      let table = byteAt r tablePlace in
+      let op = comparisonOf (byteAt r comparisonPlace) in
+      let left = valueFrom r leftPlace in
+      let right = valueFrom r rightPlace in
+      subst (Says r n) p
+      (record {
+        kind-is = ap kindNumber (kind-with table op left right k) ∙ kind-number n k pk;
+        bytes-are = ap₂ _++_ (to16 (byteAt r 0) (byteAt r 1) (b 0) (b 1)) (fields-with table op left right k ∙ fields-exact r b (uses k) t);
+      })
 
 -- ---- an entry with its inner ones
 
@@ -136,7 +175,7 @@ module _ (bs : List ℕ) (b : Bytes bs) (long : length bs ≡ cardLength (tables
     own : Says (recordAt bs i) (kindAt bs i) h
     own = head-exact (recordAt bs i) (take-bytes recordSize (drop (recordPlace bs i) bs) (drop-bytes (recordPlace bs i) bs b)) (kindAt bs i) h e
 
-    own-kind : drop (kindPlace bs i) bs ≡ kindOf h ∷ drop (kindPlace bs (i + 1)) bs
+    own-kind : drop (kindPlace bs i) bs ≡ kindNumber (kindOf h) ∷ drop (kindPlace bs (i + 1)) bs
     own-kind =
         let next : suc (kindPlace bs i) ≡ kindPlace bs (i + 1) = omega arith in
         drop-cons bs (kindPlace bs i) 0 (omega arith) ∙ ap₂ (λ (k n : ℕ). k ∷ drop n bs) (sym (own .kind-is)) next
@@ -179,7 +218,7 @@ module _ (bs : List ℕ) (b : Bytes bs) (long : length bs ≡ cardLength (tables
           ends = omega arith;
           kinds =
               own-kind i (PairHead j) there e
-              ∙ ap (λ (l : List ℕ). kindOf (PairHead j) ∷ l)
+              ∙ ap (λ (l : List ℕ). pairKind j ∷ l)
               (rx .kinds
               ∙ ap (λ (l : List ℕ). kindBytes (x .0) ++ l) (ry .kinds)
               ∙ sym (append-assoc (kindBytes (x .0)) (kindBytes (y .0)) (drop (kindPlace bs (y .1)) bs)));
@@ -199,7 +238,7 @@ module _ (bs : List ℕ) (b : Bytes bs) (long : length bs ≡ cardLength (tables
         let whole : endAt bs i ≡ i + (1 + entries (x .0)) = omega arith in
         record {
           ends = omega arith;
-          kinds = own-kind i (RowHead q t) there e ∙ ap (λ (l : List ℕ). kindOf (RowHead q t) ∷ l) (rx .kinds);
+          kinds = own-kind i (RowHead q t) there e ∙ ap (λ (l : List ℕ). rowKind q ∷ l) (rx .kinds);
           records = own-record i (RowHead q t) there e ∙ ap₂ (λ (n : ℕ) (l : List ℕ). recordBytes n (RowHead q t) ++ l) whole (rx .records);
         }
 

@@ -6,8 +6,8 @@ use native.Mathlib.Omega.{arith}
 use lib.ListN.{length, take, drop, length-append}
 use lib.Seq.{take-at}
 use Rattle.tables.specs.Values.{Value, Constant, Column, Connective, Quantifier}
-use Rattle.card.specs.Card.{CompareLeaf, BlankLeaf, NotBlankLeaf, Card, LeafEntry, PairEntry, RowEntry, entries}
-use Rattle.card.specs.Layout.{recordSize, valueSize, Head, LeafHead, PairHead, RowHead, kindOf, valueBytes, recordBytes, kindBytes, recordsFrom, cardBytes, cardLength, entryCount, tablesIn, columnsIn, kindAt, recordAt}
+use Rattle.card.specs.Card.{CompareLeaf, MarkLeaf, Card, LeafEntry, PairEntry, RowEntry, entries}
+use Rattle.card.specs.Layout.{recordSize, valueSize, Head, LeafHead, PairHead, RowHead, kindNumber, kindOf, valueBytes, recordBytes, kindBytes, recordsFrom, cardBytes, cardLength, entryCount, tablesIn, columnsIn, kindAt, recordAt}
 use Rattle.card.proofs.Places.{at, at0, skip-to, tabulated, from16}
 
 -- ---- lengths
@@ -20,8 +20,7 @@ pub record-length : (e : ℕ) (h : Head) → length (recordBytes e h) ≡ record
 record-length e (PairHead j) = refl
 record-length e (RowHead q t) = refl
 record-length e (LeafHead (CompareLeaf u op l r)) = simp (length-append, value-length)
-record-length e (LeafHead (BlankLeaf l)) = simp (length-append, value-length)
-record-length e (LeafHead (NotBlankLeaf l)) = simp (length-append, value-length)
+record-length e (LeafHead (MarkLeaf m l)) = simp (length-append, value-length)
 
 pub kinds-length : (c : Card) → length (kindBytes c) ≡ entries c
 unfolding kindBytes entries
@@ -69,7 +68,7 @@ module _ (bs : List ℕ) (i : ℕ) where
   next-record e h r d = skip-to bs (recordPlace bs i) (recordPlace bs (i + 1)) (recordBytes e h) r d (omega (arith, record-length e h))
 
 module _ {bs : List ℕ} {i : ℕ} where
-  pub kind-there : {c : Card} → Stands bs i c → kindAt bs i ≡ kindOf (headOf c)
+  pub kind-there : {c : Card} → Stands bs i c → kindAt bs i ≡ kindNumber (kindOf (headOf c))
   unfolding kindBytes
   kind-there {c = LeafEntry x} s = at0 bs (kindPlace bs i) _ (s .kinds)
   kind-there {c = PairEntry j a b} s = at0 bs (kindPlace bs i) _ (s .kinds)

@@ -41,8 +41,8 @@ gateRefusals card file = tablesRefusals file ++ (checkRefusals card ++ ((10 if n
 unfoldable pub runRefusals : List ℕ → List ℕ → ℕ → List Refusal
 runRefusals card file row = gateRefusals card file ++ (rowRefusal file row ∷ [])
 
--- ---- the published order of each call's refusals: where several apply, the first in the call's list is given. Document 01 says 'the lowest applying number is
--- given', and its rows stand in the order of their numbers: each list rises
+-- ---- the order of each call's refusals, by their numbers: where several apply, the first in the call's list is given. By document 01 it is 'the lowest
+-- applying number', so each list rises
 
 abbrev pub checkOrder : List ℕ
 checkOrder = 9 ∷ []

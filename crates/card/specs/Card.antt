@@ -1,13 +1,13 @@
 -- Document 01, Card: a card's entries as a tree, and what they answer: yes or no, never unknown.
-use mathlib.Core.Bool.{Bool, true, false, not, _&&_, _||_}
+use mathlib.Core.Bool.{Bool, true, false, _&&_, _||_}
 use mathlib.Core.List.{List, [], _∷_, _++_}
 use Prim.Native.Nat.{ℕ, _+_}
 use lib.Dec.{leb}
 use lib.ListN.{length}
 use Rattle.tables.specs.Lists.{any, all}
 use Rattle.tables.specs.Bytes.{between}
-use Rattle.tables.specs.Tables.{Cell, Row, Tables, rowsOf}
-use Rattle.tables.specs.Values.{Value, Comparison, holds, Connective, And, Or, Quantifier, Some, All, Env, _▸_, cellOf, byNumbers, isBlank, valueFits}
+use Rattle.tables.specs.Tables.{Cell, Tables, rowsOf}
+use Rattle.tables.specs.Values.{Value, Comparison, holds, Connective, And, Or, Quantifier, Some, All, MarkTest, Env, _▸_, cellOf, byNumbers, markPasses, valueFits}
 
 -- how many row entries a sound card may have around one another
 abbrev pub mostRowEntries : ℕ
@@ -21,10 +21,11 @@ abbrev pub unknownSays : Interpretation → Bool
 unknownSays AsNo = false
 unknownSays AsYes = true
 
--- an entry without inner ones. CompareLeaf AsNo and AsYes: the comparisons of kinds 5 and 6. BlankLeaf and NotBlankLeaf: kinds 7 and 8.
+-- an entry without inner ones. CompareLeaf AsNo and AsYes: the comparisons of kinds 5 and 6. MarkLeaf Null and NotNull: blank and not blank, kinds 7
+-- and 8.
 pub data Leaf : Type 0 where
   CompareLeaf : Interpretation → Comparison → Value → Value → Leaf
-  BlankLeaf NotBlankLeaf : Value → Leaf
+  MarkLeaf : MarkTest → Value → Leaf
 
 -- an entry with its inner ones. PairEntry And and Or: kinds 1 and 2. RowEntry Some and All: kinds 3 and 4, over the rows of a table.
 pub data Card : Type 0 where
@@ -40,14 +41,13 @@ compares u op x y = byNumbers (unknownSays u) (holds op) x y
 
 abbrev pub leafSays : Env → Leaf → Bool
 leafSays env (CompareLeaf u op l r) = compares u op (cellOf env l) (cellOf env r)
-leafSays env (BlankLeaf l) = isBlank (cellOf env l)
-leafSays env (NotBlankLeaf l) = not (isBlank (cellOf env l))
+leafSays env (MarkLeaf m l) = markPasses m (cellOf env l)
 
 abbrev pub joined : Connective → Bool → Bool → Bool
 joined And a b = a && b
 joined Or a b = a || b
 
-abbrev pub overRows : Quantifier → (Row → Bool) → List Row → Bool
+abbrev pub overRows : {A : Type 0} → Quantifier → (A → Bool) → List A → Bool
 overRows Some p rows = any p rows
 overRows All p rows = all p rows
 
@@ -69,8 +69,7 @@ module _ (columns : List ℕ) where
   -- the values of a sound card exist
   abbrev pub leafFits : List ℕ → Leaf → Bool
   leafFits levels (CompareLeaf u op l r) = valueFits columns levels l && valueFits columns levels r
-  leafFits levels (BlankLeaf l) = valueFits columns levels l
-  leafFits levels (NotBlankLeaf l) = valueFits columns levels l
+  leafFits levels (MarkLeaf m l) = valueFits columns levels l
 
   -- a row entry of a sound card: its table exists, and it is within at most two others (levels has one for the judged row and one for each of
   -- them, so it has at most three)

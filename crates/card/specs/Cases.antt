@@ -4,8 +4,8 @@ use mathlib.Core.List.{List, [], _∷_, _++_, map}
 use Prim.Native.Nat.{ℕ, zero, suc}
 use lib.ListN.{length, take, drop, set}
 use Rattle.tables.specs.Refusals.{Answer, Refused, Given, Lent}
-use Rattle.tables.specs.Values.{Column, Or, Some, All}
-use Rattle.card.specs.Card.{BlankLeaf, NotBlankLeaf, Card, LeafEntry, PairEntry, RowEntry}
+use Rattle.tables.specs.Values.{Column, Or, Some, All, Null, NotNull}
+use Rattle.card.specs.Card.{MarkLeaf, Card, LeafEntry, PairEntry, RowEntry}
 use Rattle.card.specs.Layout.{cardBytes}
 use Rattle.card.specs.Calls.{runCall, listCall}
 
@@ -29,11 +29,11 @@ abbrev over : Card → List ℕ
 over c = cardBytes (3 ∷ 2 ∷ []) c
 
 abbrev null : ℕ → ℕ → Card
-null l c = LeafEntry (BlankLeaf (Column l c))
+null l c = LeafEntry (MarkLeaf Null (Column l c))
 
 -- two tests joined by or: kinds at bytes 5 to 7, records of 14 bytes at 8, 22 and 36
 abbrev three : List ℕ
-three = over (PairEntry Or (null 0 1) (LeafEntry (NotBlankLeaf (Column 0 3))))
+three = over (PairEntry Or (null 0 1) (LeafEntry (MarkLeaf NotNull (Column 0 3))))
 
 -- a row entry around a test: kinds at bytes 5 and 6, records at 7 and 21
 abbrev rows : List ℕ
@@ -62,7 +62,7 @@ edges =
     ∷ good three ∷ bad (set three 22 1) ∷ bad (set three 22 3) ∷ bad (set three 36 2) ∷ bad (set three 8 2) ∷ bad (set three 5 7) ∷ bad (set (set (set three 5 7) 8 1) 13 1)
     ∷ bad (set three 10 1) ∷ bad (set three 11 1) ∷ bad (set three 12 1) ∷ bad (set three 21 1) ∷ bad (set three 24 1) ∷ bad (set three 25 1) ∷ bad (set three 31 1) ∷ bad (set three 35 1)
     ∷ good rows ∷ bad (set rows 10 1) ∷ bad (set rows 11 1) ∷ bad (set rows 20 1) ∷ good (set rows 9 1) ∷ bad (set rows 9 0) ∷ bad (set rows 9 3) ∷ bad (set rows 5 1)
-    ∷ bad (over (LeafEntry (NotBlankLeaf (Column 0 4)))) ∷ good (over (RowEntry All 2 (RowEntry Some 1 (RowEntry All 2 (null 3 2))))) ∷ bad (over (RowEntry All 2 (RowEntry All 1 (RowEntry All 2 (RowEntry All 1 (null 3 2))))))
+    ∷ bad (over (LeafEntry (MarkLeaf NotNull (Column 0 4)))) ∷ good (over (RowEntry All 2 (RowEntry Some 1 (RowEntry All 2 (null 3 2))))) ∷ bad (over (RowEntry All 2 (RowEntry All 1 (RowEntry All 2 (RowEntry All 1 (null 3 2))))))
     -- 8 and 9 tables; 191, 192 and 193 entries
     ∷ good (cardBytes (1 ∷ 1 ∷ 1 ∷ 1 ∷ 1 ∷ 1 ∷ 1 ∷ 1 ∷ []) (null 0 1)) ∷ bad (cardBytes (1 ∷ 1 ∷ 1 ∷ 1 ∷ 1 ∷ 1 ∷ 1 ∷ 1 ∷ 1 ∷ []) (null 0 1))
     ∷ good (over (chained 95)) ∷ good (over (RowEntry Some 1 (chained 95))) ∷ bad (over (chained 96))

@@ -1,14 +1,15 @@
 -- Document 01, Card: the bytes of a card, from its entries and back.
-use mathlib.Core.Bool.{Bool, cond, _&&_}
-use mathlib.Core.List.{List, [], _∷_, _++_}
+use mathlib.Core.Bool.{Bool, true, false, cond, _&&_, _||_}
+use mathlib.Core.List.{List, [], _∷_, _++_, map}
 use mathlib.Core.Option.{Option, none, some}
 use Prim.Native.Nat.{ℕ, zero, suc, _+_, _-_, _*_}
 use lib.Dec.{eqb}
+use lib.IntN.{pos}
 use lib.ListN.{length, take, drop}
 use Rattle.tables.specs.Lists.{tabulate, numbered, all, only, _>>=_}
 use Rattle.tables.specs.Bytes.{between, byteAt, word16, word32, bytes16, bytes32, signed, bits}
-use Rattle.tables.specs.Values.{constantTag, Value, Constant, Column, comparisonNumber, comparisonOf, Connective, And, Or, Quantifier, Some, All}
-use Rattle.card.specs.Card.{Interpretation, AsNo, AsYes, Leaf, CompareLeaf, BlankLeaf, NotBlankLeaf, Card, LeafEntry, PairEntry, RowEntry, entries}
+use Rattle.tables.specs.Values.{constantTag, Value, Constant, Column, unusedValue, Uses, Comparison, Eq, comparisonNumber, comparisonOf, Connective, And, Or, Quantifier, Some, All, MarkTest, Null, NotNull}
+use Rattle.card.specs.Card.{Interpretation, AsNo, AsYes, Leaf, CompareLeaf, MarkLeaf, Card, LeafEntry, PairEntry, RowEntry, entries}
 
 -- the bytes of one record
 abbrev pub recordSize : ℕ
@@ -31,12 +32,13 @@ leftPlace = 4
 abbrev pub rightPlace : ℕ
 rightPlace = 9
 
--- ---- what an entry says by itself
+-- ---- the kinds
 
-pub data Head : Type 0 where
-  LeafHead : Leaf → Head
-  PairHead : Connective → Head
-  RowHead : Quantifier → ℕ → Head
+pub data Kind : Type 0 where
+  PairKind : Connective → Kind
+  RowKind : Quantifier → Kind
+  ComparisonKind : Interpretation → Kind
+  MarkKind : MarkTest → Kind
 
 -- 'Kinds: 1 and, 2 or, 3 some row, 4 every row, 5 comparison where unknown counts as no, 6 where unknown counts as yes, 7 blank, 8 not blank'
 abbrev pub pairKind : Connective → ℕ
@@ -51,34 +53,75 @@ abbrev pub comparisonKind : Interpretation → ℕ
 comparisonKind AsNo = 5
 comparisonKind AsYes = 6
 
-abbrev pub blankKind : ℕ
-blankKind = 7
+abbrev pub markKind : MarkTest → ℕ
+markKind Null = 7
+markKind NotNull = 8
 
-abbrev pub notBlankKind : ℕ
-notBlankKind = 8
+abbrev pub kindNumber : Kind → ℕ
+kindNumber (PairKind j) = pairKind j
+kindNumber (RowKind q) = rowKind q
+kindNumber (ComparisonKind u) = comparisonKind u
+kindNumber (MarkKind m) = markKind m
 
-abbrev pub kindOf : Head → ℕ
-kindOf (PairHead j) = pairKind j
-kindOf (RowHead q t) = rowKind q
-kindOf (LeafHead (CompareLeaf u op l r)) = comparisonKind u
-kindOf (LeafHead (BlankLeaf l)) = blankKind
-kindOf (LeafHead (NotBlankLeaf l)) = notBlankKind
+-- the kinds in the order of their numbers, from 1 on; and the one with a number, if there is one
+abbrev pub kinds : List Kind
+kinds =
+    PairKind And ∷ PairKind Or ∷ RowKind Some ∷ RowKind All ∷ ComparisonKind AsNo ∷ ComparisonKind AsYes ∷ MarkKind Null ∷ MarkKind NotNull ∷ []
+
+abbrev pub kindWith : ℕ → Option Kind
+kindWith n = numbered (map some kinds) n none
+
+-- 'Kinds 3 and 4 use the table, 5 and 6 the comparison and both values, 7 and 8 the left value'
+abbrev pub uses : Kind → Uses
+uses (PairKind j) = record { table = false; comparison = false; left = false; right = false }
+uses (RowKind q) = record { table = true; comparison = false; left = false; right = false }
+uses (ComparisonKind u) = record { table = false; comparison = true; left = true; right = true }
+uses (MarkKind m) = record { table = false; comparison = false; left = true; right = false }
+
+-- ---- what an entry says by itself
+
+pub data Head : Type 0 where
+  LeafHead : Leaf → Head
+  PairHead : Connective → Head
+  RowHead : Quantifier → ℕ → Head
+
+abbrev pub kindOf : Head → Kind
+kindOf (PairHead j) = PairKind j
+kindOf (RowHead q t) = RowKind q
+kindOf (LeafHead (CompareLeaf u op l r)) = ComparisonKind u
+kindOf (LeafHead (MarkLeaf m l)) = MarkKind m
+
+-- what an entry of this kind says with this table, comparison, left and right value
+abbrev pub headWith : Kind → ℕ → Comparison → Value → Value → Head
+headWith (PairKind j) t op l r = PairHead j
+headWith (RowKind q) t op l r = RowHead q t
+headWith (ComparisonKind u) t op l r = LeafHead (CompareLeaf u op l r)
+headWith (MarkKind m) t op l r = LeafHead (MarkLeaf m l)
 
 abbrev pub valueBytes : Value → List ℕ
 valueBytes (Constant k) = constantTag ∷ bytes32 (bits k)
 valueBytes (Column l c) = l ∷ bytes32 c
 
--- a value that a kind does not use: zeros
-abbrev pub noValue : List ℕ
-noValue = 0 ∷ 0 ∷ 0 ∷ 0 ∷ 0 ∷ []
+-- 'unused bytes are 0': the fields of a record behind its end: table, comparison, left and right value, as far as they are used
+abbrev pub fieldsWith : Uses → ℕ → Comparison → Value → Value → List ℕ
+fieldsWith u t op l r =
+    cond (u .table) t 0
+    ∷ cond (u .comparison) (comparisonNumber op) 0
+    ∷ valueBytes (cond (u .left) l unusedValue) ++ valueBytes (cond (u .right) r unusedValue)
 
--- which fields each kind uses: row entries the table, comparisons the comparison and both values, blank tests the left value
+-- what stands for a table and for a value where the kind uses none; they reach no record
+abbrev anyTable : ℕ
+anyTable = 1
+
+abbrev anyValue : Value
+anyValue = Constant (pos 0)
+
+-- the fields of an entry by what it says
 abbrev pub fieldBytes : Head → List ℕ
-fieldBytes (PairHead j) = 0 ∷ 0 ∷ noValue ++ noValue
-fieldBytes (RowHead q t) = t ∷ 0 ∷ noValue ++ noValue
-fieldBytes (LeafHead (CompareLeaf u op l r)) = 0 ∷ comparisonNumber op ∷ valueBytes l ++ valueBytes r
-fieldBytes (LeafHead (BlankLeaf l)) = 0 ∷ 0 ∷ valueBytes l ++ noValue
-fieldBytes (LeafHead (NotBlankLeaf l)) = 0 ∷ 0 ∷ valueBytes l ++ noValue
+fieldBytes (PairHead j) = fieldsWith (uses (kindOf (PairHead j))) anyTable Eq anyValue anyValue
+fieldBytes (RowHead q t) = fieldsWith (uses (kindOf (RowHead q t))) t Eq anyValue anyValue
+fieldBytes (LeafHead (CompareLeaf i op l r)) = fieldsWith (uses (kindOf (LeafHead (CompareLeaf i op l r)))) anyTable op l r
+fieldBytes (LeafHead (MarkLeaf m l)) = fieldsWith (uses (kindOf (LeafHead (MarkLeaf m l)))) anyTable Eq l anyValue
 
 abbrev pub recordBytes : ℕ → Head → List ℕ
 recordBytes end h = bytes16 end ++ fieldBytes h
@@ -87,9 +130,9 @@ recordBytes end h = bytes16 end ++ fieldBytes h
 
 -- the kinds of a card's entries: an entry stands before its inner ones, and the left one before the right
 unfoldable pub kindBytes : Card → List ℕ
-kindBytes (LeafEntry x) = kindOf (LeafHead x) ∷ []
-kindBytes (PairEntry j a b) = kindOf (PairHead j) ∷ (kindBytes a ++ kindBytes b)
-kindBytes (RowEntry q t c) = kindOf (RowHead q t) ∷ kindBytes c
+kindBytes (LeafEntry x) = kindNumber (kindOf (LeafHead x)) ∷ []
+kindBytes (PairEntry j a b) = kindNumber (kindOf (PairHead j)) ∷ (kindBytes a ++ kindBytes b)
+kindBytes (RowEntry q t c) = kindNumber (kindOf (RowHead q t)) ∷ kindBytes c
 
 -- and their records, where the first entry has the number k; an end is the number of the first entry after it and its inner ones
 unfoldable pub recordsFrom : ℕ → Card → List ℕ
@@ -138,40 +181,21 @@ valueFrom r i = valueOf (byteAt r i) (word32 r (i + 1))
 unfoldable pub zeros : List ℕ → ℕ → ℕ → Bool
 zeros r i j = all (λ k. eqb (byteAt r (i + k)) 0) (tabulate (j - i) (λ k. k))
 
--- whether a record is as a kind wants it, by what the kind uses: nothing but the end, and all bytes behind it are 0; nothing but end and table; end, a
--- comparison from 1 to 6, and both values; end and left value
-module _ (r : List ℕ) where
-  abbrev pub usesEnd : Bool
-  usesEnd = zeros r tablePlace recordSize
+-- whether a record is as a kind asks, by what the kind uses: a comparison from 1 to 6, and 0 in what it does not use
+unfoldable pub recordFits : Uses → List ℕ → Bool
+recordFits u r =
+    (u .table || zeros r tablePlace comparisonPlace)
+    && (cond (u .comparison) (between 1 6 (byteAt r comparisonPlace)) (zeros r comparisonPlace leftPlace)
+    && ((u .left || zeros r leftPlace rightPlace)
+    && (u .right || zeros r rightPlace recordSize)))
 
-  abbrev pub usesTable : Bool
-  usesTable = zeros r comparisonPlace recordSize
+-- what an entry of this kind with this record says
+abbrev pub headIn : Kind → List ℕ → Head
+headIn k r = headWith k (byteAt r tablePlace) (comparisonOf (byteAt r comparisonPlace)) (valueFrom r leftPlace) (valueFrom r rightPlace)
 
-  abbrev pub usesComparison : Bool
-  usesComparison = zeros r tablePlace comparisonPlace && between 1 6 (byteAt r comparisonPlace)
-
-  abbrev pub usesLeft : Bool
-  usesLeft = zeros r tablePlace leftPlace && zeros r rightPlace recordSize
-
--- what an entry of this kind with this record says: none, if there is no such kind, or if the record is not as the kind wants it
+-- the same by the kind's number: none, if there is no such kind, or if the record is not as the kind asks
 unfoldable pub headFrom : ℕ → List ℕ → Option Head
-headFrom kind r =
-    let table = byteAt r tablePlace in
-    let op = comparisonOf (byteAt r comparisonPlace) in
-    let left = valueFrom r leftPlace in
-    let right = valueFrom r rightPlace in
-    numbered
-    (only (usesEnd r) (PairHead And)
-    ∷ only (usesEnd r) (PairHead Or)
-    ∷ only (usesTable r) (RowHead Some table)
-    ∷ only (usesTable r) (RowHead All table)
-    ∷ only (usesComparison r) (LeafHead (CompareLeaf AsNo op left right))
-    ∷ only (usesComparison r) (LeafHead (CompareLeaf AsYes op left right))
-    ∷ only (usesLeft r) (LeafHead (BlankLeaf left))
-    ∷ only (usesLeft r) (LeafHead (NotBlankLeaf left))
-    ∷ [])
-    kind
-    none
+headFrom n r = kindWith n >>= (λ k. only (recordFits (uses k) r) (headIn k r))
 
 -- an entry with its inner ones, and the number of the entry after them
 abbrev pub Taken : Type 0

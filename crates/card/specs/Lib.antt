@@ -1,5 +1,6 @@
 pub mod Card
 pub mod Layout
+pub mod Groups
 pub mod Sound
 pub mod Calls
 pub mod Cases

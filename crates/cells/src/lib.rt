@@ -42,6 +42,12 @@ pub enum Reason {
     Short,
 }
 
+// For an arm that no input reaches: whoever calls this has proved so.
+pub fn never()
+    requires { ⌜ ⊥ ⌝ }
+    ensures { λ _. ⌜ ⊥ ⌝ }
+{}
+
 // The published number of a reason.
 pub fn refusal_number(x: Reason) -> u32
     ensures { λ r. ⌜ r ≡ reasonNumber x ⌝ }

@@ -2,13 +2,13 @@
 use mathlib.Core.Path.{_≡_, refl, sym, ap, subst, _∙_}
 use mathlib.Core.Bool.{Bool, true, false, cond, _&&_, false≢true}
 use mathlib.Core.List.{List, [], _∷_, _++_}
-use mathlib.Core.Logic.{⊎-elim}
-use mathlib.Core.Option.{some}
+use mathlib.Core.Logic.{inl, inr, ⊎-elim}
+use mathlib.Core.Option.{none, some}
 use Prim.Native.Nat.{ℕ, zero, suc, _+_, _-_, _*_, _≤_, _<_}
 use native.Mathlib.Nat.{eq-or-lt-of-le}
 use native.Mathlib.Numerals.{add-one}
 use native.Mathlib.Omega.{arith}
-use borrow.Author.Tests.{ltb-true, ltb-false, lt-ltb, le-ltb, lt-leb, ne-eqb, eq-eqb}
+use borrow.Author.Tests.{ltb-false, lt-ltb, le-ltb, lt-leb, ne-eqb, eq-eqb}
 use lib.Dec.{T, leb, ltb, le→leb, leb→le}
 use lib.Ieee.Fits.{and-i}
 use lib.IntN.{pos, negsuc}
@@ -16,18 +16,20 @@ use lib.ListN.{length, getD, set, take, length-set}
 use lib.Seq.{length-take-le, getD-take, getD-set-same, getD-set-other, take-suc-set}
 use Rattle.tables.specs.Lists.{numbered}
 use Rattle.tables.specs.Bytes.{between, byteAt, inRange}
-use Rattle.tables.specs.Values.{constantTag, judgedLevels, Connective, And, Or, Quantifier, Some, All, valueFits}
+use Rattle.tables.specs.Values.{constantTag, judgedLevels, And, NotNull, valueFits}
 use Rattle.cells.specs.Code.{words32, excessAdded, fromExcess}
-use Rattle.card.specs.Card.{mostRowEntries, AsNo, AsYes, Leaf, Card, LeafEntry, PairEntry, RowEntry, leafFits, rowEntryFits, cardFits}
-use Rattle.card.specs.Layout.{LeafHead, PairHead, RowHead, pairKind, rowKind, comparisonKind, blankKind, notBlankKind, entryCount, tablesIn, columnsIn, kindAt, recordAt, endAt, headFrom, cardFrom}
+use Rattle.card.specs.Card.{mostRowEntries, Leaf, Card, LeafEntry, PairEntry, RowEntry, leafFits, rowEntryFits, cardFits}
+use Rattle.card.specs.Layout.{ComparisonKind, MarkKind, pairKind, markKind, kindWith, LeafHead, entryCount, tablesIn, columnsIn, kindAt, recordAt, endAt, headFrom, cardFrom}
+use Rattle.card.specs.Groups.{PairNumber, RowNumber, ComparisonNumber, MarkNumber, LeafNumber}
 use Rattle.card.specs.Sound.{laid, holdsFitting, sound}
-use Rattle.decoder.specs.Code.{Laid, entrySize, entryEnd, entryNextEnd, Decoded, kindIn, endIn, nextEndIn, tableIn, leftIn, rightIn, headIn, Coded, coded-leaf, coded-pair, coded-row}
+use Rattle.decoder.specs.Code.{Laid, entrySize, entryEnd, entryNextEnd, Decoded, kindIn, endIn, nextEndIn, tableIn, leftIn, rightIn, headAt, Coded, coded-leaf, coded-pair, coded-row}
 use Rattle.checker.specs.Code.{Fitting, Checks, LevelsIn, Checkable}
 use Rattle.values.specs.Code.{valueIn}
 use Rattle.tables.proofs.Tests.{is-true, both, bounds}
 use Rattle.tables.proofs.Tabulated.{tabulate-at}
-use Rattle.decoder.proofs.Coded.{head-at, kind-pair, kind-row, kind-leaf, coded-less, coded-end, pair-of, row-of, leaf-of, card-coded, coded-card}
-use Rattle.card.proofs.Exact.{sound-passed}
+use Rattle.decoder.proofs.Grouped.{none-before, none-behind}
+use Rattle.decoder.proofs.Coded.{head-at, pair-at, row-at, leaf-at, none-at, coded-less, coded-end, coded-head, pair-of, row-of, leaf-of, card-coded, coded-card}
+use Rattle.card.proofs.Exact.{none-some, sound-passed}
 use Rattle.decoder.proofs.Decoding.{columns-length, head-decoded, end-decoded}
 
 -- ---- the columns of a table
@@ -95,13 +97,14 @@ module _ {d columns levels : List ℕ} {s e : ℕ} where
   wrong-end f = none-fits (λ x. f (coded-end (x .coded)))
 
   -- no other kinds
-  pub wrong-kind : (pairKind And ≤ kindIn d s → kindIn d s ≤ notBlankKind → ⊥) → Checks d columns levels s e false
-  wrong-kind f = none-fits (λ x. go (x .coded))
-    where
-      go : {c : Card} → Coded d s e c → ⊥
-      go (coded-leaf h p q) = let k = kind-leaf d s _ h in f (omega arith) (omega arith)
-      go (coded-pair h p a b) = let k = kind-pair d s _ h in f (omega arith) (omega arith)
-      go (coded-row h p a) = let k = kind-row d s _ _ h in f (omega arith) (omega arith)
+  no-kind : kindWith (kindIn d s) ≡ none → Checks d columns levels s e false
+  no-kind k = none-fits (λ x. none-some (sym (none-at d s k) ∙ coded-head (x .coded) .1))
+
+  pub kind-before : kindIn d s < pairKind And → Checks d columns levels s e false
+  kind-before l = no-kind (none-before (kindIn d s) l)
+
+  pub kind-behind : markKind NotNull < kindIn d s → Checks d columns levels s e false
+  kind-behind l = no-kind (none-behind (kindIn d s) l)
 
 -- ---- what checking asks, of inner entries
 
@@ -132,13 +135,10 @@ checkable-deeper h low high few l = record { levels = levels-deeper _ _ _ _ (h .
 
 -- ---- an entry without inner ones
 
-one-of-two : {A : Type 0} (k n : ℕ) → n ≤ k → k ≤ n + 1 → (k ≡ n → A) → (k ≡ n + 1 → A) → A
-one-of-two k n low high f g = ⊎-elim (λ e. f (sym e)) (λ l. g (omega arith)) (eq-or-lt-of-le low)
-
 -- it fits, if this test says yes
 record LeafAt (d columns levels : List ℕ) (s : ℕ) (fits : Bool) : Type 0 where
   leaf : Leaf
-  says : headIn d s ≡ some (LeafHead leaf)
+  says : headAt d s ≡ some (LeafHead leaf)
   is : leafFits columns levels leaf ≡ fits
 
 module _ (d columns levels : List ℕ) (s : ℕ) where
@@ -148,28 +148,15 @@ module _ (d columns levels : List ℕ) (s : ℕ) where
   abbrev right : Bool
   right = valueFits columns levels (rightIn d s)
 
-  compare-at : comparisonKind AsNo ≤ kindIn d s → kindIn d s ≤ comparisonKind AsYes → LeafAt d columns levels s (left && right)
-  compare-at low high =
-      one-of-two (kindIn d s) (comparisonKind AsNo) low high
-      (λ k. record { leaf = _; says = head-at d s (comparisonKind AsNo) k; is = refl })
-      (λ k. record { leaf = _; says = head-at d s (comparisonKind AsYes) k; is = refl })
+  compare-at : ComparisonNumber (kindIn d s) → LeafAt d columns levels s (left && right)
+  compare-at k = record { leaf = _; says = head-at d s (ComparisonKind (k .0)) (k .1); is = refl }
 
-  blank-at : blankKind ≤ kindIn d s → kindIn d s ≤ notBlankKind → LeafAt d columns levels s left
-  blank-at low high =
-      one-of-two (kindIn d s) blankKind low high
-      (λ k. record { leaf = _; says = head-at d s blankKind k; is = refl })
-      (λ k. record { leaf = _; says = head-at d s notBlankKind k; is = refl })
+  mark-at : MarkNumber (kindIn d s) → LeafAt d columns levels s left
+  mark-at k = record { leaf = _; says = head-at d s (MarkKind (k .0)) (k .1); is = refl }
 
-  leaf-at : comparisonKind AsNo ≤ kindIn d s → kindIn d s ≤ notBlankKind → LeafAt d columns levels s (cond (ltb (comparisonKind AsYes) (kindIn d s)) left (left && right))
-  leaf-at low high = go (ltb (comparisonKind AsYes) (kindIn d s)) refl
-    where
-      go : (t : Bool) → ltb (comparisonKind AsYes) (kindIn d s) ≡ t → LeafAt d columns levels s (cond t left (left && right))
-      go true e = blank-at (omega (arith, ltb-true (comparisonKind AsYes) (kindIn d s) e)) high
-      go false e = compare-at low (omega (arith, ltb-false (comparisonKind AsYes) (kindIn d s) e))
-
-  module _ (e : ℕ) (low : comparisonKind AsNo ≤ kindIn d s) (high : kindIn d s ≤ notBlankKind) where
-    pub leaf-long : (e ≡ s + 1 → ⊥) → Checks d columns levels s e false
-    leaf-long f = let x = leaf-at low high in none-fits (λ y. f (leaf-of (y .coded) (x .leaf) (x .says) .1))
+  module _ (e : ℕ) where
+    pub leaf-long : LeafNumber (kindIn d s) → (e ≡ s + 1 → ⊥) → Checks d columns levels s e false
+    leaf-long k f = let (x, says) = leaf-at d s k in none-fits (λ y. f (leaf-of (y .coded) x says .1))
 
     leaf-checks : (t : Bool) → LeafAt d columns levels s t → endIn d s ≡ e → e ≡ s + 1 → Checks d columns levels s e t
     unfolding cardFits
@@ -181,26 +168,20 @@ module _ (d columns levels : List ℕ) (s : ℕ) where
     }
 
     module _ (end : endIn d s ≡ e) (one : e ≡ s + 1) where
-      pub left-no : {t : Bool} → t ≡ left → t ≡ false → Checks d columns levels s e false
-      left-no l f = go (ltb (comparisonKind AsYes) (kindIn d s)) (leaf-at low high)
-        where
-          go : (t : Bool) → LeafAt d columns levels s (cond t left (left && right)) → Checks d columns levels s e false
-          go true x = leaf-checks false (subst (LeafAt d columns levels s) (sym l ∙ f) x) end one
-          go false x = leaf-checks false (subst (λ (t : Bool). LeafAt d columns levels s (t && right)) (sym l ∙ f) x) end one
+      pub left-no : LeafNumber (kindIn d s) → {t : Bool} → t ≡ left → t ≡ false → Checks d columns levels s e false
+      left-no (inl k) l f = leaf-checks false (subst (λ (t : Bool). LeafAt d columns levels s (t && right)) (sym l ∙ f) (compare-at k)) end one
+      left-no (inr k) l f = leaf-checks false (subst (LeafAt d columns levels s) (sym l ∙ f) (mark-at k)) end one
 
-      pub left-alone : {t : Bool} → t ≡ left → t ≡ true → comparisonKind AsYes < kindIn d s → Checks d columns levels s e true
-      left-alone l f k = leaf-checks true (subst (LeafAt d columns levels s) (sym l ∙ f) (blank-at k high)) end one
+      pub left-alone : MarkNumber (kindIn d s) → {t : Bool} → t ≡ left → t ≡ true → Checks d columns levels s e true
+      left-alone k l f = leaf-checks true (subst (LeafAt d columns levels s) (sym l ∙ f) (mark-at k)) end one
 
-      pub right-last : {t u : Bool} → t ≡ left → t ≡ true → kindIn d s ≤ comparisonKind AsYes → u ≡ right → Checks d columns levels s e u
-      right-last {t} {u} l f k r =
-          leaf-checks u (rw r (subst (λ (t : Bool). LeafAt d columns levels s (t && right)) (sym l ∙ f) (compare-at low k))) end one
+      pub right-last : ComparisonNumber (kindIn d s) → {t u : Bool} → t ≡ left → t ≡ true → u ≡ right → Checks d columns levels s e u
+      right-last k {t} {u} l f r =
+          leaf-checks u (rw r (subst (λ (t : Bool). LeafAt d columns levels s (t && right)) (sym l ∙ f) (compare-at k))) end one
 
 -- ---- an entry with two inner ones
 
-module _ (d columns levels : List ℕ) (s e : ℕ) (low : pairKind And ≤ kindIn d s) (high : kindIn d s ≤ pairKind Or) where
-  pair-at : (j : Connective) × (headIn d s ≡ some (PairHead j))
-  pair-at = one-of-two (kindIn d s) (pairKind And) low high (λ k. (And, head-at d s (pairKind And) k)) (λ k. (Or, head-at d s (pairKind Or) k))
-
+module _ (d columns levels : List ℕ) (s e : ℕ) (kind : PairNumber (kindIn d s)) where
   -- the end of the first inner entry, as the code reads it
   abbrev middle : ℕ
   middle = nextEndIn d s
@@ -208,8 +189,8 @@ module _ (d columns levels : List ℕ) (s e : ℕ) (low : pairKind And ≤ kindI
   pair-parts : Fitting d columns levels s e → Fitting d columns levels (s + 1) middle × Fitting d columns levels middle e
   unfolding cardFits
   pair-parts x =
-      let (j, h) = pair-at in
-      let p = pair-of (x .coded) j h in
+      let j = kind .0 in
+      let p = pair-of (x .coded) j (pair-at d s kind) in
       let f : T (cardFits columns levels (PairEntry j (p .left) (p .right))) = subst (λ (c : Card). T (cardFits columns levels c)) (p .is) (x .fits) in
       let (l, r) = both (cardFits columns levels (p .left)) (cardFits columns levels (p .right)) f in
       let next : entrySize * (s + 1) + entryEnd ≡ entrySize * s + entryNextEnd = omega arith in
@@ -228,14 +209,13 @@ module _ (d columns levels : List ℕ) (s e : ℕ) (low : pairKind And ≤ kindI
     pub pair-last : {u : Bool} → t ≡ true → endIn d s ≡ e → Checks d columns levels middle e u → Checks d columns levels s e u
     unfolding cardFits
     pair-last said end second =
-        let (j, h) = pair-at in
         let l = first .yes-fits said in
         record {
           yes-fits = λ u.
               let r = second .yes-fits u in
               record {
-                card = PairEntry j (l .card) (r .card);
-                coded = coded-pair h end (l .coded) (r .coded);
+                card = PairEntry (kind .0) (l .card) (r .card);
+                coded = coded-pair (pair-at d s kind) end (l .coded) (r .coded);
                 fits = and-i (cardFits columns levels (l .card)) (cardFits columns levels (r .card)) (l .fits) (r .fits);
               };
           fits-yes = λ x. second .fits-yes (pair-parts x .1);
@@ -243,12 +223,9 @@ module _ (d columns levels : List ℕ) (s e : ℕ) (low : pairKind And ≤ kindI
 
 -- ---- an entry over the rows of a table
 
-module _ (card d w : List ℕ) (s e depth : ℕ) (low : rowKind Some ≤ kindIn d s) (high : kindIn d s ≤ rowKind All) (h : LevelsIn card w depth) where
+module _ (card d w : List ℕ) (s e depth : ℕ) (kind : RowNumber (kindIn d s)) (h : LevelsIn card w depth) where
   abbrev table : ℕ
   table = tableIn d s
-
-  row-at : (q : Quantifier) × (headIn d s ≡ some (RowHead q table))
-  row-at = one-of-two (kindIn d s) (rowKind Some) low high (λ k. (Some, head-at d s (rowKind Some) k)) (λ k. (All, head-at d s (rowKind All) k))
 
   -- what a row entry asks of its own
   pub record Rows : Type 0 where
@@ -262,8 +239,8 @@ module _ (card d w : List ℕ) (s e depth : ℕ) (low : rowKind Some ≤ kindIn 
   row-parts x =
       let columns = columnsIn card in
       let levels = take depth w in
-      let (q, g) = row-at in
-      let p = row-of (x .coded) q table g in
+      let q = kind .0 in
+      let p = row-of (x .coded) q table (row-at d s kind) in
       let f : T (cardFits columns levels (RowEntry q table (p .inner))) = subst (λ (c : Card). T (cardFits columns levels c)) (p .is) (x .fits) in
       let (own, i) = both (rowEntryFits columns levels table) (cardFits columns (levels ++ (table ∷ [])) (p .inner)) f in
       let (there, three) = both (between 1 (length columns) table) (leb (length levels) mostRowEntries) own in
@@ -291,7 +268,6 @@ module _ (card d w : List ℕ) (s e depth : ℕ) (low : rowKind Some ≤ kindIn 
     rows-last {t} end c =
         let columns = columnsIn card in
         let levels = take depth w in
-        let (q, g) = row-at in
         let c′ : Checks d columns (levels ++ (table ∷ [])) (s + 1) e t = subst (λ (l : List ℕ). Checks d columns l (s + 1) e t) level-more c in
         let own : T (rowEntryFits columns levels table) =
         and-i (between 1 (length columns) table) (leb (length levels) mostRowEntries)
@@ -301,8 +277,8 @@ module _ (card d w : List ℕ) (s e depth : ℕ) (low : rowKind Some ≤ kindIn 
           yes-fits = λ y.
               let i = c′ .yes-fits y in
               record {
-                card = RowEntry q table (i .card);
-                coded = coded-row g end (i .coded);
+                card = RowEntry (kind .0) table (i .card);
+                coded = coded-row (row-at d s kind) end (i .coded);
                 fits = and-i (rowEntryFits columns levels table) (cardFits columns (levels ++ (table ∷ [])) (i .card)) own (i .fits);
               };
           fits-yes = λ x. c′ .fits-yes (row-parts x .inner);
@@ -331,7 +307,7 @@ first-level h = record {
 }
 
 module _ (card d : List ℕ) (decoded : Decoded card d) (laid-out : laid card ≡ true) where
-  heads : (i : ℕ) → i < entryCount card → headIn d i ≡ headFrom (kindAt card i) (recordAt card i)
+  heads : (i : ℕ) → i < entryCount card → headAt d i ≡ headFrom (kindAt card i) (recordAt card i)
   heads = head-decoded card d decoded
 
   ends : (i : ℕ) → i < entryCount card → endIn d i ≡ endAt card i

@@ -3,12 +3,12 @@
 // there are.
 ghost use mathlib.Core.Path.{_≡_};
 ghost use mathlib.Core.Bool.{true};
-ghost use Prim.Native.Nat.{_+_, _*_, _<_, _≤_};
+ghost use Prim.Native.Nat.{_<_};
 ghost use lib.ListN.{take};
-ghost use Rattle.tables.specs.Values.{And, Or, Some, All, valueFits};
+ghost use Rattle.tables.specs.Values.{valueFits};
 ghost use Rattle.cells.specs.Code.{words32};
-ghost use Rattle.card.specs.Card.{AsNo};
-ghost use Rattle.card.specs.Layout.{pairKind, rowKind, comparisonKind, notBlankKind, columnsIn};
+ghost use Rattle.card.specs.Layout.{columnsIn};
+ghost use Rattle.card.specs.Groups.{PairNumber, RowNumber, LeafNumber};
 ghost use Rattle.card.specs.Sound.{sound};
 ghost use Rattle.card.specs.Calls.{checkCall};
 ghost use Rattle.decoder.specs.Code.{Roomy, Decoded, kindIn, endIn};
@@ -72,7 +72,7 @@ fn check_leaf(
     w: &[usize; LEVELS],
     depth: usize,
 ) -> bool
-    requires { ⌜ Checkable (now card) (now d) (now w) s e depth ⌝ ∗ ⌜ (comparisonKind AsNo ≤ kindIn (now d) s) × (kindIn (now d) s ≤ notBlankKind) ⌝ ∗ ⌜ endIn (now d) s ≡ e ⌝ }
+    requires { ⌜ Checkable (now card) (now d) (now w) s e depth ⌝ ∗ ⌜ LeafNumber (kindIn (now d) s) ⌝ ∗ ⌜ endIn (now d) s ≡ e ⌝ }
     ensures { λ r. ⌜ Checks (now (d .entry)) (columnsIn (now (card .entry))) (take depth (now (w .entry))) s e r ⌝ }
 {
     if e != s + 1 {
@@ -88,19 +88,24 @@ fn check_leaf(
     if !left {
         return false;
     }
-    if COMPARISON_OR_YES < d[FIELDS * s] {
-        return true;
+    match d[FIELDS * s] {
+        COMPARISON_OR_NO | COMPARISON_OR_YES => value_fits(
+            card,
+            w,
+            depth,
+            d[FIELDS * s + RIGHT_TAG],
+            d[FIELDS * s + RIGHT_NUMBER],
+        ),
+        BLANK | NOT_BLANK => true,
+        _ => {
+            cells::never();
+            false
+        }
     }
-    value_fits(
-        card,
-        w,
-        depth,
-        d[FIELDS * s + RIGHT_TAG],
-        d[FIELDS * s + RIGHT_NUMBER],
-    )
 }
 
-// The entries from s up to e: whether they are one entry with its inner ones, which fits the card's tables and these levels.
+// The entries from s up to e: whether they are one entry with its inner ones, which fits the card's tables and these levels. Other kinds come here too: 0 is
+// decoded for a record that is not as its kind wants it.
 fn check_entry(
     card: &[u8],
     d: &[usize],
@@ -135,7 +140,7 @@ fn check_pair(
     w: &[usize; LEVELS],
     depth: usize,
 ) -> bool
-    requires { ⌜ Checkable (now card) (now d) (now w) s e depth ⌝ ∗ ⌜ (pairKind And ≤ kindIn (now d) s) × (kindIn (now d) s ≤ pairKind Or) ⌝ ∗ ⌜ endIn (now d) s ≡ e ⌝ }
+    requires { ⌜ Checkable (now card) (now d) (now w) s e depth ⌝ ∗ ⌜ PairNumber (kindIn (now d) s) ⌝ ∗ ⌜ endIn (now d) s ≡ e ⌝ }
     ensures { λ r. ⌜ Checks (now (d .entry)) (columnsIn (now (card .entry))) (take depth (now (w .entry))) s e r ⌝ }
 {
     if e <= s + 1 {
@@ -164,7 +169,7 @@ fn check_rows(
     w: &[usize; LEVELS],
     depth: usize,
 ) -> bool
-    requires { ⌜ Checkable (now card) (now d) (now w) s e depth ⌝ ∗ ⌜ (rowKind Some ≤ kindIn (now d) s) × (kindIn (now d) s ≤ rowKind All) ⌝ ∗ ⌜ endIn (now d) s ≡ e ⌝ }
+    requires { ⌜ Checkable (now card) (now d) (now w) s e depth ⌝ ∗ ⌜ RowNumber (kindIn (now d) s) ⌝ ∗ ⌜ endIn (now d) s ≡ e ⌝ }
     ensures { λ r. ⌜ Checks (now (d .entry)) (columnsIn (now (card .entry))) (take depth (now (w .entry))) s e r ⌝ }
 {
     if e <= s + 1 {

@@ -2,59 +2,60 @@
 use mathlib.Core.Path.{_≡_, refl, sym, ap, subst, _∙_}
 use mathlib.Core.Bool.{Bool}
 use mathlib.Core.List.{List}
+use mathlib.Core.Logic.{inl, inr}
 use mathlib.Core.Option.{Option, none, some}
 use Prim.Native.Nat.{ℕ, zero, suc, _+_, _≤_, _<_}
 use native.Mathlib.Omega.{arith}
 use borrow.Author.Tests.{eq-eqb}
 use lib.Dec.{eqb, eqb→eq}
-use Rattle.tables.specs.Lists.{numbered, only}
-use Rattle.tables.specs.Values.{Connective, And, Or, Quantifier, Some, All}
-use Rattle.card.specs.Card.{AsNo, AsYes, Leaf, CompareLeaf, BlankLeaf, NotBlankLeaf, Card, LeafEntry, PairEntry, RowEntry}
-use Rattle.card.specs.Layout.{Head, LeafHead, PairHead, RowHead, pairKind, rowKind, comparisonKind, notBlankKind, kindOf, entryCount, kindAt, recordAt, endAt, headFrom, Taken, inside, entryFrom, cardFrom}
-use Rattle.decoder.specs.Code.{kindIn, endIn, headsIn, headIn, Coded, coded-leaf, coded-pair, coded-row}
-use Rattle.card.proofs.Exact.{none-some, only-some, bind-some}
+use Rattle.tables.specs.Lists.{only, _>>=_}
+use Rattle.tables.specs.Values.{comparisonOf, Connective, Quantifier}
+use Rattle.card.specs.Card.{Leaf, CompareLeaf, MarkLeaf, Card, LeafEntry, PairEntry, RowEntry}
+use Rattle.card.specs.Layout.{Kind, PairKind, RowKind, ComparisonKind, MarkKind, kindNumber, kindWith, Head, LeafHead, PairHead, RowHead, kindOf, entryCount, kindAt, recordAt, endAt, headFrom, Taken, inside, entryFrom, cardFrom}
+use Rattle.card.specs.Groups.{PairNumber, RowNumber, LeafNumber}
+use Rattle.decoder.specs.Code.{kindIn, endIn, tableIn, comparisonIn, leftIn, rightIn, headBy, headAt, Coded, coded-leaf, coded-pair, coded-row}
+use Rattle.card.proofs.Back.{kind-back}
+use Rattle.card.proofs.Exact.{none-some, only-some, bind-some, kind-number, kind-with}
 
 -- ---- what an entry says by itself, by its kind
 
 module _ (d : List ℕ) (s : ℕ) where
-  pub head-at : (k : ℕ) → kindIn d s ≡ k → headIn d s ≡ numbered (headsIn d s) k none
-  unfolding headIn
-  head-at k e = ap (λ (k : ℕ). numbered (headsIn d s) k none) e
+  pub head-at : (k : Kind) → kindIn d s ≡ kindNumber k → headAt d s ≡ some (headBy d s k)
+  unfolding headAt
+  head-at k e = ap (λ (o : Option Kind). o >>= (λ k. some (headBy d s k))) (ap kindWith e ∙ kind-back k)
 
--- and back: the kind of an entry that says h
-abbrev kindSaid : Option Head → ℕ
-kindSaid none = 0
-kindSaid (some h) = kindOf h
+  pub pair-at : (p : PairNumber (kindIn d s)) → headAt d s ≡ some (PairHead (p .0))
+  pair-at p = head-at (PairKind (p .0)) (p .1)
 
-kind-listed : (d : List ℕ) (s k : ℕ) (h : Head) → numbered (headsIn d s) k none ≡ some h → kindOf h ≡ k
-kind-listed d s zero h e = absurd (none-some e)
-kind-listed d s (suc zero) h e = sym (ap kindSaid e)
-kind-listed d s (suc (suc zero)) h e = sym (ap kindSaid e)
-kind-listed d s (suc (suc (suc zero))) h e = sym (ap kindSaid e)
-kind-listed d s (suc (suc (suc (suc zero)))) h e = sym (ap kindSaid e)
-kind-listed d s (suc (suc (suc (suc (suc zero))))) h e = sym (ap kindSaid e)
-kind-listed d s (suc (suc (suc (suc (suc (suc zero)))))) h e = sym (ap kindSaid e)
-kind-listed d s (suc (suc (suc (suc (suc (suc (suc zero))))))) h e = sym (ap kindSaid e)
-kind-listed d s (suc (suc (suc (suc (suc (suc (suc (suc zero)))))))) h e = sym (ap kindSaid e)
-kind-listed d s (suc (suc (suc (suc (suc (suc (suc (suc (suc k))))))))) h e = absurd (none-some e)
+  pub row-at : (p : RowNumber (kindIn d s)) → headAt d s ≡ some (RowHead (p .0) (tableIn d s))
+  row-at p = head-at (RowKind (p .0)) (p .1)
 
-module _ (d : List ℕ) (s : ℕ) where
-  pub kind-is : (h : Head) → headIn d s ≡ some h → kindOf h ≡ kindIn d s
-  kind-is h e = kind-listed d s (kindIn d s) h (sym (head-at d s (kindIn d s) refl) ∙ e)
+  pub leaf-at : LeafNumber (kindIn d s) → (x : Leaf) × (headAt d s ≡ some (LeafHead x))
+  leaf-at (inl (u, k)) = (_, head-at (ComparisonKind u) k)
+  leaf-at (inr (m, k)) = (_, head-at (MarkKind m) k)
 
-  pub kind-pair : (j : Connective) → headIn d s ≡ some (PairHead j) → (pairKind And ≤ kindIn d s) × (kindIn d s ≤ pairKind Or)
-  kind-pair And e = let k = kind-is (PairHead And) e in (omega arith, omega arith)
-  kind-pair Or e = let k = kind-is (PairHead Or) e in (omega arith, omega arith)
+  pub none-at : kindWith (kindIn d s) ≡ none → headAt d s ≡ none
+  unfolding headAt
+  none-at e = ap (λ (o : Option Kind). o >>= (λ k. some (headBy d s k))) e
 
-  pub kind-row : (q : Quantifier) (t : ℕ) → headIn d s ≡ some (RowHead q t) → (rowKind Some ≤ kindIn d s) × (kindIn d s ≤ rowKind All)
-  kind-row Some t e = let k = kind-is (RowHead Some t) e in (omega arith, omega arith)
-  kind-row All t e = let k = kind-is (RowHead All t) e in (omega arith, omega arith)
+  -- and back: the kind of an entry that says h
+  pub kind-is : (h : Head) → headAt d s ≡ some h → kindIn d s ≡ kindNumber (kindOf h)
+  unfolding headAt
+  kind-is h e =
+      let (k, pk, q) = bind-some (kindWith (kindIn d s)) _ h e in
+      let said : headBy d s k ≡ h = cc in
+      sym (kind-number (kindIn d s) k pk)
+      ∙ ap kindNumber (sym (kind-with (tableIn d s) (comparisonOf (comparisonIn d s)) (leftIn d s) (rightIn d s) k) ∙ ap kindOf said)
 
-  pub kind-leaf : (x : Leaf) → headIn d s ≡ some (LeafHead x) → (comparisonKind AsNo ≤ kindIn d s) × (kindIn d s ≤ notBlankKind)
-  kind-leaf (CompareLeaf AsNo op l r) e = let k = kind-is (LeafHead (CompareLeaf AsNo op l r)) e in (omega arith, omega arith)
-  kind-leaf (CompareLeaf AsYes op l r) e = let k = kind-is (LeafHead (CompareLeaf AsYes op l r)) e in (omega arith, omega arith)
-  kind-leaf (BlankLeaf l) e = let k = kind-is (LeafHead (BlankLeaf l)) e in (omega arith, omega arith)
-  kind-leaf (NotBlankLeaf l) e = let k = kind-is (LeafHead (NotBlankLeaf l)) e in (omega arith, omega arith)
+  pub kind-pair : (j : Connective) → headAt d s ≡ some (PairHead j) → PairNumber (kindIn d s)
+  kind-pair j e = (j, kind-is (PairHead j) e)
+
+  pub kind-row : (q : Quantifier) (t : ℕ) → headAt d s ≡ some (RowHead q t) → RowNumber (kindIn d s)
+  kind-row q t e = (q, kind-is (RowHead q t) e)
+
+  pub kind-leaf : (x : Leaf) → headAt d s ≡ some (LeafHead x) → LeafNumber (kindIn d s)
+  kind-leaf (CompareLeaf u op l r) e = inl (u, kind-is (LeafHead (CompareLeaf u op l r)) e)
+  kind-leaf (MarkLeaf m l) e = inr (m, kind-is (LeafHead (MarkLeaf m l)) e)
 
 -- ---- entries taken apart
 
@@ -67,6 +68,11 @@ pub coded-end : {d : List ℕ} {s e : ℕ} {c : Card} → Coded d s e c → endI
 coded-end (coded-leaf h p q) = p
 coded-end (coded-pair h p a b) = p
 coded-end (coded-row h p a) = p
+
+pub coded-head : {d : List ℕ} {s e : ℕ} {c : Card} → Coded d s e c → (h : Head) × (headAt d s ≡ some h)
+coded-head (coded-leaf h p q) = (_, h)
+coded-head (coded-pair h p a b) = (_, h)
+coded-head (coded-row h p a) = (_, h)
 
 pub record PairParts (d : List ℕ) (s e : ℕ) (c : Card) (j : Connective) : Type 0 where
   pub left : Card
@@ -81,18 +87,18 @@ pub record RowParts (d : List ℕ) (s e : ℕ) (c : Card) (q : Quantifier) (t : 
   pub is : c ≡ RowEntry q t inner
   pub inner-coded : Coded d (s + 1) e inner
 
-pub pair-of : {d : List ℕ} {s e : ℕ} {c : Card} → Coded d s e c → (j : Connective) → headIn d s ≡ some (PairHead j) → PairParts d s e c j
+pub pair-of : {d : List ℕ} {s e : ℕ} {c : Card} → Coded d s e c → (j : Connective) → headAt d s ≡ some (PairHead j) → PairParts d s e c j
 pair-of (coded-leaf h p q) j g = let z : _≡_ {A = ℕ} 0 1 = cc in absurd (omega arith)
 pair-of (coded-pair {m = m} {a = a} {b = b} h p ca cb) j g =
     record { left = a; right = b; middle = m; is = cc; left-coded = ca; right-coded = cb }
 pair-of (coded-row h p a) j g = let z : _≡_ {A = ℕ} 0 1 = cc in absurd (omega arith)
 
-pub row-of : {d : List ℕ} {s e : ℕ} {c : Card} → Coded d s e c → (q : Quantifier) (t : ℕ) → headIn d s ≡ some (RowHead q t) → RowParts d s e c q t
+pub row-of : {d : List ℕ} {s e : ℕ} {c : Card} → Coded d s e c → (q : Quantifier) (t : ℕ) → headAt d s ≡ some (RowHead q t) → RowParts d s e c q t
 row-of (coded-leaf h p q) k t g = let z : _≡_ {A = ℕ} 0 1 = cc in absurd (omega arith)
 row-of (coded-pair h p a b) k t g = let z : _≡_ {A = ℕ} 0 1 = cc in absurd (omega arith)
 row-of (coded-row {c = c} h p a) k t g = record { inner = c; is = cc; inner-coded = a }
 
-pub leaf-of : {d : List ℕ} {s e : ℕ} {c : Card} → Coded d s e c → (x : Leaf) → headIn d s ≡ some (LeafHead x) → (c ≡ LeafEntry x) × (e ≡ s + 1)
+pub leaf-of : {d : List ℕ} {s e : ℕ} {c : Card} → Coded d s e c → (x : Leaf) → headAt d s ≡ some (LeafHead x) → (c ≡ LeafEntry x) × (e ≡ s + 1)
 leaf-of (coded-leaf h p q) x g = (cc, q)
 leaf-of (coded-pair h p a b) x g = let z : _≡_ {A = ℕ} 0 1 = cc in absurd (omega arith)
 leaf-of (coded-row h p a) x g = let z : _≡_ {A = ℕ} 0 1 = cc in absurd (omega arith)
@@ -100,7 +106,7 @@ leaf-of (coded-row h p a) x g = let z : _≡_ {A = ℕ} 0 1 = cc in absurd (omeg
 -- ---- the same card in the bytes
 
 module _ (card d : List ℕ)
-    (heads : (i : ℕ) → i < entryCount card → headIn d i ≡ headFrom (kindAt card i) (recordAt card i))
+    (heads : (i : ℕ) → i < entryCount card → headAt d i ≡ headFrom (kindAt card i) (recordAt card i))
     (ends : (i : ℕ) → i < entryCount card → endIn d i ≡ endAt card i) where
   -- an entry that is taken, where the inner ones are taken by `from`
   module _ (from : ℕ → Option Taken) (inner : (i : ℕ) (x : Taken) → from i ≡ some x → x .1 ≤ entryCount card → Coded d i (x .1) (x .0)) (i : ℕ) where
@@ -139,7 +145,7 @@ module _ (card d : List ℕ)
       inside-coded (entryFrom card depth) (entry-coded depth) s h x ph (py ∙ ap some q) (eqb→eq _ _ t ∙ ap (λ (x : Taken). x .1) q) l
 
   -- and back: an entry is taken, if its inner ones are
-  step : (s depth : ℕ) (h : Head) (x : Taken) → s < entryCount card → headIn d s ≡ some h → endIn d s ≡ x .1
+  step : (s depth : ℕ) (h : Head) (x : Taken) → s < entryCount card → headAt d s ≡ some h → endIn d s ≡ x .1
       → inside (entryFrom card depth) s h ≡ some x → entryFrom card (suc depth) s ≡ some x
   unfolding entryFrom
   step s depth h x l p e q =

@@ -1,31 +1,33 @@
 -- A card's entries as numbers: when a card is laid out, where a record's bytes stand, and what the decoded numbers say.
 use mathlib.Core.Path.{_≡_, refl, sym, ap, ap₂, subst, _∙_}
-use mathlib.Core.Bool.{Bool, true, false, cond, and-true, and-false}
+use mathlib.Core.Bool.{Bool, true, false, cond, _&&_, and-true, and-false, and-assoc}
 use mathlib.Core.List.{List}
 use mathlib.Core.Option.{Option, none, some}
 use mathlib.Core.Logic.{⊎-elim}
-use Prim.Native.Nat.{ℕ, zero, suc, _+_, _-_, _*_, _/_, _%_, _<_, _≤_}
-use native.Mathlib.Nat.{eq-or-lt-of-le}
+use Prim.Native.Nat.{ℕ, _+_, _-_, _*_, _/_, _%_, _<_, _≤_}
 use native.Mathlib.Omega.{arith}
 use borrow.Author.Tests.{eq-eqb, ne-eqb}
 use lib.Dec.{T, eqb, eqb→eq}
+use lib.Ieee.Fits.{and-i}
 use lib.ListN.{length, getD, set, drop, length-set}
 use lib.Seq.{getD-take, getD-drop}
-use Rattle.tables.specs.Lists.{numbered, all, only}
+use Rattle.tables.specs.Lists.{all, only, _>>=_}
 use Rattle.tables.specs.Bytes.{between, byteAt, word16, word32, signed, bits}
 use Rattle.tables.specs.Tables.{mostTables, mostColumns}
-use Rattle.tables.specs.Values.{constantTag, Constant, Column, And, Or, Some, All}
+use Rattle.tables.specs.Values.{constantTag, Constant, Column, And, NotNull}
 use Rattle.cells.specs.Code.{words32, excess, fromExcess, Holds}
 use Rattle.cells.proofs.Holding.{holds-more, holds-same}
 use Rattle.cells.proofs.Signed.{signed-excess, signed-in}
 use Rattle.tables.proofs.Tests.{is-true, is-so, refuted, both, bounds, between-yes, between-no}
 use Rattle.tables.proofs.Tabulated.{tabulate-length, all-each, all-of, all-no}
-use Rattle.card.specs.Card.{AsNo, AsYes}
-use Rattle.card.specs.Layout.{recordSize, valueSize, tablePlace, comparisonPlace, leftPlace, rightPlace, usesEnd, usesTable, usesComparison, usesLeft, Head, pairKind, rowKind, comparisonKind, blankKind, notBlankKind, cardLength, entryCount, tablesIn, columnsIn, kindAt, recordAt, endAt, valueOf, valueFrom, zeros, headFrom}
+use Rattle.card.specs.Layout.{recordSize, valueSize, tablePlace, comparisonPlace, leftPlace, rightPlace, Kind, PairKind, RowKind, ComparisonKind, MarkKind, pairKind, markKind, kindNumber, kindWith, uses, Head, cardLength, entryCount, tablesIn, columnsIn, kindAt, recordAt, endAt, valueOf, valueFrom, zeros, recordFits, headIn, headFrom}
+use Rattle.card.specs.Groups.{PairNumber, RowNumber, ComparisonNumber, MarkNumber}
 use Rattle.card.specs.Sound.{laid, mostEntries, columnsFit, sound}
-use Rattle.decoder.specs.Code.{Laid, recordFrom, entrySize, entryEnd, entryTable, entryComparison, entryLeftTag, entryLeftNumber, entryRightTag, entryRightNumber, fieldsFit, knownKind, numberIn, numberFrom, fieldsOf, fieldOf, Decoded, kindIn, endIn, heads, headIn}
+use Rattle.decoder.specs.Code.{Laid, recordFrom, entrySize, entryEnd, entryTable, entryComparison, entryLeftTag, entryLeftNumber, entryRightTag, entryRightNumber, kindFits, fieldsFit, knownKind, numberIn, numberFrom, fieldsOf, fieldOf, Decoded, kindIn, endIn, headAt}
 use Rattle.values.specs.Code.{valueIn}
 use Rattle.card.proofs.Places.{in-range, bits-small, signed-bits}
+use Rattle.card.proofs.Back.{kind-back}
+use Rattle.decoder.proofs.Grouped.{below-or-not, none-before, none-behind}
 
 -- ---- the layout
 
@@ -157,56 +159,89 @@ module _ (card : List ℕ) (place i k tag : ℕ) (within : i + valueSize ≤ rec
 
 -- ---- the fields that a kind wants
 
--- a kind that is one of two with the same test
-kind-either : (n kind : ℕ) (r : List ℕ) (x : Bool) → n ≤ kind → kind ≤ n + 1 → x ≡ fieldsFit n r → x ≡ fieldsFit (n + 1) r → x ≡ fieldsFit kind r
-kind-either n kind r x l h p q =
-    ⊎-elim
-    (λ e. p ∙ ap (λ (k : ℕ). fieldsFit k r) e)
-    (λ m. let e : n + 1 ≡ kind = omega arith in q ∙ ap (λ (k : ℕ). fieldsFit k r) e)
-    (eq-or-lt-of-le l)
+same-tests : (a b : Bool) → (T a → T b) → (T b → T a) → a ≡ b
+same-tests true b f g = sym (is-true b (f tt))
+same-tests false true f g = absurd (g tt)
+same-tests false false f g = refl
 
-pub fits-none : (kind : ℕ) (r : List ℕ) → kind < pairKind And → false ≡ fieldsFit kind r
-unfolding fieldsFit
-fits-none kind r h = let e : 0 ≡ kind = omega arith in ap (λ (k : ℕ). fieldsFit k r) e
+-- zeros from i up to j, and from j up to k
+module _ (r : List ℕ) where
+  zeros-each : (i j : ℕ) → T (zeros r i j) → (q : ℕ) → i ≤ q → q < j → byteAt r q ≡ 0
+  unfolding zeros
+  zeros-each i j t q l h =
+      let z : i + (q - i) ≡ q = omega arith in
+      subst (λ (q : ℕ). byteAt r q ≡ 0) z (eqb→eq _ 0 (all-each (λ k. eqb (byteAt r (i + k)) 0) (j - i) (λ k. k) t (q - i) (omega arith)))
 
-pub fits-past : (kind : ℕ) (r : List ℕ) → notBlankKind < kind → false ≡ fieldsFit kind r
-unfolding fieldsFit
-fits-past kind r h =
-    let e : suc (suc (suc (suc (suc (suc (suc (suc (suc (kind - suc notBlankKind))))))))) ≡ kind = omega arith in
-    ap (λ (k : ℕ). fieldsFit k r) e
+  zeros-all : (i j : ℕ) → ((q : ℕ) → i ≤ q → q < j → byteAt r q ≡ 0) → T (zeros r i j)
+  unfolding zeros
+  zeros-all i j h = is-so _ (all-of (λ k. eqb (byteAt r (i + k)) 0) (j - i) (λ k. k) (λ k l. eq-eqb _ 0 (h (i + k) (omega arith) (omega arith))))
 
+  zeros-join : (i j k : ℕ) → i ≤ j → j ≤ k → zeros r i k ≡ (zeros r i j && zeros r j k)
+  zeros-join i j k l h = same-tests _ _ there back
+    where
+      there : T (zeros r i k) → T (zeros r i j && zeros r j k)
+      there t =
+          let z = zeros-each i k t in
+          and-i (zeros r i j) (zeros r j k) (zeros-all i j (λ q a b. z q a (omega arith))) (zeros-all j k (λ q a b. z q (omega arith) b))
+
+      back : T (zeros r i j && zeros r j k) → T (zeros r i k)
+      back t =
+          let (a, b) = both (zeros r i j) (zeros r j k) t in
+          zeros-all i k (λ q m n. ⊎-elim (λ x. zeros-each i j a q m x) (λ x. zeros-each j k b q x n) (below-or-not q j))
+
+-- where there is no such kind, and where there is one
 module _ (r : List ℕ) (kind : ℕ) where
-  pub fits-end : (x : Bool) → pairKind And ≤ kind → kind < rowKind Some → x ≡ usesEnd r → x ≡ fieldsFit kind r
+  fits-none : kindWith kind ≡ none → false ≡ fieldsFit kind r
   unfolding fieldsFit
-  fits-end x l h e = kind-either (pairKind And) kind r x l (omega arith) e e
+  fits-none e = sym (ap (λ (o : Option Kind). kindFits o r) e)
 
-  pub fits-table : (x : Bool) → rowKind Some ≤ kind → kind < comparisonKind AsNo → x ≡ usesTable r → x ≡ fieldsFit kind r
+  pub fits-before : kind < pairKind And → false ≡ fieldsFit kind r
+  fits-before l = fits-none (none-before kind l)
+
+  pub fits-behind : markKind NotNull < kind → false ≡ fieldsFit kind r
+  fits-behind l = fits-none (none-behind kind l)
+
+  fits-kind : (k : Kind) → kind ≡ kindNumber k → (x : Bool) → x ≡ recordFits (uses k) r → x ≡ fieldsFit kind r
   unfolding fieldsFit
-  fits-table x l h e = kind-either (rowKind Some) kind r x l (omega arith) e e
+  fits-kind k e x p = p ∙ sym (ap (λ (o : Option Kind). kindFits o r) (ap kindWith e ∙ kind-back k))
 
-  module _ (low : comparisonKind AsNo ≤ kind) (high : kind < blankKind) (op : ℕ) (op-is : op ≡ byteAt r comparisonPlace) where
-    fits-both : (x : Bool) → x ≡ usesComparison r → x ≡ fieldsFit kind r
-    unfolding fieldsFit
-    fits-both x e = kind-either (comparisonKind AsNo) kind r x low (omega arith) e e
+  pub fits-pair : PairNumber kind → (x : Bool) → x ≡ zeros r tablePlace recordSize → x ≡ fieldsFit kind r
+  unfolding recordFits
+  fits-pair (j, e) x p =
+      let z1 = zeros-join r leftPlace rightPlace recordSize (omega arith) (omega arith) in
+      let z2 = zeros-join r comparisonPlace leftPlace recordSize (omega arith) (omega arith) in
+      let z3 = zeros-join r tablePlace comparisonPlace recordSize (omega arith) (omega arith) in
+      fits-kind (PairKind j) e x (rw (← z1, ← z2, ← z3) p)
 
+  pub fits-row : RowNumber kind → (x : Bool) → x ≡ zeros r comparisonPlace recordSize → x ≡ fieldsFit kind r
+  unfolding recordFits
+  fits-row (q, e) x p =
+      let z1 = zeros-join r leftPlace rightPlace recordSize (omega arith) (omega arith) in
+      let z2 = zeros-join r comparisonPlace leftPlace recordSize (omega arith) (omega arith) in
+      fits-kind (RowKind q) e x (rw (← z1, ← z2) p)
+
+  module _ (c : ComparisonNumber kind) (op : ℕ) (op-is : op ≡ byteAt r comparisonPlace) where
     pub fits-comparison : (x : Bool) → 1 ≤ op → op ≤ 6 → x ≡ zeros r tablePlace comparisonPlace → x ≡ fieldsFit kind r
-    fits-comparison x l h e = fits-both x (rw (← op-is, between-yes 1 6 op l h) (e ∙ sym (and-true (zeros r tablePlace comparisonPlace))))
+    unfolding recordFits
+    fits-comparison x l h p = fits-kind (ComparisonKind (c .0)) (c .1) x (rw (← op-is, between-yes 1 6 op l h) (p ∙ sym (and-true (zeros r tablePlace comparisonPlace))))
 
     pub comparison-unknown : (1 ≤ op → op ≤ 6 → ⊥) → false ≡ fieldsFit kind r
-    comparison-unknown f = fits-both false (rw (← op-is, between-no 1 6 op f) (sym (and-false (zeros r tablePlace comparisonPlace))))
+    unfolding recordFits
+    comparison-unknown f = fits-kind (ComparisonKind (c .0)) (c .1) false (rw (← op-is, between-no 1 6 op f) (sym (and-false (zeros r tablePlace comparisonPlace))))
 
-  module _ (low : blankKind ≤ kind) (high : kind ≤ notBlankKind) (before : Bool) (before-is : before ≡ zeros r tablePlace leftPlace) where
+  module _ (c : MarkNumber kind) (before : Bool) (before-is : before ≡ zeros r tablePlace leftPlace) where
+    fits-mark : (x : Bool) → x ≡ (before && zeros r rightPlace recordSize) → x ≡ fieldsFit kind r
+    unfolding recordFits
+    fits-mark x p =
+        let z = zeros-join r tablePlace comparisonPlace leftPlace (omega arith) (omega arith) in
+        fits-kind (MarkKind (c .0)) (c .1) x
+        (p ∙ rw (before-is, z) (and-assoc (zeros r tablePlace comparisonPlace) (zeros r comparisonPlace leftPlace) (zeros r rightPlace recordSize)))
+
     pub fits-left : (x : Bool) → before ≡ true → x ≡ zeros r rightPlace recordSize → x ≡ fieldsFit kind r
-    unfolding fieldsFit
-    fits-left x t e =
-        let here : x ≡ usesLeft r = rw (← before-is, t) e in
-        kind-either blankKind kind r x low (omega arith) here here
+    fits-left x t p = fits-mark x (p ∙ sym (ap (λ (b : Bool). b && zeros r rightPlace recordSize) t))
 
     pub left-not : before ≡ false → false ≡ fieldsFit kind r
-    unfolding fieldsFit
-    left-not t =
-        let here : false ≡ usesLeft r = rw (← before-is, t) refl in
-        kind-either blankKind kind r false low (omega arith) here here
+    left-not t = fits-mark false (sym (ap (λ (b : Bool). b && zeros r rightPlace recordSize) t))
 
 pub known-by : (kind : ℕ) (r : List ℕ) (t : Bool) (x : ℕ) → t ≡ fieldsFit kind r → x ≡ cond t kind 0 → x ≡ knownKind kind r
 unfolding knownKind
@@ -288,27 +323,22 @@ value-back tag raw = go (eqb tag constantTag)
     go true = ap Constant (constant-back raw)
     go false = refl
 
--- of a kind whose fields do not fit there is none
-only-known : (t : Bool) (hs : List (Option Head)) (k : ℕ) (x : Head) → numbered hs k none ≡ some x → numbered hs (cond t k 0) none ≡ only t x
-only-known true hs k x e = e
-only-known false hs k x e = refl
+-- a kind whose fields do not fit says nothing
+module _ (r : List ℕ) (kind : ℕ) where
+  abbrev saidWith : ℕ → Option Head
+  saidWith n = kindWith n >>= (λ k. some (headIn k r))
 
-module _ (r : List ℕ) where
-  abbrev headsOf : List (Option Head)
-  headsOf = heads (byteAt r tablePlace) (byteAt r comparisonPlace) (valueFrom r leftPlace) (valueFrom r rightPlace)
-
-  head-known : (kind : ℕ) → numbered headsOf (knownKind kind r) none ≡ headFrom kind r
+  head-known : saidWith (knownKind kind r) ≡ headFrom kind r
   unfolding knownKind fieldsFit headFrom
-  head-known zero = refl
-  head-known (suc zero) = only-known (fieldsFit (pairKind And) r) headsOf (pairKind And) _ refl
-  head-known (suc (suc zero)) = only-known (fieldsFit (pairKind Or) r) headsOf (pairKind Or) _ refl
-  head-known (suc (suc (suc zero))) = only-known (fieldsFit (rowKind Some) r) headsOf (rowKind Some) _ refl
-  head-known (suc (suc (suc (suc zero)))) = only-known (fieldsFit (rowKind All) r) headsOf (rowKind All) _ refl
-  head-known (suc (suc (suc (suc (suc zero))))) = only-known (fieldsFit (comparisonKind AsNo) r) headsOf (comparisonKind AsNo) _ refl
-  head-known (suc (suc (suc (suc (suc (suc zero)))))) = only-known (fieldsFit (comparisonKind AsYes) r) headsOf (comparisonKind AsYes) _ refl
-  head-known (suc (suc (suc (suc (suc (suc (suc zero))))))) = only-known (fieldsFit blankKind r) headsOf blankKind _ refl
-  head-known (suc (suc (suc (suc (suc (suc (suc (suc zero)))))))) = only-known (fieldsFit notBlankKind r) headsOf notBlankKind _ refl
-  head-known (suc (suc (suc (suc (suc (suc (suc (suc (suc n))))))))) = refl
+  head-known = go (kindWith kind) refl
+    where
+      by : (k : Kind) → kindWith kind ≡ some k → (t : Bool) → saidWith (cond t kind 0) ≡ only t (headIn k r)
+      by k e true = ap (λ (o : Option Kind). o >>= (λ k. some (headIn k r))) e
+      by k e false = refl
+
+      go : (o : Option Kind) → kindWith kind ≡ o → saidWith (cond (kindFits o r) kind 0) ≡ (o >>= (λ k. only (recordFits (uses k) r) (headIn k r)))
+      go none e = refl
+      go (some k) e = by k e (recordFits (uses k) r)
 
 module _ (card d : List ℕ) (decoded : Decoded card d) (i : ℕ) (within : i < entryCount card) where
   field-in : (k : ℕ) → k < entrySize → getD d (entrySize * i + k) 0 ≡ getD (fieldsOf card i) k 0
@@ -318,8 +348,8 @@ module _ (card d : List ℕ) (decoded : Decoded card d) (i : ℕ) (within : i < 
   unfolding fieldsOf
   end-decoded = field-in entryEnd (omega arith)
 
-  pub head-decoded : headIn d i ≡ headFrom (kindAt card i) (recordAt card i)
-  unfolding fieldsOf headIn
+  pub head-decoded : headAt d i ≡ headFrom (kindAt card i) (recordAt card i)
+  unfolding fieldsOf headAt
   head-decoded =
       let r : List ℕ = recordAt card i in
       let kind : kindIn d i ≡ knownKind (kindAt card i) r = decoded .fields .at (entrySize * i) (omega arith) ∙ field-first card i in

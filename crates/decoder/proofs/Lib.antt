@@ -1,2 +1,3 @@
+pub mod Grouped
 pub mod Decoding
 pub mod Coded

@@ -7,14 +7,14 @@ use mathlib.Core.Option.{Option, none, some}
 use Prim.Native.Nat.{ℕ, _+_, _*_, _/_, _%_, _<_, _≤_}
 use lib.Dec.{eqb}
 use lib.ListN.{length, getD, take, drop}
-use Rattle.tables.specs.Lists.{numbered}
+use Rattle.tables.specs.Lists.{_>>=_}
 use Rattle.tables.specs.Bytes.{byteAt, word16, word32, signed, bits}
 use Rattle.tables.specs.Tables.{mostTables, mostColumns}
-use Rattle.tables.specs.Values.{constantTag, Value, comparisonOf, Connective, And, Or, Quantifier, Some, All}
+use Rattle.tables.specs.Values.{constantTag, Value, comparisonOf, Connective, Quantifier}
 use Rattle.cells.specs.Code.{excess, Holds}
 use Rattle.values.specs.Code.{valueIn}
-use Rattle.card.specs.Card.{AsNo, AsYes, Leaf, CompareLeaf, BlankLeaf, NotBlankLeaf, Card, LeafEntry, PairEntry, RowEntry}
-use Rattle.card.specs.Layout.{recordSize, tablePlace, comparisonPlace, leftPlace, rightPlace, usesEnd, usesTable, usesComparison, usesLeft, Head, LeafHead, PairHead, RowHead, cardLength, entryCount, tablesIn, kindAt, recordAt}
+use Rattle.card.specs.Card.{Leaf, Card, LeafEntry, PairEntry, RowEntry}
+use Rattle.card.specs.Layout.{recordSize, tablePlace, comparisonPlace, leftPlace, rightPlace, Kind, kindWith, uses, Head, LeafHead, PairHead, RowHead, headWith, cardLength, entryCount, tablesIn, kindAt, recordAt, recordFits}
 use Rattle.card.specs.Sound.{mostEntries}
 
 -- ---- the layout
@@ -68,13 +68,14 @@ entryNextEnd = entrySize + entryEnd
 
 -- ---- an entry as eight numbers
 
--- whether the fields of a record are as its kind wants them: a known comparison where one is used, and 0 in what is not used
+-- whether the fields of a record are as its kind wants them; where there is no such kind they are not
+abbrev pub kindFits : Option Kind → List ℕ → Bool
+kindFits none r = false
+kindFits (some k) r = recordFits (uses k) r
+
+-- the same by the kind's number
 unfoldable pub fieldsFit : ℕ → List ℕ → Bool
-fieldsFit kind r =
-    numbered
-    (usesEnd r ∷ usesEnd r ∷ usesTable r ∷ usesTable r ∷ usesComparison r ∷ usesComparison r ∷ usesLeft r ∷ usesLeft r ∷ [])
-    kind
-    false
+fieldsFit kind r = kindFits (kindWith kind) r
 
 -- its kind, and 0 where they are not
 unfoldable pub knownKind : ℕ → List ℕ → ℕ
@@ -115,19 +116,6 @@ pub record Decoded (card d : List ℕ) : Type 0 where
 
 -- ---- the entries of an array
 
--- what an entry with these fields says by itself, for each kind from 1 on
-abbrev pub heads : ℕ → ℕ → Value → Value → List (Option Head)
-heads table comparison left right =
-    some (PairHead And)
-    ∷ some (PairHead Or)
-    ∷ some (RowHead Some table)
-    ∷ some (RowHead All table)
-    ∷ some (LeafHead (CompareLeaf AsNo (comparisonOf comparison) left right))
-    ∷ some (LeafHead (CompareLeaf AsYes (comparisonOf comparison) left right))
-    ∷ some (LeafHead (BlankLeaf left))
-    ∷ some (LeafHead (NotBlankLeaf left))
-    ∷ []
-
 module _ (d : List ℕ) (i : ℕ) where
   abbrev pub kindIn : ℕ
   kindIn = getD d (entrySize * i) 0
@@ -151,17 +139,17 @@ module _ (d : List ℕ) (i : ℕ) where
   abbrev pub rightIn : Value
   rightIn = valueIn (getD d (entrySize * i + entryRightTag) 0) (getD d (entrySize * i + entryRightNumber) 0)
 
-  -- what entry i would say under each kind, and what it says
-  abbrev pub headsIn : List (Option Head)
-  headsIn = heads tableIn comparisonIn leftIn rightIn
+  -- what entry i says by itself, were it of this kind; and what it says by the kind that it has
+  abbrev pub headBy : Kind → Head
+  headBy k = headWith k tableIn (comparisonOf comparisonIn) leftIn rightIn
 
-  unfoldable pub headIn : Option Head
-  headIn = numbered headsIn kindIn none
+  unfoldable pub headAt : Option Head
+  headAt = kindWith kindIn >>= (λ k. some (headBy k))
 
 -- the entries from number i up to e are a card: one entry with its inner ones
 pub data Coded (d : List ℕ) : ℕ → ℕ → Card → Type 0 where
-  coded-leaf : {i e : ℕ} {x : Leaf} → headIn d i ≡ some (LeafHead x) → endIn d i ≡ e → e ≡ i + 1 → Coded d i e (LeafEntry x)
-  coded-pair : {i m e : ℕ} {j : Connective} {a b : Card} → headIn d i ≡ some (PairHead j) → endIn d i ≡ e → Coded d (i + 1) m a → Coded d m e b
+  coded-leaf : {i e : ℕ} {x : Leaf} → headAt d i ≡ some (LeafHead x) → endIn d i ≡ e → e ≡ i + 1 → Coded d i e (LeafEntry x)
+  coded-pair : {i m e : ℕ} {j : Connective} {a b : Card} → headAt d i ≡ some (PairHead j) → endIn d i ≡ e → Coded d (i + 1) m a → Coded d m e b
       → Coded d i e (PairEntry j a b)
-  coded-row : {i e : ℕ} {q : Quantifier} {t : ℕ} {c : Card} → headIn d i ≡ some (RowHead q t) → endIn d i ≡ e → Coded d (i + 1) e c
+  coded-row : {i e : ℕ} {q : Quantifier} {t : ℕ} {c : Card} → headAt d i ≡ some (RowHead q t) → endIn d i ≡ e → Coded d (i + 1) e c
       → Coded d i e (RowEntry q t c)

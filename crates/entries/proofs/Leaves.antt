@@ -1,23 +1,21 @@
--- An entry without inner ones, as its numbers say it: a comparison, or a test for a blank.
+-- An entry without inner ones, as its numbers say it: a comparison, or a test by the mark.
 use mathlib.Core.Path.{_≡_, refl, ap, ap₂, _∙_}
-use mathlib.Core.Bool.{Bool, true, false, cond}
+use mathlib.Core.Bool.{Bool, true, false}
 use mathlib.Core.List.{List, [], _∷_, _++_}
 use Prim.Native.Nat.{ℕ, _+_, _*_}
 use native.Mathlib.Omega.{arith}
 use lib.ListN.{getD}
 use Rattle.tables.specs.Lists.{placed}
 use Rattle.tables.specs.Bytes.{bytes16, bytes32}
-use Rattle.tables.specs.Values.{Value, Comparison, Eq, Ne, Lt, Le, Gt, Ge, comparisonNumber}
-use Rattle.card.specs.Card.{Interpretation, Leaf, CompareLeaf, LeafEntry, entries}
-use Rattle.card.specs.Layout.{recordSize, LeafHead, kindOf, valueBytes, noValue, fieldBytes, kindBytes, recordsFrom}
-use Rattle.rule.specs.Parts.{nullKind, notNullKind}
+use Rattle.tables.specs.Values.{Value, unusedValue, Comparison, comparisonNumber, MarkTest}
+use Rattle.card.specs.Card.{Interpretation, Leaf, CompareLeaf, MarkLeaf, LeafEntry, entries}
+use Rattle.card.specs.Layout.{recordSize, LeafHead, markKind, kindNumber, kindOf, valueBytes, fieldBytes, kindBytes, recordsFrom}
 use Rattle.names.specs.Code.{partSize, partComparison, partLeftTag, partLeftNumber, partRightTag, partRightNumber}
-use Rattle.translation.specs.Translation.{otherComparison}
-use Rattle.parser.proofs.Small.{comparison-small}
+use Rattle.parts.proofs.Small.{comparison-small}
 use Rattle.records.specs.declared.LeafNumbers.{LeafNumbers}
-use Rattle.records.specs.Code.{byteNumber, LeafAt, LeafWritten, comparisonAs, compareKindAs, nullKindAs}
-use Rattle.records.proofs.Flags.{compare-kind-small, null-kind-small}
-use Rattle.entries.specs.Code.{interpretationOf, leafAs, nullLeaf, Wrote, valueBytesIn, CompareReady, NullReady}
+use Rattle.records.specs.Code.{byteNumber, LeafAt, LeafWritten, comparisonAs, ComparedAs, markAs, MarkedAs, compareKindAs}
+use Rattle.records.proofs.Flags.{compare-kind-small, mark-small}
+use Rattle.entries.specs.Code.{interpretationOf, leafAs, Wrote, valueBytesIn, CompareReady, MarkReady}
 
 -- ---- numbers and bytes
 
@@ -26,42 +24,29 @@ pub value-at : (p : List ℕ) (i j : ℕ) → j ≡ i + 1 → getD p i 0 ∷ byt
 value-at p i j e = ap (λ (k : ℕ). getD p i 0 ∷ bytes32 (byteNumber (getD p i 0) (getD p k 0))) e
 
 compare-kind-is : (negate unknown : Bool) (op : Comparison) (l r : Value)
-    → compareKindAs negate unknown ≡ kindOf (LeafHead (leafAs negate (CompareLeaf (interpretationOf unknown) op l r)))
+    → compareKindAs negate unknown ≡ kindNumber (kindOf (LeafHead (leafAs negate (CompareLeaf (interpretationOf unknown) op l r))))
 compare-kind-is false false op l r = refl
 compare-kind-is false true op l r = refl
 compare-kind-is true false op l r = refl
 compare-kind-is true true op l r = refl
 
-null-kind-is : (negate blank : Bool) (l : Value) → nullKindAs negate (cond blank nullKind notNullKind) ≡ kindOf (LeafHead (leafAs negate (nullLeaf blank l)))
-null-kind-is false false l = refl
-null-kind-is false true l = refl
-null-kind-is true false l = refl
-null-kind-is true true l = refl
-
-comparison-is : (negate : Bool) (op : Comparison) → comparisonAs negate (comparisonNumber op) ≡ comparisonNumber (cond negate (otherComparison op) op)
-comparison-is false op = refl
-comparison-is true Eq = refl
-comparison-is true Ne = refl
-comparison-is true Lt = refl
-comparison-is true Le = refl
-comparison-is true Gt = refl
-comparison-is true Ge = refl
+mark-kind-is : (negate : Bool) (m : MarkTest) (l : Value) → markKind (markAs negate m) ≡ kindNumber (kindOf (LeafHead (leafAs negate (MarkLeaf m l))))
+mark-kind-is false m l = refl
+mark-kind-is true m l = refl
 
 compare-bytes : (negate : Bool) (u : Interpretation) (op : Comparison) (l r : Value)
-    → 0 ∷ comparisonNumber (cond negate (otherComparison op) op) ∷ valueBytes l ++ valueBytes r ≡ fieldBytes (LeafHead (leafAs negate (CompareLeaf u op l r)))
+    → 0 ∷ comparisonNumber (comparisonAs negate op) ∷ valueBytes l ++ valueBytes r ≡ fieldBytes (LeafHead (leafAs negate (CompareLeaf u op l r)))
 compare-bytes false u op l r = refl
 compare-bytes true u op l r = refl
 
-null-bytes : (negate blank : Bool) (l : Value) → 0 ∷ 0 ∷ valueBytes l ++ noValue ≡ fieldBytes (LeafHead (leafAs negate (nullLeaf blank l)))
-null-bytes false false l = refl
-null-bytes false true l = refl
-null-bytes true false l = refl
-null-bytes true true l = refl
+mark-bytes : (negate : Bool) (m : MarkTest) (l : Value) → 0 ∷ 0 ∷ valueBytes l ++ valueBytes unusedValue ≡ fieldBytes (LeafHead (leafAs negate (MarkLeaf m l)))
+mark-bytes false m l = refl
+mark-bytes true m l = refl
 
 -- ---- the entry
 
 leaf-written : {kinds records kinds′ records′ : List ℕ} {k : ℕ} {x : LeafNumbers} (y : Leaf) → LeafWritten kinds records kinds′ records′ k x
-    → x .kind ≡ kindOf (LeafHead y)
+    → x .kind ≡ kindNumber (kindOf (LeafHead y))
     → 0 ∷ x .comparison
     ∷ (x .«left_tag» ∷ bytes32 (byteNumber (x .«left_tag») (x .«left_number»)))
     ++ (x .«right_tag» ∷ bytes32 (byteNumber (x .«right_tag») (x .«right_number»)))
@@ -76,7 +61,7 @@ leaf-written {kinds} {records} {kinds′} {records′} {k} {x} y w p q = record 
 
 module _ {p : List ℕ} {s : ℕ} {kinds records : List ℕ} {k : ℕ} where
   -- a comparison
-  module _ (h : CompareReady p s kinds records k) (negate unknown : Bool) (kind op : ℕ) (is-kind : kind ≡ compareKindAs negate unknown) (is-op : op ≡ comparisonAs negate (getD p (partSize * s + partComparison) 0)) where
+  module _ (h : CompareReady p s kinds records k) (negate unknown : Bool) (kind op : ℕ) (is-kind : kind ≡ compareKindAs negate unknown) (is-op : ComparedAs negate (getD p (partSize * s + partComparison) 0) op) where
     abbrev pub compareNumbers : LeafNumbers
     compareNumbers = record {
       kind = kind;
@@ -87,8 +72,8 @@ module _ {p : List ℕ} {s : ℕ} {kinds records : List ℕ} {k : ℕ} where
       «right_number» = getD p (partSize * s + partRightNumber) 0;
     }
 
-    op-is : op ≡ comparisonNumber (cond negate (otherComparison (h .comparison)) (h .comparison))
-    op-is = is-op ∙ ap (comparisonAs negate) (h .comparison-is) ∙ comparison-is negate (h .comparison)
+    op-is : op ≡ comparisonNumber (comparisonAs negate (h .comparison))
+    op-is = is-op (h .comparison) (h .comparison-is)
 
     pub compare-at : LeafAt kinds records k compareNumbers
     compare-at =
@@ -100,7 +85,7 @@ module _ {p : List ℕ} {s : ℕ} {kinds records : List ℕ} {k : ℕ} where
           few = omega arith;
           room = omega arith;
           kind-small = omega (arith, is-kind, compare-kind-small negate unknown);
-          comparison-small = omega (arith, op-is, comparison-small (cond negate (otherComparison (h .comparison)) (h .comparison)));
+          comparison-small = omega (arith, op-is, comparison-small (comparisonAs negate (h .comparison)));
           left-tag-small = s .left-tag;
           left-small = s .left-number .whole;
           right-tag-small = s .right-tag;
@@ -116,10 +101,10 @@ module _ {p : List ℕ} {s : ℕ} {kinds records : List ℕ} {k : ℕ} where
         (ap₂ _++_ (value-at p (partSize * s + partLeftTag) (partSize * s + partLeftNumber) (omega arith) ∙ h .left-is) (value-at p (partSize * s + partRightTag) (partSize * s + partRightNumber) (omega arith) ∙ h .right-is))
         ∙ compare-bytes negate (interpretationOf unknown) (h .comparison) (h .left) (h .right))
 
-  -- a test for a blank
-  module _ (h : NullReady p s kinds records k) (negate : Bool) (kind : ℕ) (is-kind : kind ≡ nullKindAs negate (getD p (partSize * s) 0)) where
-    abbrev pub nullNumbers : LeafNumbers
-    nullNumbers = record {
+  -- a test by the mark
+  module _ (h : MarkReady p s kinds records k) (negate : Bool) (kind : ℕ) (is-kind : MarkedAs negate (getD p (partSize * s) 0) kind) where
+    abbrev pub markNumbers : LeafNumbers
+    markNumbers = record {
       kind = kind;
       comparison = 0;
       «left_tag» = getD p (partSize * s + partLeftTag) 0;
@@ -128,11 +113,11 @@ module _ {p : List ℕ} {s : ℕ} {kinds records : List ℕ} {k : ℕ} where
       «right_number» = 0;
     }
 
-    kind-told : kind ≡ nullKindAs negate (cond (h .blank) nullKind notNullKind)
-    kind-told = is-kind ∙ ap (nullKindAs negate) (h .kind-is)
+    kind-told : kind ≡ markKind (markAs negate (h .mark))
+    kind-told = is-kind (h .mark) (h .kind-is)
 
-    pub null-at : LeafAt kinds records k nullNumbers
-    null-at =
+    pub mark-at : LeafAt kinds records k markNumbers
+    mark-at =
         let s = h .small in
         let fit = h .room .kinds-fit in
         let long = h .room .records-fit in
@@ -140,7 +125,7 @@ module _ {p : List ℕ} {s : ℕ} {kinds records : List ℕ} {k : ℕ} where
           kinds-size = h .room .kinds-size;
           few = omega arith;
           room = omega arith;
-          kind-small = omega (arith, kind-told, null-kind-small negate (h .blank));
+          kind-small = omega (arith, kind-told, mark-small (markAs negate (h .mark)));
           comparison-small = omega arith;
           left-tag-small = s .left-tag;
           left-small = s .left-number .whole;
@@ -148,10 +133,10 @@ module _ {p : List ℕ} {s : ℕ} {kinds records : List ℕ} {k : ℕ} where
           right-small = omega arith;
         }
 
-    pub null-written : {kinds′ records′ : List ℕ} → LeafWritten kinds records kinds′ records′ k nullNumbers
-        → Wrote k (LeafEntry (leafAs negate (nullLeaf (h .blank) (h .left)))) kinds records kinds′ records′ (k + 1)
-    null-written w =
+    pub mark-written : {kinds′ records′ : List ℕ} → LeafWritten kinds records kinds′ records′ k markNumbers
+        → Wrote k (LeafEntry (leafAs negate (MarkLeaf (h .mark) (h .left)))) kinds records kinds′ records′ (k + 1)
+    mark-written w =
         leaf-written _ w
-        (kind-told ∙ null-kind-is negate (h .blank) (h .left))
-        (ap (λ (v : List ℕ). 0 ∷ 0 ∷ v ++ noValue) (value-at p (partSize * s + partLeftTag) (partSize * s + partLeftNumber) (omega arith) ∙ h .left-is)
-        ∙ null-bytes negate (h .blank) (h .left))
+        (kind-told ∙ mark-kind-is negate (h .mark) (h .left))
+        (ap (λ (v : List ℕ). 0 ∷ 0 ∷ v ++ valueBytes unusedValue) (value-at p (partSize * s + partLeftTag) (partSize * s + partLeftNumber) (omega arith) ∙ h .left-is)
+        ∙ mark-bytes negate (h .mark) (h .left))

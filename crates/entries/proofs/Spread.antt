@@ -8,7 +8,7 @@ use Rattle.tables.specs.Lists.{placed}
 use Rattle.tables.specs.Bytes.{bytes16}
 use Rattle.tables.specs.Values.{Connective, Quantifier}
 use Rattle.card.specs.Card.{Card, PairEntry, RowEntry, entries}
-use Rattle.card.specs.Layout.{recordSize, PairHead, RowHead, kindOf, kindBytes, recordsFrom}
+use Rattle.card.specs.Layout.{recordSize, pairKind, rowKind, kindBytes, recordsFrom}
 use Rattle.card.specs.Sound.{mostEntries}
 use Rattle.tables.proofs.Placed.{placed-length, placed-next, placed-over}
 use Rattle.card.proofs.Walk.{kinds-length, records-length}
@@ -111,7 +111,7 @@ module _ {k kind table : ℕ} {kinds records kinds1 records1 : List ℕ} (low : 
       ∙ placed-over records (recordSize * k) (bytes16 0) _ (bytes16 end) long refl
 
   -- a row entry
-  pub row-written : (q : Quantifier) {c : Card} {i r : ℕ} {kinds2 records2 records3 : List ℕ} → kind ≡ kindOf (RowHead q table) → i ≡ k + 1
+  pub row-written : (q : Quantifier) {c : Card} {i r : ℕ} {kinds2 records2 records3 : List ℕ} → kind ≡ rowKind q → i ≡ k + 1
       → Wrote i c kinds1 records1 kinds2 records2 r → records3 ≡ placed records2 (recordSize * k) (bytes16 r)
       → Wrote k (RowEntry q table c) kinds records kinds2 records3 r
   unfolding entries kindBytes recordsFrom
@@ -127,7 +127,7 @@ module _ {k kind table : ℕ} {kinds records kinds1 records1 : List ℕ} (low : 
       }
 
   -- a pair
-  pub pair-written : (j : Connective) {a b : Card} {i m r : ℕ} {kinds2 records2 kinds3 records3 records4 : List ℕ} → table ≡ 0 → kind ≡ kindOf (PairHead j) → i ≡ k + 1
+  pub pair-written : (j : Connective) {a b : Card} {i m r : ℕ} {kinds2 records2 kinds3 records3 records4 : List ℕ} → table ≡ 0 → kind ≡ pairKind j → i ≡ k + 1
       → Wrote i a kinds1 records1 kinds2 records2 m → Wrote m b kinds2 records2 kinds3 records3 r → records4 ≡ placed records3 (recordSize * k) (bytes16 r)
       → Wrote k (PairEntry j a b) kinds records kinds3 records4 r
   unfolding entries kindBytes recordsFrom

@@ -1,36 +1,33 @@
 -- The entries of a part, by what the part is: what its inner parts ask, and that the entries around them are those of its card.
 use mathlib.Core.Path.{_≡_, refl, sym, ap, ap₂, subst, _∙_}
-use mathlib.Core.Bool.{Bool, true, false, not, cond, Bool·beq}
-use mathlib.Core.List.{List, [], _∷_, _++_}
+use mathlib.Core.Bool.{Bool, true, false, not, Bool·beq}
+use mathlib.Core.List.{List, [], _∷_}
 use Prim.Native.Nat.{ℕ, _+_, _*_, _<_, _≤_, max}
 use native.Mathlib.Omega.{arith}
-use borrow.Author.Tests.{ne-eqb, eqb-true, eqb-false}
+use borrow.Author.Tests.{ne-eqb}
 use lib.Dec.{T, eqb, ltb→lt}
 use lib.IntN.{ℤ, pos, negsuc}
-use lib.ListN.{length, getD, length-append}
+use lib.ListN.{length, getD}
 use Rattle.tables.specs.Lists.{placed}
 use Rattle.tables.specs.Bytes.{bytes16, bytes32, bits, inRange}
 use Rattle.tables.specs.Values.{constantTag, Value, Constant, Column, Connective, And, Or, Quantifier, Some, All}
 use Rattle.cells.specs.Code.{excess, toExcess}
-use Rattle.card.specs.Card.{CompareLeaf, Card, LeafEntry, PairEntry, RowEntry, entries}
-use Rattle.card.specs.Layout.{PairHead, kindOf as cardKind, valueBytes, recordSize}
-use Rattle.rule.specs.Condition.{Compare, IsNull, IsNotNull, parts, fromsDeep, Rule}
-use Rattle.rule.specs.Names.{ValueFits, Fits, mostParts}
-use Rattle.rule.specs.Parts.{listKind, taggedOf, joinKind, notKind, compareKind, nullKind, notNullKind, existsKind}
-use Rattle.parser.specs.Parts.{SmallPart, Stands}
-use Rattle.parser.proofs.Parts.{heldNumber, parts-low, part-comparison, part-table, part-left-tag, part-left-number, part-right-tag, part-right-number, IsJoin, IsNot, IsCompare, IsExists, IsListed, is-join, is-not, is-compare, is-blank, is-present, is-exists, is-listed}
+use Rattle.card.specs.Card.{CompareLeaf, MarkLeaf, Card, LeafEntry, PairEntry, RowEntry, entries}
+use Rattle.card.specs.Layout.{pairKind, valueBytes, recordSize}
 use Rattle.card.specs.Sound.{mostEntries}
+use Rattle.rule.specs.Condition.{Compare, Mark, Not, Rule, parts, letters, fromsDeep}
+use Rattle.rule.specs.Names.{mostParts, within, ValueFits, Fits}
+use Rattle.rule.specs.Parts.{joinKind, unaryKind, compareKind, existsKind, listKind, taggedOf}
+use Rattle.rule.specs.Groups.{JoinNumber, MarkNumber, ListNumber}
+use Rattle.rule.proofs.Fits.{within-length}
 use Rattle.names.specs.Code.{partSize, partTable, partEnd, partLeftTag, partLeftNumber, partRightTag, partRightNumber}
-use Rattle.rule.specs.Condition.{Compare, IsNull, IsNotNull, Rule, parts, fromsDeep}
-use Rattle.rule.specs.Names.{mostParts, ValueFits, Fits}
-use Rattle.rule.specs.Parts.{joinKind, listKind, notKind, compareKind, nullKind, notNullKind, existsKind, taggedOf}
-use Rattle.parser.specs.Parts.{Stands, SmallPart}
-use Rattle.parser.proofs.Parts.{parts-low, part-comparison, part-table, part-left-tag, part-left-number, part-right-tag, part-right-number, IsJoin, IsNot, IsCompare, IsExists, IsListed, is-join, is-not, is-compare, is-blank, is-present, is-exists, is-listed}
-use Rattle.records.specs.Code.{byteNumber, plainRecord, pairKindAs, rowKindAs}
-use Rattle.records.proofs.Flags.{row-small}
-use Rattle.entries.specs.Code.{interpretationOf, leafAs, nullLeaf, cardAs, Room, Wrote, valueBytesIn, CompareReady, ComparedTo, NullReady, NulledTo, Writable, WroteTo, StandsUnder}
-use Rattle.entries.proofs.Cards.{connectiveAs, quantifierOf, listConnective, everyRow, card-atom, card-not, card-join, card-exists, card-listed, pair-kind-is, list-kind-is, row-kind-is}
 use Rattle.translation.proofs.Demand3.{some-entries}
+use Rattle.parts.specs.Parts.{Stands, SmallPart}
+use Rattle.parts.proofs.Parts.{heldNumber, parts-low, part-comparison, part-table, part-left-tag, part-left-number, part-right-tag, part-right-number, IsJoin, IsUnary, IsCompare, IsMark, IsExists, IsListed, is-join, is-unary, is-compare, is-mark, is-exists, is-listed}
+use Rattle.records.specs.Code.{byteNumber, plainRecord, connectiveAs, JoinedAs, rowKindAs}
+use Rattle.records.proofs.Flags.{row-small}
+use Rattle.entries.specs.Code.{interpretationOf, leafAs, cardAs, Room, Wrote, valueBytesIn, CompareReady, ComparedTo, MarkReady, MarkedTo, Writable, WroteTo, StandsUnder}
+use Rattle.entries.proofs.Cards.{quantifierOf, listConnective, everyRow, rows-are, card-atom, card-not, card-join, card-exists, card-listed, list-kind-is, row-kind-is}
 use Rattle.entries.proofs.Spread.{Plain, room-less, room-plain, room-wrote, plain-asked, end-asked, row-written, pair-written}
 
 -- ---- a value of a part
@@ -54,16 +51,8 @@ value-in p i j columns levels v few f e tag number =
 
 -- ---- a part
 
--- the kind of a test for a blank
-null-kind : (n : ℕ) → nullKind ≤ n → n ≤ notNullKind → n ≡ cond (eqb n nullKind) nullKind notNullKind
-null-kind n a b = go (eqb n nullKind) refl
-  where
-    go : (t : Bool) → eqb n nullKind ≡ t → n ≡ cond t nullKind notNullKind
-    go true e = eqb-true n nullKind e
-    go false e = let f = eqb-false n nullKind e in omega arith
-
 -- the kind of a pair fits a byte
-pair-small : (j : Connective) → cardKind (PairHead j) < 256
+pair-small : (j : Connective) → pairKind j < 256
 pair-small And = omega arith
 pair-small Or = omega arith
 
@@ -110,7 +99,7 @@ module _ {p : List ℕ} {s : ℕ} {negate unknown : Bool} {kinds records : List 
         room = room;
       }
 
-  -- ---- a comparison, and a test for a blank
+  -- ---- a comparison, and a test by the mark
 
   module _ (kind : getD p (partSize * s) 0 ≡ compareKind) where
     compared : IsCompare p s (h .rule)
@@ -141,61 +130,38 @@ module _ {p : List ℕ} {s : ℕ} {negate unknown : Bool} {kinds records : List 
     unfolding compare-ready
     compare-wrote f = rw compare-card (f compare-ready)
 
-  -- IS NULL, or IS NOT NULL
-  record Nulled (blank : Bool) : Type 0 where
-    left : Value
-    card-is : card ≡ LeafEntry (leafAs negate (nullLeaf blank left))
-    left-is : valueBytesIn p (partSize * s + partLeftTag) ≡ valueBytes left
+  module _ (kind : MarkNumber (getD p (partSize * s) 0)) where
+    marked : IsMark p s (kind .0) (h .rule)
+    marked = is-mark p s (h .rule) (h .stands) kind
 
-  nulled : (blank : Bool) → getD p (partSize * s) 0 ≡ cond blank nullKind notNullKind → Nulled blank
-  unfolding Fits
-  nulled true kind =
-      let x = is-blank p s (h .rule) (h .stands) kind in
-      let f = subst (Fits (h .columns) (h .levels)) (x .is) (h .fits) in
-      record {
-        left = x .left;
-        card-is = ap (cardAs negate unknown) (x .is) ∙ card-atom negate unknown (IsNull (x .left));
-        left-is = value-in p (partSize * s + partLeftTag) (partSize * s + partLeftNumber) (h .columns) (h .levels) (x .left) levels-few f (omega arith) (part-left-tag (x .here)) (part-left-number (x .here));
-      }
-  nulled false kind =
-      let x = is-present p s (h .rule) (h .stands) kind in
-      let f = subst (Fits (h .columns) (h .levels)) (x .is) (h .fits) in
-      record {
-        left = x .left;
-        card-is = ap (cardAs negate unknown) (x .is) ∙ card-atom negate unknown (IsNotNull (x .left));
-        left-is = value-in p (partSize * s + partLeftTag) (partSize * s + partLeftNumber) (h .columns) (h .levels) (x .left) levels-few f (omega arith) (part-left-tag (x .here)) (part-left-number (x .here));
-      }
+    mark-card : card ≡ LeafEntry (leafAs negate (MarkLeaf (kind .0) (marked .left)))
+    mark-card = ap (cardAs negate unknown) (marked .is) ∙ card-atom negate unknown (Mark (kind .0) (marked .left))
 
-  module _ (low : nullKind ≤ getD p (partSize * s) 0) (high : getD p (partSize * s) 0 ≤ notNullKind) where
-    null-told : getD p (partSize * s) 0 ≡ cond (eqb (getD p (partSize * s) 0) nullKind) nullKind notNullKind
-    null-told = null-kind (getD p (partSize * s) 0) low high
-
-    null-test : Nulled (eqb (getD p (partSize * s) 0) nullKind)
-    null-test = nulled (eqb (getD p (partSize * s) 0) nullKind) null-told
-
-    pub null-ready : NullReady p s kinds records k
-    unfolding entries
-    null-ready =
+    pub mark-ready : MarkReady p s kinds records k
+    unfolding entries Fits
+    mark-ready =
+        let x = marked in
+        let f = subst (Fits (h .columns) (h .levels)) (x .is) (h .fits) in
         record {
           size = h .size;
           few = h .part-few;
           small = part-small;
-          room = room-for (null-test .card-is);
-          blank = eqb (getD p (partSize * s) 0) nullKind;
-          left = null-test .left;
-          kind-is = null-told;
-          left-is = null-test .left-is;
+          room = room-for mark-card;
+          mark = kind .0;
+          left = x .left;
+          kind-is = kind .1;
+          left-is = value-in p (partSize * s + partLeftTag) (partSize * s + partLeftNumber) (h .columns) (h .levels) (x .left) levels-few f (omega arith) (part-left-tag (x .here)) (part-left-number (x .here));
         }
 
-    pub null-wrote : {kinds′ records′ : List ℕ} {r : ℕ} → NulledTo p s negate kinds records kinds′ records′ k r → Wrote k card kinds records kinds′ records′ r
-    unfolding null-ready
-    null-wrote f = rw (null-test .card-is) (f null-ready)
+    pub mark-wrote : {kinds′ records′ : List ℕ} {r : ℕ} → MarkedTo p s negate kinds records kinds′ records′ k r → Wrote k card kinds records kinds′ records′ r
+    unfolding mark-ready
+    mark-wrote f = rw mark-card (f mark-ready)
 
   -- ---- NOT
 
-  module _ (kind : getD p (partSize * s) 0 ≡ notKind) where
-    inverted : IsNot p s (h .rule)
-    inverted = is-not p s (h .rule) (h .stands) kind
+  module _ (kind : getD p (partSize * s) 0 ≡ unaryKind Not) where
+    inverted : IsUnary p s Not (h .rule)
+    inverted = is-unary p s (h .rule) (h .stands) (Not, kind)
 
     not-card : card ≡ cardAs (not negate) (not unknown) (inverted .inner)
     not-card = ap (cardAs negate unknown) (inverted .is) ∙ card-not negate unknown (inverted .inner)
@@ -213,9 +179,9 @@ module _ {p : List ℕ} {s : ℕ} {negate unknown : Bool} {kinds records : List 
 
   -- ---- AND and OR
 
-  module _ (bounds : (joinKind And ≤ getD p (partSize * s) 0) × (getD p (partSize * s) 0 ≤ joinKind Or)) {kind : ℕ} (is-kind : kind ≡ pairKindAs negate (getD p (partSize * s) 0)) where
-    join : IsJoin p s (h .rule)
-    join = is-join p s (h .rule) (h .stands) (bounds .0) (bounds .1)
+  module _ (number : JoinNumber (getD p (partSize * s) 0)) {kind : ℕ} (is-kind : JoinedAs negate (getD p (partSize * s) 0) kind) where
+    join : IsJoin p s (number .0) (h .rule)
+    join = is-join p s (h .rule) (h .stands) number
 
     abbrev leftCard : Card
     leftCard = cardAs negate unknown (join .left)
@@ -223,11 +189,11 @@ module _ {p : List ℕ} {s : ℕ} {negate unknown : Bool} {kinds records : List 
     abbrev rightCard : Card
     rightCard = cardAs negate unknown (join .right)
 
-    join-card : card ≡ PairEntry (connectiveAs negate (join .connective)) leftCard rightCard
-    join-card = ap (cardAs negate unknown) (join .is) ∙ card-join negate unknown (join .connective) (join .left) (join .right)
+    join-card : card ≡ PairEntry (connectiveAs negate (number .0)) leftCard rightCard
+    join-card = ap (cardAs negate unknown) (join .is) ∙ card-join negate unknown (number .0) (join .left) (join .right)
 
-    join-kind : kind ≡ cardKind (PairHead (connectiveAs negate (join .connective)))
-    join-kind = is-kind ∙ ap (pairKindAs negate) (join .kind-is) ∙ pair-kind-is negate (join .connective)
+    join-kind : kind ≡ pairKind (connectiveAs negate (number .0))
+    join-kind = is-kind (number .0) (number .1)
 
     join-room : Room kinds records k (1 + entries leftCard + entries rightCard)
     unfolding entries
@@ -246,7 +212,7 @@ module _ {p : List ℕ} {s : ℕ} {negate unknown : Bool} {kinds records : List 
     join-fits = subst (Fits (h .columns) (h .levels)) (join .is) (h .fits)
 
     pub pair-plain-asked : (length kinds ≡ mostEntries) × ((k < mostEntries) × ((kind < 256) × ((0 < 256) × (recordSize * k + recordSize ≤ length records))))
-    pair-plain-asked = plain-asked join-room kind 0 (omega arith) (omega (arith, join-kind, pair-small (connectiveAs negate (join .connective)))) (omega arith)
+    pair-plain-asked = plain-asked join-room kind 0 (omega arith) (omega (arith, join-kind, pair-small (connectiveAs negate (number .0)))) (omega arith)
 
     pub join-few : s + 1 < mostParts
     join-few = omega (arith, join-parts, parts-low (join .left), parts-low (join .right), h .within, h .few)
@@ -294,7 +260,7 @@ module _ {p : List ℕ} {s : ℕ} {negate unknown : Bool} {kinds records : List 
           pair-wrote e =
               let low = join-room .kinds-fit in
               let long = join-room .records-fit in
-              rw join-card (pair-written (omega (arith, h .room .kinds-size)) (omega arith) put-pair (connectiveAs negate (join .connective)) refl join-kind refl left-wrote right-wrote e)
+              rw join-card (pair-written (omega (arith, h .room .kinds-size)) (omega arith) put-pair (connectiveAs negate (number .0)) refl join-kind refl left-wrote right-wrote e)
 
   -- ---- EXISTS
 
@@ -308,7 +274,8 @@ module _ {p : List ℕ} {s : ℕ} {negate unknown : Bool} {kinds records : List 
     exists-card : card ≡ RowEntry (quantifierOf negate) table whereCard
     exists-card =
         ap (cardAs negate unknown) (exists .is)
-        ∙ card-exists negate unknown (exists .table) (exists .inner)
+        ∙ card-exists negate unknown (exists .from) (exists .inner)
+        ∙ rows-are (quantifierOf negate) (exists .from) whereCard
         ∙ ap (λ (t : ℕ). RowEntry (quantifierOf negate) t whereCard) (sym (is-table ∙ part-table (exists .here)))
 
     exists-room : Room kinds records k (1 + entries whereCard)
@@ -319,11 +286,11 @@ module _ {p : List ℕ} {s : ℕ} {negate unknown : Bool} {kinds records : List 
     unfolding parts
     exists-parts = ap parts (exists .is)
 
-    exists-deep : fromsDeep (h .rule) ≡ 1 + fromsDeep (exists .inner)
+    exists-deep : fromsDeep (h .rule) ≡ letters (exists .from) + fromsDeep (exists .inner)
     unfolding fromsDeep
     exists-deep = ap fromsDeep (exists .is)
 
-    exists-fits : Fits (h .columns) (h .levels ++ (exists .table ∷ [])) (exists .inner)
+    exists-fits : Fits (h .columns) (within (h .levels) (exists .from)) (exists .inner)
     unfolding Fits
     exists-fits = subst (Fits (h .columns) (h .levels)) (exists .is) (h .fits) .1
 
@@ -339,8 +306,8 @@ module _ {p : List ℕ} {s : ℕ} {negate unknown : Bool} {kinds records : List 
 
       pub exists-ready : Writable p (s + 1) negate false kinds1 records1 (k + 1)
       exists-ready =
-          inner-ready (exists .inner) (h .levels ++ (exists .table ∷ [])) (exists .inner-stands) (omega (arith, exists-parts))
-          (omega (arith, exists-deep, h .deep, length-append (h .levels) (exists .table ∷ []))) exists-fits where-room
+          inner-ready (exists .inner) (within (h .levels) (exists .from)) (exists .inner-stands) (omega (arith, exists-parts))
+          (omega (arith, exists-deep, h .deep, within-length (h .levels) (length (h .levels)) (exists .from) refl)) exists-fits where-room
 
       module _ {kinds2 records2 : List ℕ} {r : ℕ} (w : WroteTo p (s + 1) negate false kinds1 records1 kinds2 records2 (k + 1) r) where
         where-wrote : Wrote (k + 1) whereCard kinds1 records1 kinds2 records2 r
@@ -356,7 +323,7 @@ module _ {p : List ℕ} {s : ℕ} {negate unknown : Bool} {kinds records : List 
             let low = exists-room .kinds-fit in
             let long = exists-room .records-fit in
             rw exists-card
-            (row-written (omega (arith, h .room .kinds-size)) (omega arith) put-exists (quantifierOf negate) (is-kind ∙ row-kind-is negate table) refl where-wrote e)
+            (row-written (omega (arith, h .room .kinds-size)) (omega arith) put-exists (quantifierOf negate) (is-kind ∙ row-kind-is negate) refl where-wrote e)
 
   -- ---- a list
 
@@ -364,12 +331,12 @@ module _ {p : List ℕ} {s : ℕ} {negate unknown : Bool} {kinds records : List 
   abbrev every : Bool
   every = not (Bool·beq (eqb (getD p (partSize * s) 0) (listKind All)) negate)
 
-  module _ (is-list : listKind Some ≤ getD p (partSize * s) 0) {row table : ℕ} (is-row : row ≡ rowKindAs every) (is-table : table ≡ getD p (partSize * s + partTable) 0) where
-    listed : IsListed p s (h .rule)
-    listed = is-listed p s (h .rule) (h .stands) is-list
+  module _ (number : ListNumber (getD p (partSize * s) 0)) {row table : ℕ} (is-row : row ≡ rowKindAs every) (is-table : table ≡ getD p (partSize * s + partTable) 0) where
+    listed : IsListed p s (number .0) (h .rule)
+    listed = is-listed p s (h .rule) (h .stands) number
 
-    every-is : every ≡ everyRow (listed .quantifier) negate
-    every-is = ap (λ (n : ℕ). not (Bool·beq (eqb n (listKind All)) negate)) (listed .kind-is) ∙ every-row (listed .quantifier) negate
+    every-is : every ≡ everyRow (number .0) negate
+    every-is = ap (λ (n : ℕ). not (Bool·beq (eqb n (listKind All)) negate)) (number .1) ∙ every-row (number .0) negate
 
     abbrev innerCard : Card
     innerCard = cardAs every false (listed .inner)
@@ -383,7 +350,8 @@ module _ {p : List ℕ} {s : ℕ} {negate unknown : Bool} {kinds records : List 
     list-card : card ≡ RowEntry (quantifierOf every) table pairCard
     list-card =
         ap (cardAs negate unknown) (listed .is)
-        ∙ card-listed negate unknown (listed .quantifier) (listed .op) (listed .left) (listed .selected) (listed .table) (listed .inner)
+        ∙ card-listed negate unknown (number .0) (listed .op) (listed .left) (listed .selected) (listed .from) (listed .inner)
+        ∙ rows-are (quantifierOf (everyRow (number .0) negate)) (listed .from) _
         ∙ ap₂ (λ (e : Bool) (t : ℕ). RowEntry (quantifierOf e) t (PairEntry (listConnective e) (cardAs e false (listed .inner)) lastCard)) (sym every-is) (sym (is-table ∙ part-table (listed .here)))
 
     list-room : Room kinds records k (1 + (1 + entries innerCard + 1))
@@ -394,33 +362,33 @@ module _ {p : List ℕ} {s : ℕ} {negate unknown : Bool} {kinds records : List 
     unfolding parts
     list-parts = ap parts (listed .is)
 
-    list-deep : fromsDeep (h .rule) ≡ 1 + fromsDeep (listed .inner)
+    list-deep : fromsDeep (h .rule) ≡ letters (listed .from) + fromsDeep (listed .inner)
     unfolding fromsDeep
     list-deep = ap fromsDeep (listed .is)
 
     abbrev innerLevels : List ℕ
-    innerLevels = h .levels ++ (listed .table ∷ [])
+    innerLevels = within (h .levels) (listed .from)
 
     list-fits : ValueFits (h .columns) (h .levels) (listed .left) × ValueFits (h .columns) innerLevels (listed .selected) × Fits (h .columns) innerLevels (listed .inner)
     unfolding Fits
     list-fits = let f = subst (Fits (h .columns) (h .levels)) (listed .is) (h .fits) in (f .1, f .2, f .3)
 
     inner-levels : length innerLevels + fromsDeep (listed .inner) ≤ 4
-    inner-levels = omega (arith, list-deep, h .deep, length-append (h .levels) (listed .table ∷ []))
+    inner-levels = omega (arith, list-deep, h .deep, within-length (h .levels) (length (h .levels)) (listed .from) refl)
 
     pub list-plain-asked : (length kinds ≡ mostEntries) × ((k < mostEntries) × ((row < 256) × ((table < 256) × (recordSize * k + recordSize ≤ length records))))
     list-plain-asked = plain-asked list-room row table (omega arith) (omega (arith, is-row, row-small every)) (omega (arith, is-table, part-small .table))
 
     module _ {kinds1 records1 : List ℕ} (put : (kinds1 ≡ placed kinds k (row ∷ [])) × (records1 ≡ placed records (recordSize * k) (plainRecord 0 table)))
-        {kind : ℕ} (is-kind : kind ≡ pairKindAs every (joinKind And)) where
+        {kind : ℕ} (is-kind : JoinedAs every (joinKind And) kind) where
       put-row : Plain k row table kinds records kinds1 records1
       put-row = record { kinds-are = put .0; records-are = put .1 }
 
       row-room : Room kinds1 records1 (k + 1) (1 + entries innerCard + 1)
       row-room = room-plain list-room (omega arith) put-row (k + 1) (1 + entries innerCard + 1) (omega arith)
 
-      list-kind : kind ≡ cardKind (PairHead (listConnective every))
-      list-kind = is-kind ∙ list-kind-is every
+      list-kind : kind ≡ pairKind (listConnective every)
+      list-kind = is-kind And refl ∙ list-kind-is every
 
       pub list-plain-asked-2 : (length kinds1 ≡ mostEntries) × ((k + 1 < mostEntries) × ((kind < 256) × ((0 < 256) × (recordSize * (k + 1) + recordSize ≤ length records1))))
       list-plain-asked-2 = plain-asked row-room kind 0 (omega arith) (omega (arith, list-kind, pair-small (listConnective every))) (omega arith)
@@ -491,7 +459,7 @@ module _ {p : List ℕ} {s : ℕ} {negate unknown : Bool} {kinds records : List 
                   let low = list-room .kinds-fit in
                   let long = list-room .records-fit in
                   rw list-card
-                  (row-written (omega (arith, h .room .kinds-size)) (omega arith) put-row (quantifierOf every) (is-row ∙ row-kind-is every table) refl pair-done e)
+                  (row-written (omega (arith, h .room .kinds-size)) (omega arith) put-row (quantifierOf every) (is-row ∙ row-kind-is every) refl pair-done e)
 
 -- ---- under NOTs
 
@@ -499,7 +467,7 @@ module _ {p : List ℕ} {s : ℕ} {negate unknown : Bool} where
   pub under-none : StandsUnder p s negate unknown (record { part = s; negate = negate; unknown = unknown })
   under-none = record { behind = omega arith; ready = λ h. h; wrote = λ f. f }
 
-  pub under-more : {t : ℕ} {a b : Bool} → StandsUnder p s negate unknown (record { part = t; negate = a; unknown = b }) → getD p (partSize * t) 0 ≡ notKind
+  pub under-more : {t : ℕ} {a b : Bool} → StandsUnder p s negate unknown (record { part = t; negate = a; unknown = b }) → getD p (partSize * t) 0 ≡ unaryKind Not
       → StandsUnder p s negate unknown (record { part = t + 1; negate = not a; unknown = not b })
   under-more u kind =
       record {

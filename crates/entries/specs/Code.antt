@@ -1,22 +1,22 @@
 -- What the functions of src/ promise one another and their callers, in the terms of the code: parts in an array, kinds and records in bytes. The
 -- contract of a public call cites nothing of this file.
 use mathlib.Core.Path.{_≡_}
-use mathlib.Core.Bool.{Bool, true, false, cond}
+use mathlib.Core.Bool.{Bool, true, false}
 use mathlib.Core.List.{List, _∷_}
 use Prim.Native.Nat.{ℕ, _+_, _*_, _<_, _≤_}
 use lib.ListN.{length, getD}
 use Rattle.tables.specs.Lists.{placed}
 use Rattle.tables.specs.Bytes.{bytes32}
-use Rattle.tables.specs.Values.{mostLevels, Value, Comparison, comparisonNumber}
-use Rattle.card.specs.Card.{Interpretation, AsNo, AsYes, Leaf, CompareLeaf, BlankLeaf, NotBlankLeaf, Card, LeafEntry, entries}
+use Rattle.tables.specs.Values.{mostLevels, Value, Comparison, comparisonNumber, MarkTest}
+use Rattle.card.specs.Card.{Interpretation, AsNo, AsYes, Leaf, CompareLeaf, MarkLeaf, Card, LeafEntry, entries}
 use Rattle.card.specs.Layout.{recordSize, valueBytes, kindBytes, recordsFrom}
 use Rattle.card.specs.Sound.{mostEntries}
 use Rattle.rule.specs.Condition.{Rule, parts, fromsDeep}
 use Rattle.rule.specs.Names.{mostParts, Fits}
-use Rattle.rule.specs.Parts.{nullKind, notNullKind}
+use Rattle.rule.specs.Parts.{markKind}
 use Rattle.names.specs.Code.{partSize, partsSize, partComparison, partLeftTag, partRightTag}
 use Rattle.translation.specs.Translation.{otherLeaf, negated, cardOf}
-use Rattle.parser.specs.Parts.{Stands, SmallPart, SmallParts}
+use Rattle.parts.specs.Parts.{Stands, SmallPart, SmallParts}
 use Rattle.records.specs.Code.{byteNumber}
 use Rattle.entries.specs.declared.Under.{Under}
 
@@ -70,25 +70,20 @@ ComparedTo p s negate unknown kinds records kinds′ records′ k r =
     (h : CompareReady p s kinds records k)
     → Wrote k (LeafEntry (leafAs negate (CompareLeaf (interpretationOf unknown) (h .comparison) (h .left) (h .right)))) kinds records kinds′ records′ r
 
--- blank, or not blank
-abbrev pub nullLeaf : Bool → Value → Leaf
-nullLeaf true l = BlankLeaf l
-nullLeaf false l = NotBlankLeaf l
-
--- part s is IS NULL, or IS NOT NULL
-pub record NullReady (p : List ℕ) (s : ℕ) (kinds records : List ℕ) (k : ℕ) : Type 0 where
+-- part s is a test by the mark
+pub record MarkReady (p : List ℕ) (s : ℕ) (kinds records : List ℕ) (k : ℕ) : Type 0 where
   pub size : length p ≡ partsSize
   pub few : s < mostParts
   pub small : SmallPart p s
   pub room : Room kinds records k 1
-  pub blank : Bool
+  pub mark : MarkTest
   pub left : Value
-  pub kind-is : getD p (partSize * s) 0 ≡ cond blank nullKind notNullKind
+  pub kind-is : getD p (partSize * s) 0 ≡ markKind mark
   pub left-is : valueBytesIn p (partSize * s + partLeftTag) ≡ valueBytes left
 
-abbrev pub NulledTo : (p : List ℕ) (s : ℕ) (negate : Bool) (kinds records kinds′ records′ : List ℕ) (k : ℕ) → ℕ → Type 0
-NulledTo p s negate kinds records kinds′ records′ k r =
-    (h : NullReady p s kinds records k) → Wrote k (LeafEntry (leafAs negate (nullLeaf (h .blank) (h .left)))) kinds records kinds′ records′ r
+abbrev pub MarkedTo : (p : List ℕ) (s : ℕ) (negate : Bool) (kinds records kinds′ records′ : List ℕ) (k : ℕ) → ℕ → Type 0
+MarkedTo p s negate kinds records kinds′ records′ k r =
+    (h : MarkReady p s kinds records k) → Wrote k (LeafEntry (leafAs negate (MarkLeaf (h .mark) (h .left)))) kinds records kinds′ records′ r
 
 -- the parts from number s on are those of a rule that fits its tables, and there is room for the entries of its card
 pub record Writable (p : List ℕ) (s : ℕ) (negate unknown : Bool) (kinds records : List ℕ) (k : ℕ) : Type 0 where

@@ -3,13 +3,13 @@
 // Short names: p, the parts as numbers; s, the number of a part; k, the number of an entry; unknown, what unknown counts as: no (false-interpreted) or yes;
 // negate, whether the part is negated.
 ghost use mathlib.Core.Path.{_≡_};
-ghost use Prim.Native.Nat.{_+_, _*_, _<_, _≤_};
+ghost use Prim.Native.Nat.{_+_, _*_, _<_};
 ghost use lib.ListN.{length, getD};
-ghost use Rattle.tables.specs.Values.{And, Or, Some};
 ghost use Rattle.rule.specs.Names.{mostParts};
-ghost use Rattle.rule.specs.Parts.{joinKind, listKind, existsKind};
+ghost use Rattle.rule.specs.Parts.{existsKind};
+ghost use Rattle.rule.specs.Groups.{JoinNumber, ListNumber};
 ghost use Rattle.names.specs.Code.{partSize, partsSize};
-ghost use Rattle.entries.specs.Code.{CompareReady, ComparedTo, NullReady, NulledTo, StandsUnder, Writable, WroteTo};
+ghost use Rattle.entries.specs.Code.{CompareReady, ComparedTo, MarkReady, MarkedTo, StandsUnder, Writable, WroteTo};
 use card::MOST_ENTRIES;
 use card::RECORD_SIZE;
 use grammar::MOST_PARTS;
@@ -31,6 +31,7 @@ use rule::NOT_NULL_PART;
 use rule::NOT_PART;
 use rule::NULL_PART;
 use rule::OR_PART;
+use rule::SOME_PART;
 
 // Number i of part s.
 fn field(p: &[usize; PART_NUMBERS], s: usize, i: usize) -> usize
@@ -66,7 +67,7 @@ fn write_comparison(
 }
 
 // IS NULL or IS NOT NULL.
-fn write_null(
+fn write_mark(
     p: &[usize; PART_NUMBERS],
     s: usize,
     negate: bool,
@@ -74,11 +75,11 @@ fn write_null(
     records: &mut [u8],
     k: usize,
 ) -> usize
-    requires { ⌜ NullReady (now p) s (now kinds) (now records) k ⌝ }
-    ensures { λ r. ⌜ NulledTo (now (p .entry)) s negate (now (kinds .entry)) (now (records .entry)) (now (kinds .exit)) (now (records .exit)) k r ⌝ }
+    requires { ⌜ MarkReady (now p) s (now kinds) (now records) k ⌝ }
+    ensures { λ r. ⌜ MarkedTo (now (p .entry)) s negate (now (kinds .entry)) (now (records .entry)) (now (kinds .exit)) (now (records .exit)) k r ⌝ }
 {
     let leaf = LeafNumbers {
-        kind: records::null_kind(p[PART_FIELDS * s], negate),
+        kind: records::mark_kind(p[PART_FIELDS * s], negate),
         comparison: 0,
         left_tag: field(p, s, PART_LEFT_TAG),
         left_number: field(p, s, PART_LEFT_NUMBER),
@@ -153,9 +154,13 @@ pub fn write_part(
             )
         }
         COMPARISON_PART => write_comparison(p, s, negate, unknown, kinds, records, k),
-        NULL_PART | NOT_NULL_PART => write_null(p, s, negate, kinds, records, k),
+        NULL_PART | NOT_NULL_PART => write_mark(p, s, negate, kinds, records, k),
         EXISTS_PART => write_exists(p, s, negate, unknown, kinds, records, k),
-        _ => write_list(p, s, negate, unknown, kinds, records, k),
+        SOME_PART | ALL_PART => write_list(p, s, negate, unknown, kinds, records, k),
+        _ => {
+            cells::never();
+            k
+        }
     }
 }
 
@@ -169,7 +174,7 @@ fn write_pair(
     records: &mut [u8],
     k: usize,
 ) -> usize
-    requires { ⌜ Writable (now p) s negate unknown (now kinds) (now records) k ⌝ ∗ ⌜ (joinKind And ≤ getD (now p) (partSize * s) 0) × (getD (now p) (partSize * s) 0 ≤ joinKind Or) ⌝ }
+    requires { ⌜ Writable (now p) s negate unknown (now kinds) (now records) k ⌝ ∗ ⌜ JoinNumber (getD (now p) (partSize * s) 0) ⌝ }
     ensures { λ r. ⌜ WroteTo (now (p .entry)) s negate unknown (now (kinds .entry)) (now (records .entry)) (now (kinds .exit)) (now (records .exit)) k r ⌝ }
 {
     let kind = records::pair_kind(p[PART_FIELDS * s], negate);
@@ -213,7 +218,7 @@ fn write_list(
     records: &mut [u8],
     k: usize,
 ) -> usize
-    requires { ⌜ Writable (now p) s negate unknown (now kinds) (now records) k ⌝ ∗ ⌜ listKind Some ≤ getD (now p) (partSize * s) 0 ⌝ }
+    requires { ⌜ Writable (now p) s negate unknown (now kinds) (now records) k ⌝ ∗ ⌜ ListNumber (getD (now p) (partSize * s) 0) ⌝ }
     ensures { λ r. ⌜ WroteTo (now (p .entry)) s negate unknown (now (kinds .entry)) (now (records .entry)) (now (kinds .exit)) (now (records .exit)) k r ⌝ }
 {
     let every = (p[PART_FIELDS * s] == ALL_PART) != negate;

@@ -1,14 +1,14 @@
 -- What a part asks for and comes to, by its kind: from a rule that stands in an array, and from the rows at which the levels stand.
 use mathlib.Core.Path.{_≡_, refl, sym, ap, ap₂, subst, _∙_}
 use mathlib.Core.Bool.{Bool, true, false, cond}
-use mathlib.Core.List.{List, [], _∷_, _++_, map}
+use mathlib.Core.List.{List, map}
 use Prim.Native.Nat.{ℕ, suc, _+_, _-_, _*_, _<_, _≤_}
 use native.Mathlib.Numerals.{add-one}
 use native.Mathlib.Omega.{arith}
 use lib.ListN.{length, getD, set}
 use Rattle.tables.specs.Lists.{tabulate}
 use Rattle.tables.specs.Tables.{mostTables, mostCells, Row, columnsOf, tablesOf, rowsOf}
-use Rattle.tables.specs.Values.{mostLevels, comparisonOf, Connective, And, Or, Quantifier, Some, All, Env, _▸_, cellOf}
+use Rattle.tables.specs.Values.{mostLevels, comparisonOf, Connective, And, Or, Quantifier, Some, Env, _▸_, cellOf}
 use Rattle.tables.proofs.Values.{comparison-back}
 use Rattle.tables.proofs.Tabulated.{tabulate-map}
 use Rattle.cells.specs.Code.{seenCell, placeIn}
@@ -17,23 +17,25 @@ use Rattle.cells.specs.declared.Place.{Place}
 use Rattle.values.specs.Code.{rowFrom, Readable, ValueReady, Sees}
 use Rattle.values.proofs.Rows.{TableAt}
 use Rattle.values.proofs.Ranging.{NextRow, next-none, next-more, table-bounds, table-here, row-deep, row-room as room-at, row-readable}
-use Rattle.rule.specs.Condition.{Atom, Join, Not, Exists, Listed, Rule, parts, fromsDeep}
-use Rattle.rule.specs.Names.{mostParts, ValueFits, TestFits, TableFits, Fits}
-use Rattle.rule.specs.Meaning.{Truth, False, True, truth, isTrue, compare3, over3, meaning, truthNumber}
-use Rattle.rule.specs.Parts.{joinKind, notKind, compareKind, notNullKind, existsKind, listKind}
+use Rattle.rule.specs.Condition.{Unary, Not, From, Single, Atom, Join, Apply, Exists, Listed, Rule, parts, fromsDeep}
+use Rattle.rule.specs.Names.{mostParts, within, ValueFits, TestFits, FromFits, Fits}
+use Rattle.rule.specs.Meaning.{Truth, False, True, truth, isTrue, unary3, compare3, over3, meaning, truthNumber}
+use Rattle.rule.specs.Parts.{joinKind, unaryKind, existsKind, tableOf}
+use Rattle.rule.specs.Groups.{lastKind, TestNumber}
 use Rattle.names.specs.Code.{partSize, partComparison, partTable, partEnd, partLeftTag, partLeftNumber, partRightTag, partRightNumber}
-use Rattle.parser.specs.Parts.{Stands}
-use Rattle.tables.proofs.Rows.{any-kept}
-use Rattle.parser.proofs.Parts.{parts-low, kind-low, kind-high, part-comparison, part-table, part-left-tag, part-left-number, part-right-tag, part-right-number, IsTest, IsJoin, IsNot, IsExists, IsListed, is-test, is-join, is-not, is-exists, is-listed}
-use Rattle.evaluator.specs.Code.{decidedBy, taken, Decides, unlessUnknown, emptyTruth, emptyOver, quantifierOf, OverNone, TestReady, TestEvaluated, Evaluable, Evaluates, RowReady, RowEvaluated}
-use Rattle.evaluator.proofs.Truths.{rank-high, not-rank, decidesOf, join-rank, left-stop, is-kept, not-kept, overRows, over-none, over-kept, exists-some, over-more, over-stop, over-on, none-open, more-open, quantifier-back, none-decides}
+use Rattle.parts.specs.Parts.{Stands}
+use Rattle.rule.proofs.Parts.{from-back}
+use Rattle.rule.proofs.Groups.{test-number}
+use Rattle.parts.proofs.Parts.{parts-low, kind-low, kind-high, part-comparison, part-table, part-left-tag, part-left-number, part-right-tag, part-right-number, IsTest, IsJoin, IsUnary, IsExists, IsListed, is-test, is-join, is-unary, is-exists, is-listed}
+use Rattle.evaluator.specs.Code.{decidedBy, taken, Decides, unlessUnknown, emptyTruth, emptyOver, OverNone, TestReady, TestEvaluated, Evaluable, Evaluates, RowReady, RowEvaluated}
+use Rattle.evaluator.proofs.Truths.{rank-high, join-rank, left-stop, is-kept, not-kept, overRows, over-none, over-more, over-stop, over-on, none-open, more-open, quantifierOf, kind-is, none-is, none-decides}
+use Rattle.evaluator.proofs.Rows.{exists-rows, listed-rows}
 use Rattle.evaluator.proofs.Testing.{value-ready, value-seen}
 
 -- ---- connectives, by their kinds
 
-pub decides-join : {kind : ℕ} (j : Connective) → kind ≡ joinKind j → Decides kind (decidesOf j)
-decides-join And e = record { low = omega arith; high = omega arith; decides-is = ap decidedBy (sym e) }
-decides-join Or e = record { low = omega arith; high = omega arith; decides-is = ap decidedBy (sym e) }
+pub decides-join : {kind : ℕ} (j : Connective) → kind ≡ joinKind j → Decides kind (decidedBy j)
+decides-join j e = record { joins = (j, e); decides-is = refl }
 
 -- ---- rows
 
@@ -41,9 +43,9 @@ decides-join Or e = record { low = omega arith; high = omega arith; decides-is =
 unfoldable pub rowValue : List ℕ → Env → Rule → Row → Truth
 rowValue file env (Atom x) row = False
 rowValue file env (Join j a b) row = False
-rowValue file env (Not a) row = False
-rowValue file env (Exists t w) row = truth (isTrue (meaning (tablesOf file) (env ▸ row) w))
-rowValue file env (Listed q op l s t w) row =
+rowValue file env (Apply u a) row = False
+rowValue file env (Exists (Single t) w) row = truth (isTrue (meaning (tablesOf file) (env ▸ row) w))
+rowValue file env (Listed q op l s (Single t) w) row =
     cond (isTrue (meaning (tablesOf file) (env ▸ row) w)) (compare3 op (cellOf env l) (cellOf (env ▸ row) s)) (emptyTruth q)
 
 -- row k of the table at a place
@@ -54,7 +56,7 @@ rowOf file at k = rowFrom file (at .first + k * at .columns) (at .columns)
 pub record RowsPassed (p g file w : List ℕ) (s depth : ℕ) (q : Quantifier) (at : Place) (r first value : ℕ) (v : List ℕ) : Type 0 where
   pub within : r ≤ at .rows
   pub next : NextRow w depth (at .first) (at .columns) r first v
-  pub undecided : value ≡ decidesOf (overRows q) → ⊥
+  pub undecided : value ≡ decidedBy (overRows q) → ⊥
   pub value-is : (h : Evaluable p g file w s depth)
       → value ≡ truthNumber (over3 q (tabulate r (λ k. rowValue file (h .env) (h .rule) (rowOf file at k))))
 
@@ -69,7 +71,7 @@ module _ (p g file w : List ℕ) (s depth : ℕ) (q : Quantifier) (at : Place) w
       }
 
   module _ {r first value : ℕ} {v : List ℕ} (passed : RowsPassed p g file w s depth q at r first value v) (below : r < at .rows)
-      (row : ℕ) (undecides : row ≡ decidesOf (overRows q) → ⊥) (row-is : (h : Evaluable p g file w s depth) → row ≡ truthNumber (rowValue file (h .env) (h .rule) (rowFrom file first (at .columns)))) where
+      (row : ℕ) (undecides : row ≡ decidedBy (overRows q) → ⊥) (row-is : (h : Evaluable p g file w s depth) → row ≡ truthNumber (rowValue file (h .env) (h .rule) (rowFrom file first (at .columns)))) where
     more-value : (h : Evaluable p g file w s depth)
         → unlessUnknown row value ≡ truthNumber (over3 q (tabulate (suc r) (λ k. rowValue file (h .env) (h .rule) (rowOf file at k))))
     more-value h =
@@ -106,6 +108,9 @@ module _ {p g file w : List ℕ} {s depth : ℕ} (h : Evaluable p g file w s dep
   abbrev Means : ℕ → Type 0
   Means v = v ≡ truthNumber (meaning (tablesOf file) (h .env) (h .rule))
 
+  pub kind-bounds : (joinKind And ≤ kindHere) × (kindHere ≤ lastKind)
+  kind-bounds = (kind-low p s (h .rule) (h .stands), kind-high p s (h .rule) (h .stands))
+
   pub start : s < mostParts
   start = omega (arith, h .few, parts-low (h .rule))
 
@@ -141,17 +146,13 @@ module _ {p g file w : List ℕ} {s depth : ℕ} (h : Evaluable p g file w s dep
 
   -- ---- a test
 
-  -- what has no other kind is one
-  pub test-kinds : (((((Unit {0} × NotKind (joinKind And)) × NotKind (joinKind Or)) × NotKind notKind) × NotKind existsKind) × NotKind (listKind Some)) × NotKind (listKind All)
-      → (compareKind ≤ kindHere) × (kindHere ≤ notNullKind)
-  test-kinds r =
-      let low = kind-low p s (h .rule) (h .stands) in
-      let high = kind-high p s (h .rule) (h .stands) in
-      (omega arith, omega arith)
+  -- what is neither AND, OR nor NOT and comes before EXISTS is one
+  pub test-left : ((Unit {0} × NotKind (joinKind And)) × NotKind (joinKind Or)) × NotKind (unaryKind Not) → kindHere < existsKind → TestNumber kindHere
+  test-left other high = let low = kind-bounds .0 in test-number kindHere (omega arith) (omega arith)
 
-  module _ (low : compareKind ≤ kindHere) (high : kindHere ≤ notNullKind) where
+  module _ (k : TestNumber kindHere) where
     test-here : IsTest p s (h .rule)
-    test-here = is-test p s (h .rule) (h .stands) low high
+    test-here = is-test p s (h .rule) (h .stands) k
 
     test-fits : TestFits (columnsOf file) (h .levels) (test-here .test)
     unfolding Fits
@@ -176,35 +177,39 @@ module _ {p g file w : List ℕ} {s depth : ℕ} (h : Evaluable p g file w s dep
 
   -- ---- NOT
 
-  module _ (k : kindHere ≡ notKind) where
-    not-here : IsNot p s (h .rule)
-    not-here = is-not p s (h .rule) (h .stands) k
+  module _ (u : Unary) (k : kindHere ≡ unaryKind u) where
+    unary-here : IsUnary p s u (h .rule)
+    unary-here = is-unary p s (h .rule) (h .stands) (u, k)
 
-    pub not-inner : Evaluable p g file w (s + 1) depth
+    pub unary-inner : Evaluable p g file w (s + 1) depth
     unfolding parts fromsDeep Fits
-    not-inner =
-        inner-as (s + 1) (not-here .inner) (omega (arith, few-as (not-here .is))) (not-here .inner-stands) (room-as (not-here .is)) (fits-as (not-here .is))
+    unary-inner =
+        inner-as (s + 1) (unary-here .inner) (omega (arith, few-as (unary-here .is))) (unary-here .inner-stands) (room-as (unary-here .is)) (fits-as (unary-here .is))
+
+    abbrev unaryTruth : Truth
+    unaryTruth = meaning (tablesOf file) (h .env) (unary-here .inner)
 
     module _ (v : ℕ) (evaluated : Evaluates p g file w (s + 1) depth v) where
-      not-value : v ≡ truthNumber (meaning (tablesOf file) (h .env) (not-here .inner))
-      unfolding not-inner inner-as
-      not-value = evaluated not-inner
+      unary-value : v ≡ truthNumber unaryTruth
+      unfolding unary-inner inner-as
+      unary-value = evaluated unary-inner
 
-      pub not-room : v ≤ truthNumber True
-      not-room = omega (arith, not-value, rank-high (meaning (tablesOf file) (h .env) (not-here .inner)))
+      pub unary-room : v ≤ truthNumber True
+      unary-room = omega (arith, unary-value, rank-high unaryTruth)
 
-      pub not-evaluated : Means (truthNumber True - v)
+      -- what the code makes of v, if it does so of each truth value
+      pub unary-evaluated : (f : ℕ → ℕ) → ((a : Truth) → f (truthNumber a) ≡ truthNumber (unary3 u a)) → Means (f v)
       unfolding meaning
-      not-evaluated = ap (truthNumber True -_) not-value ∙ not-rank (meaning (tablesOf file) (h .env) (not-here .inner)) ∙ ap truthNumber (means-as (not-here .is))
+      unary-evaluated f law = ap f unary-value ∙ law unaryTruth ∙ ap truthNumber (means-as (unary-here .is))
 
   -- ---- AND and OR
 
   module _ {decides : ℕ} (o : Decides kindHere decides) where
-    join-here : IsJoin p s (h .rule)
-    join-here = is-join p s (h .rule) (h .stands) (o .low) (o .high)
+    abbrev j : Connective
+    j = o .joins .0
 
-    join-decides : decides ≡ decidesOf (join-here .connective)
-    join-decides = o .decides-is ∙ ap decidedBy (join-here .kind-is)
+    join-here : IsJoin p s j (h .rule)
+    join-here = is-join p s (h .rule) (h .stands) (o .joins)
 
     abbrev next : ℕ
     next = getD p (partSize * (s + 1) + partEnd) 0
@@ -240,17 +245,17 @@ module _ {p g file w : List ℕ} {s depth : ℕ} (h : Evaluable p g file w s dep
       pub join-stops : a ≡ decides → Means decides
       unfolding meaning
       join-stops e =
-          join-decides
-          ∙ left-stop (join-here .connective) _ (meaning (tablesOf file) (h .env) (join-here .right)) (sym left-value ∙ e ∙ join-decides)
+          o .decides-is
+          ∙ left-stop j _ (meaning (tablesOf file) (h .env) (join-here .right)) (sym left-value ∙ e ∙ o .decides-is)
           ∙ ap truthNumber (means-as (join-here .is))
 
       pub join-evaluated : (b : ℕ) → Evaluates p g file w next depth b → (v : ℕ) → v ≡ taken decides a b → Means v
       unfolding meaning right-inner inner-as
       join-evaluated b right v e =
           e
-          ∙ ap (λ (d : ℕ). taken d a b) join-decides
-          ∙ ap₂ (taken (decidesOf (join-here .connective))) left-value (right right-inner)
-          ∙ join-rank (join-here .connective) _ _
+          ∙ ap (λ (d : ℕ). taken d a b) (o .decides-is)
+          ∙ ap₂ (taken (decidedBy j)) left-value (right right-inner)
+          ∙ join-rank j _ _
           ∙ ap truthNumber (means-as (join-here .is))
 
   -- ---- the rows of a table
@@ -261,24 +266,27 @@ module _ {p g file w : List ℕ} {s depth : ℕ} (h : Evaluable p g file w s dep
   -- EXISTS and lists: the table, and the rule that is evaluated at its rows
   pub record Ranging : Type 0 where
     pub inner : Rule
-    pub table-fits : TableFits (columnsOf file) tableHere
+    pub table-fits : FromFits (columnsOf file) (Single tableHere)
     pub inner-stands : Stands p (s + 1) inner
     pub inner-few : s + 1 + parts inner ≤ mostParts
     pub inner-room : depth + 1 + fromsDeep inner ≤ mostLevels
-    pub inner-fits : Fits (columnsOf file) (h .levels ++ (tableHere ∷ [])) inner
+    pub inner-fits : Fits (columnsOf file) (within (h .levels) (Single tableHere)) inner
 
-  -- from the table's number in the rule
-  abbrev ranging : (inner : Rule) (t : ℕ) → tableHere ≡ t → TableFits (columnsOf file) t → Stands p (s + 1) inner → s + (1 + parts inner) ≤ mostParts
-      → depth + (1 + fromsDeep inner) ≤ mostLevels → Fits (columnsOf file) (h .levels ++ (t ∷ [])) inner → Ranging
-  ranging inner t e table stands few room fits =
+  abbrev ranging : (inner : Rule) → FromFits (columnsOf file) (Single tableHere) → Stands p (s + 1) inner → s + (1 + parts inner) ≤ mostParts
+      → depth + (1 + fromsDeep inner) ≤ mostLevels → Fits (columnsOf file) (within (h .levels) (Single tableHere)) inner → Ranging
+  ranging inner table stands few room fits =
       record {
         inner = inner;
-        table-fits = rw e table;
+        table-fits = table;
         inner-stands = stands;
         inner-few = omega arith;
         inner-room = omega arith;
-        inner-fits = subst (λ (t : ℕ). Fits (columnsOf file) (h .levels ++ (t ∷ [])) inner) (sym e) fits;
+        inner-fits = fits;
       }
+
+  -- a FROM by its table's number in the part
+  from-here : (f : From ℕ) → tableHere ≡ tableOf f → f ≡ Single tableHere
+  from-here f e = sym (from-back f) ∙ ap Single (sym e)
 
   -- the bounds of its numbers
   pub record RangeBounds : Type 0 where
@@ -314,13 +322,13 @@ module _ {p g file w : List ℕ} {s depth : ℕ} (h : Evaluable p g file w s dep
       pub row-room : first + at .columns ≤ mostCells
       row-room = rw there (room-at (h .readable) tableHere (a .table-fits) (h .deep) (next-at .0) (next-at .1))
 
-      row-seen : Readable g file (set v depth first) (h .levels ++ (tableHere ∷ [])) (h .env ▸ rowHere first)
+      row-seen : Readable g file (set v depth first) (within (h .levels) (Single tableHere)) (h .env ▸ rowHere first)
       row-seen = rw there (row-readable (h .readable) tableHere (a .table-fits) (h .deep) (next-at .0) (next-at .1) (range-bounds a .shallow))
 
       pub row-inner : Evaluable p g file (set v depth first) (s + 1) (depth + 1)
       row-inner =
           record {
-            levels = h .levels ++ (tableHere ∷ []);
+            levels = within (h .levels) (Single tableHere);
             env = h .env ▸ rowHere first;
             rule = a .inner;
             readable = row-seen;
@@ -336,15 +344,15 @@ module _ {p g file w : List ℕ} {s depth : ℕ} (h : Evaluable p g file w s dep
     abbrev rowsHere : ℕ → List Truth
     rowsHere n = tabulate n (λ k. rowValue file (h .env) (h .rule) (rowOf file at k))
 
-    rows-as : {r : Rule} {t : ℕ} (q : Quantifier) → h .rule ≡ r → tableHere ≡ t → over3 q (rowsHere (at .rows)) ≡ over3 q (map (rowValue file (h .env) r) (rowsOf (tablesOf file) t))
-    rows-as q is e =
+    rows-as : {r : Rule} (q : Quantifier) → h .rule ≡ r → over3 q (rowsHere (at .rows)) ≡ over3 q (map (rowValue file (h .env) r) (rowsOf (tablesOf file) tableHere))
+    rows-as q is =
         ap (over3 q) (sym (tabulate-map (rowValue file (h .env) (h .rule)) (at .rows) (rowOf file at)))
         ∙ ap (λ rows. over3 q (map (rowValue file (h .env) (h .rule)) rows)) (sym (table .rows-are))
-        ∙ ap₂ (λ (r : Rule) (t : ℕ). over3 q (map (rowValue file (h .env) r) (rowsOf (tablesOf file) t))) is e
+        ∙ ap (λ (r : Rule). over3 q (map (rowValue file (h .env) r) (rowsOf (tablesOf file) tableHere))) is
 
     module _ {q : Quantifier} {r first value : ℕ} {v : List ℕ} (whole : over3 q (rowsHere (at .rows)) ≡ meaning (tablesOf file) (h .env) (h .rule))
         (passed : RowsPassed p g file w s depth q at r first value v) where
-      row-decides : r < at .rows → (row : ℕ) → row ≡ truthNumber (rowValue file (h .env) (h .rule) (rowFrom file first (at .columns))) → row ≡ decidesOf (overRows q) → Means row
+      row-decides : r < at .rows → (row : ℕ) → row ≡ truthNumber (rowValue file (h .env) (h .rule) (rowFrom file first (at .columns))) → row ≡ decidedBy (overRows q) → Means row
       row-decides below row row-is e =
           let f : ℕ → Truth = λ k. rowValue file (h .env) (h .rule) (rowOf file at k) in
           let next : row ≡ truthNumber (f r) = row-is ∙ ap (λ (k : ℕ). truthNumber (rowValue file (h .env) (h .rule) (rowFrom file k (at .columns)))) (passed .next .first-is) in
@@ -361,26 +369,20 @@ module _ {p g file w : List ℕ} {s depth : ℕ} (h : Evaluable p g file w s dep
     exists-here : IsExists p s (h .rule)
     exists-here = is-exists p s (h .rule) (h .stands) k
 
-    exists-table : tableHere ≡ exists-here .table
-    exists-table = part-table (exists-here .here)
+    exists-is : h .rule ≡ Exists (Single tableHere) (exists-here .inner)
+    exists-is = exists-here .is ∙ ap (λ f. Exists f (exists-here .inner)) (from-here (exists-here .from) (part-table (exists-here .here)))
 
     pub exists-ranging : Ranging
     unfolding parts fromsDeep Fits
     exists-ranging =
-        let is = exists-here .is in
-        ranging (exists-here .inner) _ exists-table (fits-as is .0) (exists-here .inner-stands) (few-as is) (room-as is) (fits-as is .1)
-
-    abbrev retained : Row → Bool
-    retained row = isTrue (meaning (tablesOf file) (h .env ▸ row) (exists-here .inner))
+        let is = exists-is in
+        ranging (exists-here .inner) (fits-as is .0) (exists-here .inner-stands) (few-as is) (room-as is) (fits-as is .1)
 
     module _ {at : Place} (there : at ≡ placeIn g tableHere) where
-      exists-rows : over3 Some (rowsHere exists-ranging there (at .rows)) ≡ meaning (tablesOf file) (h .env) (h .rule)
-      unfolding rowValue meaning
-      exists-rows =
-          rows-as exists-ranging there Some (exists-here .is) exists-table
-          ∙ sym (exists-some retained (rowsOf (tablesOf file) (exists-here .table)))
-          ∙ ap truth (any-kept retained (rowsOf (tablesOf file) (exists-here .table)))
-          ∙ means-as (exists-here .is)
+      exists-whole : over3 Some (rowsHere exists-ranging there (at .rows)) ≡ meaning (tablesOf file) (h .env) (h .rule)
+      unfolding rowValue
+      exists-whole =
+          rows-as exists-ranging there Some exists-is ∙ exists-rows (tablesOf file) (h .env) tableHere (exists-here .inner) ∙ means-as exists-is
 
       module _ {r first : ℕ} {v : List ℕ} (below : r < at .rows) (passed : RowsPassed p g file w s depth Some at r first (truthNumber False) v) where
         pub exists-inner : Evaluable p g file (set v depth first) (s + 1) (depth + 1)
@@ -396,12 +398,12 @@ module _ {p g file w : List ℕ} {s depth : ℕ} (h : Evaluable p g file w s dep
 
           row-as : truth (isTrue exists-at) ≡ rowValue file (h .env) (h .rule) (rowFrom file first (at .columns))
           unfolding rowValue
-          row-as = sym (ap (λ r. rowValue file (h .env) r (rowFrom file first (at .columns))) (exists-here .is))
+          row-as = sym (ap (λ r. rowValue file (h .env) r (rowFrom file first (at .columns))) exists-is)
 
           pub exists-true : kept ≡ truthNumber True → Means (truthNumber True)
           exists-true e =
               let kept-is = is-kept exists-at (sym exists-value ∙ e) in
-              row-decides exists-ranging there exists-rows passed below (truthNumber True) (ap (λ b. truthNumber (truth b)) (sym kept-is) ∙ ap truthNumber row-as) refl
+              row-decides exists-ranging there exists-whole passed below (truthNumber True) (ap (λ b. truthNumber (truth b)) (sym kept-is) ∙ ap truthNumber row-as) refl
 
           pub exists-lost : (kept ≡ truthNumber True → ⊥) → truthNumber False ≡ truthNumber (rowValue file (h .env) (h .rule) (rowFrom file first (at .columns)))
           exists-lost f =
@@ -410,39 +412,35 @@ module _ {p g file w : List ℕ} {s depth : ℕ} (h : Evaluable p g file w s dep
 
       pub exists-false : {r first : ℕ} {v : List ℕ} → RowsPassed p g file w s depth Some at r first (truthNumber False) v → at .rows ≤ r
           → Means (truthNumber False)
-      exists-false passed end = rows-end exists-ranging there exists-rows passed end
+      exists-false passed end = rows-end exists-ranging there exists-whole passed end
 
   -- ---- SOME and ALL
 
   module _ {empty : ℕ} (o : OverNone kindHere empty) where
-    listed-here : IsListed p s (h .rule)
-    listed-here = is-listed p s (h .rule) (h .stands) (o .low)
-
     abbrev q : Quantifier
     q = quantifierOf kindHere
 
-    listed-is : h .rule ≡ Listed q (listed-here .op) (listed-here .left) (listed-here .selected) (listed-here .table) (listed-here .inner)
+    listed-here : IsListed p s q (h .rule)
+    listed-here = is-listed p s (h .rule) (h .stands) (q, kind-is o)
+
+    listed-is : h .rule ≡ Listed q (listed-here .op) (listed-here .left) (listed-here .selected) (Single tableHere) (listed-here .inner)
     listed-is =
         listed-here .is
-        ∙ ap (λ q. Listed q (listed-here .op) (listed-here .left) (listed-here .selected) (listed-here .table) (listed-here .inner))
-        (sym (ap quantifierOf (listed-here .kind-is) ∙ quantifier-back (listed-here .quantifier)))
-
-    listed-table : tableHere ≡ listed-here .table
-    listed-table = part-table (listed-here .here)
+        ∙ ap (λ f. Listed q (listed-here .op) (listed-here .left) (listed-here .selected) f (listed-here .inner)) (from-here (listed-here .from) (part-table (listed-here .here)))
 
     pub listed-ranging : Ranging
     unfolding parts fromsDeep Fits
     listed-ranging =
-        let is = listed-here .is in
-        ranging (listed-here .inner) _ listed-table (fits-as is .0) (listed-here .inner-stands) (few-as is) (room-as is) (fits-as is .3)
+        let is = listed-is in
+        ranging (listed-here .inner) (fits-as is .0) (listed-here .inner-stands) (few-as is) (room-as is) (fits-as is .3)
 
     outer-fits : ValueFits (columnsOf file) (h .levels) (listed-here .left)
     unfolding Fits
     outer-fits = fits-as listed-is .1
 
-    selected-fits : ValueFits (columnsOf file) (h .levels ++ (tableHere ∷ [])) (listed-here .selected)
+    selected-fits : ValueFits (columnsOf file) (within (h .levels) (Single tableHere)) (listed-here .selected)
     unfolding Fits
-    selected-fits = subst (λ (t : ℕ). ValueFits (columnsOf file) (h .levels ++ (t ∷ [])) (listed-here .selected)) (sym listed-table) (fits-as listed-is .2)
+    selected-fits = fits-as listed-is .2
 
     pub outer-ready : ValueReady g file w (getD p (partSize * s + partLeftTag) 0) (getD p (partSize * s + partLeftNumber) 0)
     outer-ready = value-ready (h .readable) (listed-here .left) outer-fits (part-left-tag (listed-here .here)) (part-left-number (listed-here .here))
@@ -454,11 +452,11 @@ module _ {p g file w : List ℕ} {s depth : ℕ} (h : Evaluable p g file w s dep
     compared row = compare3 (listed-here .op) (cellOf (h .env) (listed-here .left)) (cellOf (h .env ▸ row) (listed-here .selected))
 
     module _ {at : Place} (there : at ≡ placeIn g tableHere) where
-      listed-rows : over3 q (rowsHere listed-ranging there (at .rows)) ≡ meaning (tablesOf file) (h .env) (h .rule)
-      unfolding rowValue meaning
-      listed-rows =
-          rows-as listed-ranging there q listed-is listed-table
-          ∙ sym (over-kept q kept compared (rowsOf (tablesOf file) (listed-here .table)))
+      listed-whole : over3 q (rowsHere listed-ranging there (at .rows)) ≡ meaning (tablesOf file) (h .env) (h .rule)
+      unfolding rowValue
+      listed-whole =
+          rows-as listed-ranging there q listed-is
+          ∙ listed-rows (tablesOf file) (h .env) tableHere (listed-here .inner) q (listed-here .op) (listed-here .left) (listed-here .selected)
           ∙ means-as listed-is
 
       module _ {r first value : ℕ} {v : List ℕ} (below : r < at .rows) (passed : RowsPassed p g file w s depth q at r first value v) (x : Seen) where
@@ -466,11 +464,11 @@ module _ {p g file w : List ℕ} {s depth : ℕ} (h : Evaluable p g file w s dep
         unfolding row-inner listed-ranging
         row-ready =
             record {
-              quantifier = listed-here .quantifier;
+              quantifier = q;
               comparison = listed-here .op;
               left = listed-here .left;
               selected = listed-here .selected;
-              table = listed-here .table;
+              from = listed-here .from;
               end = s + (1 + parts (listed-here .inner));
               here = listed-here .here;
               inner = row-inner listed-ranging there below passed;
@@ -488,14 +486,14 @@ module _ {p g file w : List ℕ} {s depth : ℕ} (h : Evaluable p g file w s dep
               let here = rowHere listed-ranging there first in
               evaluated row-ready
               ∙ ap (λ c. cond (kept here) (truthNumber (compare3 (listed-here .op) c (cellOf (h .env ▸ here) (listed-here .selected)))) empty) outer-seen
-              ∙ cond-rank (kept here) (compared here) (emptyTruth q) empty (o .empty-is)
+              ∙ cond-rank (kept here) (compared here) (emptyTruth q) empty (none-is o)
               ∙ ap truthNumber (sym (ap (λ r. rowValue file (h .env) r (rowFrom file first (at .columns))) listed-is))
 
           pub listed-decides : row ≡ truthNumber True - empty → Means row
-          listed-decides e = row-decides listed-ranging there listed-rows passed below row row-valued (e ∙ none-decides o)
+          listed-decides e = row-decides listed-ranging there listed-whole passed below row row-valued (e ∙ none-decides o)
 
       pub listed-ends : {r first value : ℕ} {v : List ℕ} → RowsPassed p g file w s depth q at r first value v → at .rows ≤ r → Means value
-      listed-ends passed end = rows-end listed-ranging there listed-rows passed end
+      listed-ends passed end = rows-end listed-ranging there listed-whole passed end
 
 -- ---- a list at one row
 

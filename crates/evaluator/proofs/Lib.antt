@@ -1,3 +1,4 @@
 pub mod Truths
+pub mod Rows
 pub mod Testing
 pub mod Evaluating

@@ -1,28 +1,28 @@
 -- Values and tests from the numbers of a part: what looking at a value asks and sees, and what a test comes to.
 use mathlib.Core.Path.{_≡_, refl, sym, ap, ap₂, subst, _∙_}
-use mathlib.Core.Bool.{not}
 use mathlib.Core.List.{List}
+use mathlib.Core.Logic.{inl, inr}
 use Prim.Native.Nat.{ℕ, _+_, _*_, _≤_}
 use native.Mathlib.Omega.{arith}
 use borrow.Author.Tests.{ne-eqb}
 use lib.Dec.{T}
 use lib.ListN.{length, getD}
 use Rattle.tables.specs.Tables.{columnsOf}
-use Rattle.tables.specs.Values.{mostLevels, constantTag, Value, Constant, Column, comparisonOf, Env, cellOf, isBlank, valueFits}
+use Rattle.tables.specs.Values.{mostLevels, constantTag, Value, Constant, Column, comparisonOf, MarkTest, Env, cellOf, markPasses, valueFits}
 use Rattle.tables.proofs.Values.{comparison-back}
 use Rattle.cells.specs.Code.{seenCell}
 use Rattle.cells.specs.declared.Seen.{Seen}
 use Rattle.values.specs.Code.{valueIn, Readable, ValueReady, Sees}
-use Rattle.values.proofs.Numbers.{seen-blank}
-use Rattle.rule.specs.Condition.{Test, Compare, IsNull, IsNotNull, Atom, Rule}
+use Rattle.rule.specs.Condition.{Test, Compare, Mark, Atom, Rule}
 use Rattle.rule.specs.Names.{ValueFits, TestFits}
-use Rattle.rule.specs.Parts.{compareKind, nullKind, notNullKind, kindOf, taggedOf, AtomHead, partOf}
+use Rattle.rule.specs.Parts.{compareKind, markKind, kindNumber, kindOf, taggedOf, AtomHead, partOf}
+use Rattle.rule.specs.Groups.{TestNumber}
 use Rattle.names.specs.Code.{partSize, partComparison, partLeftTag, partLeftNumber, partRightTag, partRightNumber}
 use Rattle.rule.specs.Meaning.{truth, compare3, test3, truthNumber}
-use Rattle.parser.specs.Parts.{Stands}
+use Rattle.parts.specs.Parts.{Stands}
 use Rattle.rule.proofs.Fits.{value-tested}
 use Rattle.cells.proofs.Signed.{from-to}
-use Rattle.parser.proofs.Parts.{heldNumber, kind-stands, IsCompare, is-compare, is-blank, is-present, part-comparison, part-left-tag, part-left-number, part-right-tag, part-right-number}
+use Rattle.parts.proofs.Parts.{heldNumber, kind-stands, IsCompare, is-compare, is-mark, part-comparison, part-left-tag, part-left-number, part-right-tag, part-right-number}
 use Rattle.evaluator.specs.Code.{TestReady}
 
 -- ---- a value
@@ -53,18 +53,15 @@ module _ {g file w levels : List ℕ} {env : Env} (readable : Readable g file w 
 
 abbrev pub leftOf : Test Value → Value
 leftOf (Compare op l r) = l
-leftOf (IsNull l) = l
-leftOf (IsNotNull l) = l
+leftOf (Mark m l) = l
 
 left-of-part : (e : ℕ) (t : Test Value) → partOf e (AtomHead t) .left ≡ taggedOf (leftOf t)
 left-of-part e (Compare op l r) = refl
-left-of-part e (IsNull l) = refl
-left-of-part e (IsNotNull l) = refl
+left-of-part e (Mark m l) = refl
 
 left-of-fits : (columns levels : List ℕ) (t : Test Value) → TestFits columns levels t → ValueFits columns levels (leftOf t)
 left-of-fits columns levels (Compare op l r) f = f .0
-left-of-fits columns levels (IsNull l) f = f
-left-of-fits columns levels (IsNotNull l) f = f
+left-of-fits columns levels (Mark m l) f = f
 
 module _ {p g file w : List ℕ} {s : ℕ} (h : TestReady p g file w s) where
   abbrev kindHere : ℕ
@@ -94,30 +91,21 @@ module _ {p g file w : List ℕ} {s : ℕ} (h : TestReady p g file w s) where
     left-seen : seenCell x ≡ cellOf (h .env) (leftOf (h .test))
     left-seen = value-seen (h .readable) (leftOf (h .test)) left-fits left-tag left-number x sees
 
-    left-blank : x .blank ≡ isBlank (cellOf (h .env) (leftOf (h .test)))
-    left-blank = seen-blank x ∙ ap isBlank left-seen
+    pub mark-evaluated : (m : MarkTest) → kindHere ≡ markKind m → (r : ℕ) → r ≡ truthNumber (truth (markPasses m (seenCell x))) → r ≡ truthNumber (test3 (h .env) (h .test))
+    mark-evaluated m k r is =
+        let t = test-as (is-mark p s (Atom (h .test)) stands (m, k) .is) in
+        is ∙ ap (λ c. truthNumber (truth (markPasses m c))) (left-seen ∙ ap (λ u. cellOf (h .env) (leftOf u)) t) ∙ ap (λ u. truthNumber (test3 (h .env) u)) (sym t)
 
-    pub blank-evaluated : kindHere ≡ nullKind → (r : ℕ) → r ≡ truthNumber (truth (x .blank)) → r ≡ truthNumber (test3 (h .env) (h .test))
-    blank-evaluated k r is =
-        let t = test-as (is-blank p s (Atom (h .test)) stands k .is) in
-        is ∙ ap (λ b. truthNumber (truth b)) left-blank ∙ rw t
+  pub test-number : TestNumber kindHere
+  test-number = go (h .test) (kind-stands p s (Atom (h .test)) stands)
+    where
+      go : (t : Test Value) → kindHere ≡ kindNumber (kindOf (AtomHead t)) → TestNumber kindHere
+      go (Compare op l r) e = inl e
+      go (Mark m l) e = inr (m, e)
 
-    pub present-evaluated : kindHere ≡ notNullKind → (r : ℕ) → r ≡ truthNumber (truth (not (x .blank))) → r ≡ truthNumber (test3 (h .env) (h .test))
-    present-evaluated k r is =
-        let t = test-as (is-present p s (Atom (h .test)) stands k .is) in
-        is ∙ ap (λ b. truthNumber (truth (not b))) left-blank ∙ rw t
-
-  module _ (f : kindHere ≡ nullKind → ⊥) (f′ : kindHere ≡ notNullKind → ⊥) where
-    compare-kind : kindHere ≡ compareKind
-    compare-kind = go (h .test) (kind-stands p s (Atom (h .test)) stands)
-      where
-        go : (t : Test Value) → kindHere ≡ kindOf (AtomHead t) → kindHere ≡ compareKind
-        go (Compare op l r) e = e
-        go (IsNull l) e = absurd (f e)
-        go (IsNotNull l) e = absurd (f′ e)
-
+  module _ (k : kindHere ≡ compareKind) where
     comparison : IsCompare p s (Atom (h .test))
-    comparison = is-compare p s (Atom (h .test)) stands compare-kind
+    comparison = is-compare p s (Atom (h .test)) stands k
 
     test-is : h .test ≡ Compare (comparison .op) (comparison .left) (comparison .right)
     test-is = test-as (comparison .is)

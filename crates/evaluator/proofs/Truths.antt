@@ -7,12 +7,13 @@ use native.Mathlib.Nat.{le-of-suc-le-suc, not-suc-le-zero}
 use native.Mathlib.Omega.{arith}
 use lib.Dec.{eqb}
 use lib.ListN.{getD}
-use Rattle.rule.specs.Parts.{joinKind, listKind}
 use Rattle.tables.specs.Lists.{tabulate, any, put, keep}
 use Rattle.tables.specs.Values.{Connective, And, Or, Quantifier, Some, All}
-use Rattle.rule.specs.Meaning.{Truth, False, Unknown, True, truth, isTrue, not3, and3, or3, join3, over3, truthNumber}
+use Rattle.rule.specs.Condition.{Not}
+use Rattle.rule.specs.Meaning.{Truth, False, Unknown, True, truth, isTrue, and3, or3, join3, unary3, over3, truthNumber}
+use Rattle.rule.specs.Parts.{listKind}
 use Rattle.rule.proofs.Truths.{some-cons, all-cons}
-use Rattle.evaluator.specs.Code.{decidedBy, taken, unlessUnknown, emptyTruth, emptyOver, quantifierOf, OverNone}
+use Rattle.evaluator.specs.Code.{decidedBy, taken, unlessUnknown, emptyTruth, emptyOver, OverNone}
 
 pub rank-high : (a : Truth) → truthNumber a ≤ truthNumber True
 rank-high False = omega arith
@@ -31,18 +32,14 @@ same-truth a b e = sym (back a) ∙ ap truthAt e ∙ back b
     back Unknown = refl
     back True = refl
 
-pub not-rank : (a : Truth) → truthNumber True - truthNumber a ≡ truthNumber (not3 a)
+pub not-rank : (a : Truth) → truthNumber True - truthNumber a ≡ truthNumber (unary3 Not a)
 not-rank False = refl
 not-rank Unknown = refl
 not-rank True = refl
 
 -- ---- connectives
 
--- the value of one side that decides for both
-abbrev pub decidesOf : Connective → ℕ
-decidesOf j = decidedBy (joinKind j)
-
-pub join-rank : (j : Connective) (a b : Truth) → taken (decidesOf j) (truthNumber a) (truthNumber b) ≡ truthNumber (join3 j a b)
+pub join-rank : (j : Connective) (a b : Truth) → taken (decidedBy j) (truthNumber a) (truthNumber b) ≡ truthNumber (join3 j a b)
 join-rank And False b = omega arith
 join-rank And Unknown False = refl
 join-rank And Unknown Unknown = refl
@@ -55,11 +52,11 @@ join-rank Or Unknown True = refl
 join-rank Or True b = omega (arith, rank-high b)
 
 -- one side decides, the left or the right one
-pub left-stop : (j : Connective) (a b : Truth) → truthNumber a ≡ decidesOf j → decidesOf j ≡ truthNumber (join3 j a b)
+pub left-stop : (j : Connective) (a b : Truth) → truthNumber a ≡ decidedBy j → decidedBy j ≡ truthNumber (join3 j a b)
 left-stop And a b e = omega (arith, join-rank And a b)
 left-stop Or a b e = omega (arith, join-rank Or a b, rank-high b)
 
-right-stop : (j : Connective) (a b : Truth) → decidesOf j ≡ truthNumber b → decidesOf j ≡ truthNumber (join3 j a b)
+right-stop : (j : Connective) (a b : Truth) → decidedBy j ≡ truthNumber b → decidedBy j ≡ truthNumber (join3 j a b)
 right-stop And a b e = omega (arith, join-rank And a b)
 right-stop Or a b e = omega (arith, join-rank Or a b, rank-high a)
 
@@ -91,7 +88,7 @@ abbrev pub overTwo : Quantifier → Truth → Truth → Truth
 overTwo q a b = join3 (overRows q) a b
 
 -- the value over no rows, and the one that decides
-over-decides : (q : Quantifier) → truthNumber True - emptyOver q ≡ decidesOf (overRows q)
+over-decides : (q : Quantifier) → truthNumber True - emptyOver q ≡ decidedBy (overRows q)
 over-decides Some = refl
 over-decides All = refl
 
@@ -145,14 +142,14 @@ over-more q (suc n) f =
     ∙ ap (λ v. overTwo q v (f (suc n))) (sym (over-cons q (f 0) (tabulate n (λ k. f (suc k)))))
 
 -- a row that decides
-pub over-stop : (q : Quantifier) (n : ℕ) (f : ℕ → Truth) (k : ℕ) → k < n → truthNumber (f k) ≡ decidesOf (overRows q) → decidesOf (overRows q) ≡ truthNumber (over3 q (tabulate n f))
+pub over-stop : (q : Quantifier) (n : ℕ) (f : ℕ → Truth) (k : ℕ) → k < n → truthNumber (f k) ≡ decidedBy (overRows q) → decidedBy (overRows q) ≡ truthNumber (over3 q (tabulate n f))
 over-stop q zero f k l e = absurd (not-suc-le-zero l)
 over-stop q (suc n) f zero l e = left-stop (overRows q) (f 0) _ e ∙ ap truthNumber (sym (over-cons q (f 0) _))
 over-stop q (suc n) f (suc k) l e =
     right-stop (overRows q) (f 0) _ (over-stop q n (λ k. f (suc k)) k (le-of-suc-le-suc l) e) ∙ ap truthNumber (sym (over-cons q (f 0) _))
 
 -- no row has decided yet, and the next one does not
-pub over-on : (q : Quantifier) (a b : Truth) → (truthNumber a ≡ decidesOf (overRows q) → ⊥) → (truthNumber b ≡ decidesOf (overRows q) → ⊥)
+pub over-on : (q : Quantifier) (a b : Truth) → (truthNumber a ≡ decidedBy (overRows q) → ⊥) → (truthNumber b ≡ decidedBy (overRows q) → ⊥)
     → unlessUnknown (truthNumber b) (truthNumber a) ≡ truthNumber (overTwo q a b)
 over-on Some a False f g = omega (arith, join-rank Or a False)
 over-on Some a Unknown f g = omega (arith, join-rank Or a Unknown, rank-high a)
@@ -163,15 +160,15 @@ over-on All a True f g = omega (arith, join-rank And a True, rank-high a)
 
 -- ---- the value over no rows, as a number, is not the one that decides
 
-pub none-open : (q : Quantifier) → emptyOver q ≡ decidesOf (overRows q) → ⊥
+pub none-open : (q : Quantifier) → emptyOver q ≡ decidedBy (overRows q) → ⊥
 none-open Some e = omega arith
 none-open All e = omega arith
 
 -- a row that does not decide leaves it open
-pub more-open : (q : Quantifier) (row value : ℕ) → (value ≡ decidesOf (overRows q) → ⊥) → unlessUnknown row value ≡ decidesOf (overRows q) → ⊥
+pub more-open : (q : Quantifier) (row value : ℕ) → (value ≡ decidedBy (overRows q) → ⊥) → unlessUnknown row value ≡ decidedBy (overRows q) → ⊥
 more-open q row value f = go (eqb row (truthNumber Unknown)) q f
   where
-    go : (b : Bool) (q : Quantifier) → (value ≡ decidesOf (overRows q) → ⊥) → cond b (truthNumber Unknown) value ≡ decidesOf (overRows q) → ⊥
+    go : (b : Bool) (q : Quantifier) → (value ≡ decidedBy (overRows q) → ⊥) → cond b (truthNumber Unknown) value ≡ decidedBy (overRows q) → ⊥
     go true Some f z = omega arith
     go true All f z = omega arith
     go false q f z = f z
@@ -179,16 +176,28 @@ more-open q row value f = go (eqb row (truthNumber Unknown)) q f
 -- ---- lists, by their kinds
 
 pub over-none-by : {kind : ℕ} (q : Quantifier) → kind ≡ listKind q → OverNone kind (emptyOver q)
-over-none-by Some e = record { low = omega arith; empty-is = ap (λ (k : ℕ). emptyOver (quantifierOf k)) (sym e) }
-over-none-by All e = record { low = omega arith; empty-is = ap (λ (k : ℕ). emptyOver (quantifierOf k)) (sym e) }
+over-none-by q e = record { lists = (q, e); empty-is = refl }
 
-pub quantifier-back : (q : Quantifier) → quantifierOf (listKind q) ≡ q
+-- the quantifier of a list
+abbrev pub quantifierOf : ℕ → Quantifier
+quantifierOf kind = cond (eqb kind (listKind Some)) Some All
+
+quantifier-back : (q : Quantifier) → quantifierOf (listKind q) ≡ q
 quantifier-back Some = refl
 quantifier-back All = refl
 
 module _ {kind empty : ℕ} (o : OverNone kind empty) where
-  pub none-high : empty ≤ truthNumber True
-  none-high = omega (arith, o .empty-is, rank-high (emptyTruth (quantifierOf kind)))
+  quantifier-is : o .lists .0 ≡ quantifierOf kind
+  quantifier-is = sym (ap quantifierOf (o .lists .1) ∙ quantifier-back (o .lists .0))
 
-  pub none-decides : truthNumber True - empty ≡ decidesOf (overRows (quantifierOf kind))
-  none-decides = ap (truthNumber True -_) (o .empty-is) ∙ over-decides (quantifierOf kind)
+  pub kind-is : kind ≡ listKind (quantifierOf kind)
+  kind-is = o .lists .1 ∙ ap listKind quantifier-is
+
+  pub none-is : empty ≡ emptyOver (quantifierOf kind)
+  none-is = o .empty-is ∙ ap emptyOver quantifier-is
+
+  pub none-high : empty ≤ truthNumber True
+  none-high = omega (arith, o .empty-is, rank-high (emptyTruth (o .lists .0)))
+
+  pub none-decides : truthNumber True - empty ≡ decidedBy (overRows (quantifierOf kind))
+  none-decides = ap (truthNumber True -_) none-is ∙ over-decides (quantifierOf kind)

@@ -7,22 +7,24 @@ use Prim.Native.Nat.{ℕ, _+_, _<_, _≤_, min, max}
 use lib.Dec.{eqb}
 use lib.ListN.{length}
 use Rattle.tables.specs.Tables.{columnsOf, tablesOf}
-use Rattle.tables.specs.Values.{mostLevels, Value, Comparison, And, Or, Quantifier, Some, All, Env, cellOf}
+use Rattle.tables.specs.Values.{mostLevels, Value, Comparison, Connective, And, Or, Quantifier, Some, All, Env, cellOf}
 use Rattle.cells.specs.Code.{seenCell}
 use Rattle.cells.specs.declared.Seen.{Seen}
 use Rattle.values.specs.Code.{Readable}
-use Rattle.rule.specs.Condition.{Test, Rule, parts, fromsDeep}
+use Rattle.rule.specs.Condition.{Test, From, Rule, parts, fromsDeep}
 use Rattle.rule.specs.Names.{mostParts, ValueFits, TestFits, Fits}
-use Rattle.rule.specs.Parts.{AtomHead, ListedHead, joinKind, listKind, partOf}
+use Rattle.rule.specs.Parts.{AtomHead, ListedHead, partOf}
+use Rattle.rule.specs.Groups.{JoinNumber, ListNumber}
 use Rattle.rule.specs.Meaning.{Truth, False, Unknown, True, test3, compare3, isTrue, meaning, truthNumber}
 use Rattle.names.specs.Code.{partsSize}
-use Rattle.parser.specs.Parts.{PartAt, Stands}
+use Rattle.parts.specs.Parts.{PartAt, Stands}
 
 -- ---- truth values as numbers
 
--- the value of one side of AND or OR that decides for both, by the kind of the part
-abbrev pub decidedBy : ℕ → ℕ
-decidedBy kind = cond (eqb kind (joinKind And)) (truthNumber False) (truthNumber True)
+-- the value of one side that decides for both: false of AND, true of OR
+abbrev pub decidedBy : Connective → ℕ
+decidedBy And = truthNumber False
+decidedBy Or = truthNumber True
 
 -- what the two sides come to, by the value that decides: AND takes the lesser, OR the greater
 abbrev pub taken : ℕ → ℕ → ℕ → ℕ
@@ -30,9 +32,8 @@ taken decides a b = cond (eqb decides (truthNumber False)) (min a b) (max a b)
 
 -- a part of this kind is AND or OR, and decides is the value that decides for both sides
 pub record Decides (kind decides : ℕ) : Type 0 where
-  pub low : joinKind And ≤ kind
-  pub high : kind ≤ joinKind Or
-  pub decides-is : decides ≡ decidedBy kind
+  pub joins : JoinNumber kind
+  pub decides-is : decides ≡ decidedBy (joins .0)
 
 -- a list's value after one more row
 abbrev pub unlessUnknown : ℕ → ℕ → ℕ
@@ -46,14 +47,10 @@ emptyTruth All = True
 abbrev pub emptyOver : Quantifier → ℕ
 emptyOver q = truthNumber (emptyTruth q)
 
--- the quantifier of a list, by its kind
-abbrev pub quantifierOf : ℕ → Quantifier
-quantifierOf kind = cond (eqb kind (listKind Some)) Some All
-
--- a kind from SOME on, which is that of a list in any rule, and empty is the value of such a list over no rows
+-- a part of this kind is a list, and empty is its value over no rows
 pub record OverNone (kind empty : ℕ) : Type 0 where
-  pub low : listKind Some ≤ kind
-  pub empty-is : empty ≡ emptyOver (quantifierOf kind)
+  pub lists : ListNumber kind
+  pub empty-is : empty ≡ emptyOver (lists .0)
 
 -- ---- what evaluating asks, and answers: for whatever levels, rows and rule the numbers stand for
 
@@ -85,15 +82,15 @@ pub record Evaluable (p g file w : List ℕ) (s depth : ℕ) : Type 0 where
 abbrev pub Evaluates : (p g file w : List ℕ) (s depth : ℕ) → ℕ → Type 0
 Evaluates p g file w s depth r = (h : Evaluable p g file w s depth) → r ≡ truthNumber (meaning (tablesOf file) (h .env) (h .rule))
 
--- a list at one row of its table: inner is its WHERE, with the row's level the last; x is what was seen of the left value
+-- a list at one row of its FROM: inner is its WHERE, with the row's level the last; x is what was seen of the left value
 pub record RowReady (p g file v : List ℕ) (s depth empty : ℕ) (x : Seen) : Type 0 where
   pub quantifier : Quantifier
   pub comparison : Comparison
   pub left : Value
   pub selected : Value
-  pub table : ℕ
+  pub from : From ℕ
   pub end : ℕ
-  pub here : PartAt p s (partOf end (ListedHead quantifier comparison left selected table))
+  pub here : PartAt p s (partOf end (ListedHead quantifier comparison left selected from))
   pub inner : Evaluable p g file v (s + 1) depth
   pub selected-fits : ValueFits (columnsOf file) (inner .levels) selected
 

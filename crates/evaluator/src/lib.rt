@@ -96,20 +96,24 @@ fn evaluate_test(
         p[PART_FIELDS * s + PART_LEFT_TAG],
         p[PART_FIELDS * s + PART_LEFT_NUMBER],
     );
-    if kind == NULL_PART {
-        return truth_of(x.blank);
+    match kind {
+        COMPARISON_PART => {
+            let y = values::look(
+                g,
+                file,
+                w,
+                p[PART_FIELDS * s + PART_RIGHT_TAG],
+                p[PART_FIELDS * s + PART_RIGHT_NUMBER],
+            );
+            compare(p[PART_FIELDS * s + PART_COMPARISON], x, y)
+        }
+        NULL_PART => truth_of(x.blank),
+        NOT_NULL_PART => truth_of(!x.blank),
+        _ => {
+            cells::never();
+            FALSE
+        }
     }
-    if kind == NOT_NULL_PART {
-        return truth_of(!x.blank);
-    }
-    let y = values::look(
-        g,
-        file,
-        w,
-        p[PART_FIELDS * s + PART_RIGHT_TAG],
-        p[PART_FIELDS * s + PART_RIGHT_NUMBER],
-    );
-    compare(p[PART_FIELDS * s + PART_COMPARISON], x, y)
 }
 
 // The value of part s with its inner parts.
@@ -132,10 +136,14 @@ pub fn evaluate_part(
             let inner = evaluate_part(p, g, file, s + 1, w, depth);
             TRUE - inner
         }
+        COMPARISON_PART | NULL_PART | NOT_NULL_PART => evaluate_test(p, g, file, s, w),
         EXISTS_PART => evaluate_exists(p, g, file, s, w, depth),
         SOME_PART => evaluate_list(p, g, file, s, w, depth, FALSE),
         ALL_PART => evaluate_list(p, g, file, s, w, depth, TRUE),
-        _ => evaluate_test(p, g, file, s, w),
+        _ => {
+            cells::never();
+            FALSE
+        }
     }
 }
 

@@ -6,9 +6,9 @@ use native.Mathlib.Numerals.{add-one}
 use native.Mathlib.Omega.{arith}
 use lib.ListN.{length, take, set}
 use Rattle.tables.proofs.Placed.{fill, filled, taken-through, placed-length}
-use Rattle.rule.specs.Condition.{Not, WrittenCondition, parts, fromsDeep}
+use Rattle.rule.specs.Condition.{Not, Apply, WrittenCondition, parts, fromsDeep}
 use Rattle.rule.specs.Names.{mostParts}
-use Rattle.rule.specs.Parts.{notKind}
+use Rattle.rule.specs.Parts.{unaryKind}
 use Rattle.phrases.specs.Code.{noteNumbers, plainNoteNumbers, noted}
 use Rattle.grammar.specs.Code.{noteSize, notesSize, notNumbers, underNots}
 use Rattle.phrases.specs.declared.Note.{Note}
@@ -45,7 +45,8 @@ module _ (note : Note) {z : List ℕ} where
 pub no-nots-noted : (old : List ℕ) (w n : ℕ) → n ≡ w → Noted old old w n (notNumbers 0)
 no-nots-noted old w n e = record { first = λ h. rw e (sym (append-nil (take (noteSize * w) old))) }
 
-pub not-noted : {old mid new : List ℕ} {w : ℕ} (j : ℕ) → Noted old mid w (w + j) (notNumbers j) → Noted mid new (w + j) (w + j + 1) (plainNoteNumbers notKind) → Noted old new w (w + (j + 1)) (notNumbers (j + 1))
+pub not-noted : {old mid new : List ℕ} {w : ℕ} (j : ℕ) → Noted old mid w (w + j) (notNumbers j)
+    → Noted mid new (w + j) (w + j + 1) (plainNoteNumbers (unaryKind Not)) → Noted old new w (w + (j + 1)) (notNumbers (j + 1))
 not-noted {old} {mid} {new} {w} j p q =
     let e : w + (j + 1) ≡ w + j + 1 = omega arith in
     rw (e, add-one j) (both-noted (omega arith) p q)
@@ -53,7 +54,7 @@ not-noted {old} {mid} {new} {w} j p q =
 pub noted-nots : (k : ℕ) (a : WrittenCondition) → noted (underNots k a) ≡ noted a ++ notNumbers k
 unfolding noted
 noted-nots zero a = sym (append-nil (noted a))
-noted-nots (suc k) a = ap (_++ plainNoteNumbers notKind) (noted-nots k a) ∙ append-assoc (noted a) (notNumbers k) (plainNoteNumbers notKind)
+noted-nots (suc k) a = ap (_++ plainNoteNumbers (unaryKind Not)) (noted-nots k a) ∙ append-assoc (noted a) (notNumbers k) (plainNoteNumbers (unaryKind Not))
 
 pub parts-nots : (k : ℕ) (a : WrittenCondition) → parts (underNots k a) ≡ parts a + k
 unfolding parts
@@ -65,6 +66,6 @@ unfolding fromsDeep
 deep-nots zero a = refl
 deep-nots (suc k) a = deep-nots k a
 
-pub nots-not : (k : ℕ) (a : WrittenCondition) → underNots k (Not a) ≡ Not (underNots k a)
+pub nots-not : (k : ℕ) (a : WrittenCondition) → underNots k (Apply Not a) ≡ Apply Not (underNots k a)
 nots-not zero a = refl
-nots-not (suc k) a = ap Not (nots-not k a)
+nots-not (suc k) a = ap (Apply Not) (nots-not k a)

@@ -7,7 +7,7 @@ use native.Mathlib.Omega.{arith}
 use lib.ListN.{length, take, getD}
 use Rattle.tables.specs.Lists.{_>>=_}
 use Rattle.rule.specs.Tokens.{NOT, Close}
-use Rattle.rule.specs.Condition.{Atom, Join, Not, Exists, Listed, WrittenCondition, parts, fromsDeep}
+use Rattle.rule.specs.Condition.{Single, Atom, Join, Apply, Exists, Listed, WrittenCondition, parts, fromsDeep}
 use Rattle.rule.specs.Names.{mostParts}
 use Rattle.rule.specs.Grammar.{Tokens}
 use Rattle.rule.specs.Reader.{expect, Opening, Bracket, closed, Start, start, condition, factor, test, Found, branch, started, closing, reading, atEnd, readAll}
@@ -96,9 +96,9 @@ deep-parts : (a : WrittenCondition) → fromsDeep a ≤ parts a
 unfolding fromsDeep parts
 deep-parts (Atom x) = omega arith
 deep-parts (Join j a b) = omega (arith, deep-parts a, deep-parts b)
-deep-parts (Not a) = omega (arith, deep-parts a)
-deep-parts (Exists f a) = omega (arith, deep-parts a)
-deep-parts (Listed q op l s f a) = omega (arith, deep-parts a)
+deep-parts (Apply u a) = omega (arith, deep-parts a)
+deep-parts (Exists (Single _) a) = omega (arith, deep-parts a)
+deep-parts (Listed q op l s (Single _) a) = omega (arith, deep-parts a)
 
 pub shallow : {found : Found} {s : List ℕ} {at w : ℕ} {old new : List ℕ} {next n d : ℕ} → Reads found s at w old new next n d → d ≤ n
 shallow r = omega (arith, r .count, r .froms, deep-parts (r .tree))

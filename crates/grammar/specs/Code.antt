@@ -9,9 +9,9 @@ use lib.ListN.{length, take}
 use Rattle.tables.specs.Lists.{_>>=_}
 use Rattle.tables.specs.Values.{Connective, And, Or}
 use Rattle.rule.specs.Tokens.{Close}
-use Rattle.rule.specs.Condition.{Not, WrittenCondition, parts, fromsDeep}
+use Rattle.rule.specs.Condition.{Not, Apply, WrittenCondition, parts, fromsDeep}
 use Rattle.rule.specs.Names.{mostParts}
-use Rattle.rule.specs.Parts.{joinKind, notKind}
+use Rattle.rule.specs.Parts.{joinKind, unaryKind}
 use Rattle.rule.specs.Grammar.{Tokens}
 use Rattle.rule.specs.Reader.{expect, Goal, condition, factor, test, Found, reading, readAll}
 use Rattle.lexer.specs.Code.{mostTokens, tokensIn}
@@ -46,14 +46,14 @@ noteRightLetter = 6
 -- so many NOTs
 abbrev pub notNumbers : ℕ → List ℕ
 notNumbers zero = []
-notNumbers (suc k) = notNumbers k ++ plainNoteNumbers notKind
+notNumbers (suc k) = notNumbers k ++ plainNoteNumbers (unaryKind Not)
 
 -- ---- readings
 
 -- so many NOTs around a condition
 abbrev pub underNots : ℕ → WrittenCondition → WrittenCondition
 underNots zero a = a
-underNots (suc k) a = Not (underNots k a)
+underNots (suc k) a = Apply Not (underNots k a)
 
 -- from one place up to the other there are NOTs, and no NOT follows
 pub record NotsTo (s : List ℕ) (at next : ℕ) : Type 0 where

@@ -20,7 +20,7 @@ use Rattle.names.specs.Code.{partSize, partsSize}
 use Rattle.parser.specs.Code.{parsedAnswer, parseCall, Parsing, ParsedTo, refusalIn}
 use Rattle.parser.specs.declared.Parsed.{Parsed}
 use Rattle.parser.proofs.Known.{Known, known, parse-refused, parse-given}
-use Rattle.parser.proofs.Parts.{rule-stands}
+use Rattle.parts.proofs.Parts.{rule-stands}
 use Rattle.evaluator.specs.Code.{Evaluable, Evaluates}
 use Rattle.judge.specs.Answers.{judgedAnswer}
 use Rattle.judge.specs.Code.{judgedBy}
@@ -46,9 +46,9 @@ module _ (text file : List ℕ) (row : ℕ) (r : Parsed) where
       → Refused (reasonNumber y) ≡ judgeCall text file row
   judge-refused x y p e u = sym (calls-claim .judge-refused text file row _ (parse-refused text file r x y p e u))
 
-  module _ (new : List ℕ) (n : ℕ) (told : ParsedTo text file new r) (e : r ≡ Parsed.Rule n) where
-    parsing : Parsing text file new n
-    parsing = parse-given text file r new n told e
+  module _ (new : List ℕ) (n m : ℕ) (told : ParsedTo text file new r) (e : r ≡ Parsed.Rule n m) where
+    parsing : Parsing text file new n m
+    parsing = parse-given text file r new n m told e
 
     rule-known : Known file (parsing .rule)
     rule-known = let q = parsing in known text file (q .rule) (q .accepted) (q .is-rule)

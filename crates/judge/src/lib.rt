@@ -36,7 +36,7 @@ pub fn judge(text: &[u8], file: &[u8], row: usize) -> Judged
 {
     let mut p = [0usize; PART_NUMBERS];
     let parsed = parser::parse(text, file, &mut p);
-    let Parsed::Rule(_) = parsed else {
+    let Parsed::Rule(_, _) = parsed else {
         return Judged::NotJudged(parser::refusal(parsed));
     };
     let mut g = [0usize; PLACES];

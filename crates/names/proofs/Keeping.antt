@@ -16,7 +16,7 @@ use Rattle.rule.specs.Reader.{readAll}
 use Rattle.rule.proofs.Carried.{EachToken, carried}
 use Rattle.rule.proofs.Reading.{read-sound}
 use Rattle.lexer.specs.Code.{tokenOf, tokensIn}
-use Rattle.names.specs.Code.{NumberKept, ValueKept, FromKept, Kept}
+use Rattle.names.specs.Code.{NumberKept, ValueKept, SourceKept, Kept}
 
 abbrev TokenKept : Token → Type 0
 TokenKept (Fixed k) = Unit {0}
@@ -41,4 +41,4 @@ tokens-kept (c ∷ s) = (token-kept c, tokens-kept s)
 
 -- what a caller gives for the condition that was read
 pub read-kept : (s : List ℕ) (a : WrittenCondition) → readAll (tokensIn s) ≡ some a → Kept a
-read-kept s a e = carried TokenKept ValueKept FromKept (λ n k. k) (λ x n l k. (l, k)) (λ n x k l. k) (read-sound (tokensIn s) a e) (tokens-kept s)
+read-kept s a e = carried TokenKept ValueKept SourceKept (λ n k. k) (λ x n l k. (l, k)) (λ n x k l. k) (read-sound (tokensIn s) a e) (tokens-kept s)

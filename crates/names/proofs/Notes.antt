@@ -1,6 +1,7 @@
 -- The notes of a condition: where its last part's numbers stand, and those of its inner conditions; the kind tells its shape.
 use mathlib.Core.Path.{_≡_, refl, sym, ap, ap₂, subst, _∙_}
 use mathlib.Core.List.{List, [], _∷_, _++_, append-assoc}
+use mathlib.Core.Logic.{⊎-elim}
 use Prim.Native.Nat.{ℕ, _+_, _*_, _-_, _<_, _≤_}
 use native.Mathlib.Nat.{add-zero}
 use native.Mathlib.Omega.{arith}
@@ -8,16 +9,18 @@ use borrow.Author.Tests.{ne-eqb}
 use lib.IntN.{ℤ}
 use lib.ListN.{length, take, getD, length-append}
 use lib.Seq.{length-take-le, take-at, take-take, getD-take, getD-append-add}
-use Rattle.tables.specs.Values.{mostLevels, Comparison, comparisonNumber, Connective, And, Or, Quantifier, Some, All}
+use Rattle.tables.specs.Values.{mostLevels, Comparison, comparisonNumber, Connective, Quantifier}
 use Rattle.cells.specs.Code.{toExcess}
-use Rattle.rule.specs.Condition.{Test, Compare, IsNull, IsNotNull, Atom, Join, Not, Exists, Listed, WrittenValue, Plain, Named, From, Over, Condition, WrittenCondition, parts, fromsDeep}
-use Rattle.rule.specs.Throughout.{Throughout}
+use Rattle.rule.specs.Condition.{Test, Compare, Mark, Unary, From, Single, Condition, Atom, Join, Apply, Exists, Listed, WrittenValue, Plain, Named, Source, Over, WrittenCondition, letters, parts, fromsDeep}
+use Rattle.rule.specs.Throughout.{FromThroughout, Throughout}
 use Rattle.rule.specs.Names.{mostParts}
-use Rattle.rule.specs.Parts.{joinKind, listKind, notKind, compareKind, nullKind, notNullKind, existsKind}
-use Rattle.phrases.specs.Code.{leftNumbers, plainNoteNumbers, writtenNumbers, writtenOf, noted}
+use Rattle.rule.specs.Parts.{Kind, JoinKind, UnaryKind, CompareKind, MarkKind, ExistsKind, ListKind, joinKind, unaryKind, compareKind, markKind, existsKind, listKind, kindNumber}
+use Rattle.rule.specs.Groups.{JoinNumber, UnaryNumber, TestNumber, FromNumber}
+use Rattle.rule.proofs.Groups.{same-kind}
+use Rattle.phrases.specs.Code.{fromNumbers, leftNumbers, plainNoteNumbers, writtenNumbers, writtenOf, noted}
 use Rattle.grammar.specs.Code.{noteSize, noteTable, noteLetter}
 use Rattle.scopes.specs.Code.{writtenAt}
-use Rattle.names.specs.Code.{ValueKept, FromKept, Kept, kindAt, Placeable}
+use Rattle.names.specs.Code.{ValueKept, SourceKept, Kept, kindAt, Placeable}
 
 -- ---- the front of a list, taken apart
 
@@ -46,17 +49,16 @@ numberOf (Named x k) = toExcess k
 
 abbrev pub ownNumbers : WrittenCondition → List ℕ
 ownNumbers (Atom (Compare op l r)) = compareKind ∷ comparisonNumber op ∷ 0 ∷ 0 ∷ letterOf l ∷ numberOf l ∷ letterOf r ∷ numberOf r ∷ []
-ownNumbers (Atom (IsNull l)) = leftNumbers nullKind (letterOf l) (numberOf l)
-ownNumbers (Atom (IsNotNull l)) = leftNumbers notNullKind (letterOf l) (numberOf l)
+ownNumbers (Atom (Mark m l)) = leftNumbers (markKind m) (letterOf l) (numberOf l)
 ownNumbers (Join j a b) = plainNoteNumbers (joinKind j)
-ownNumbers (Not a) = plainNoteNumbers notKind
-ownNumbers (Exists (Over n x) w) = existsKind ∷ 0 ∷ toExcess n ∷ x ∷ 0 ∷ 0 ∷ 0 ∷ 0 ∷ []
-ownNumbers (Listed q op l s (Over n x) w) = listKind q ∷ comparisonNumber op ∷ toExcess n ∷ x ∷ letterOf l ∷ numberOf l ∷ letterOf s ∷ numberOf s ∷ []
+ownNumbers (Apply u a) = plainNoteNumbers (unaryKind u)
+ownNumbers (Exists f w) = existsKind ∷ 0 ∷ (fromNumbers f ++ (0 ∷ 0 ∷ 0 ∷ 0 ∷ []))
+ownNumbers (Listed q op l s f w) = listKind q ∷ comparisonNumber op ∷ (fromNumbers f ++ (letterOf l ∷ numberOf l ∷ letterOf s ∷ numberOf s ∷ []))
 
 abbrev pub innerNumbers : WrittenCondition → List ℕ
 innerNumbers (Atom x) = []
 innerNumbers (Join j a b) = noted a ++ noted b
-innerNumbers (Not a) = noted a
+innerNumbers (Apply u a) = noted a
 innerNumbers (Exists f w) = noted w
 innerNumbers (Listed q op l s f w) = noted w
 
@@ -67,33 +69,19 @@ value-is (Named x k) = refl
 own-last : (t : WrittenCondition) → noted t ≡ innerNumbers t ++ ownNumbers t
 unfolding noted
 own-last (Atom (Compare op l r)) = simp value-is
-own-last (Atom (IsNull l)) = simp value-is
-own-last (Atom (IsNotNull l)) = simp value-is
-own-last (Join And a b) = sym (append-assoc (noted a) (noted b) _)
-own-last (Join Or a b) = sym (append-assoc (noted a) (noted b) _)
-own-last (Not a) = refl
-own-last (Exists (Over n x) w) = refl
-own-last (Listed q op l s (Over n x) w) = simp value-is
+own-last (Atom (Mark m l)) = simp value-is
+own-last (Join j a b) = sym (append-assoc (noted a) (noted b) _)
+own-last (Apply u a) = refl
+own-last (Exists f w) = refl
+own-last (Listed q op l s f w) = simp value-is
 
 own-size : (t : WrittenCondition) → length (ownNumbers t) ≡ noteSize
 own-size (Atom (Compare op l r)) = refl
-own-size (Atom (IsNull l)) = refl
-own-size (Atom (IsNotNull l)) = refl
+own-size (Atom (Mark m l)) = refl
 own-size (Join j a b) = refl
-own-size (Not a) = refl
-own-size (Exists (Over n x) w) = refl
-own-size (Listed q op l s (Over n x) w) = refl
-
-pub own-low : (t : WrittenCondition) → 1 ≤ getD (ownNumbers t) 0 0
-own-low (Atom (Compare op l r)) = omega arith
-own-low (Atom (IsNull l)) = omega arith
-own-low (Atom (IsNotNull l)) = omega arith
-own-low (Join And a b) = omega arith
-own-low (Join Or a b) = omega arith
-own-low (Not a) = omega arith
-own-low (Exists (Over n x) w) = omega arith
-own-low (Listed Some op l s (Over n x) w) = omega arith
-own-low (Listed All op l s (Over n x) w) = omega arith
+own-size (Apply u a) = refl
+own-size (Exists (Single (Over n x)) w) = refl
+own-size (Listed q op l s (Single (Over n x)) w) = refl
 
 with-own : (t : WrittenCondition) → length (noted t) ≡ length (innerNumbers t) + noteSize
 with-own t = ap length (own-last t) ∙ (length-append (innerNumbers t) (ownNumbers t) ∙ ap (length (innerNumbers t) +_) (own-size t))
@@ -102,7 +90,7 @@ pub noted-length : (t : WrittenCondition) → length (noted t) ≡ noteSize * pa
 unfolding parts
 noted-length (Atom x) = with-own (Atom x)
 noted-length (Join j a b) = omega (arith, with-own (Join j a b), length-append (noted a) (noted b), noted-length a, noted-length b)
-noted-length (Not a) = omega (arith, with-own (Not a), noted-length a)
+noted-length (Apply u a) = omega (arith, with-own (Apply u a), noted-length a)
 noted-length (Exists f w) = omega (arith, with-own (Exists f w), noted-length w)
 noted-length (Listed q op l s f w) = omega (arith, with-own (Listed q op l s f w), noted-length w)
 
@@ -118,28 +106,34 @@ pub data Outer (A : Type 0) : Type 0 where
   OuterExists : Outer A
   OuterList : Quantifier → Comparison → A → A → Outer A
 
-abbrev pub enclosed : {A F : Type 0} → Outer A → F → Condition A F → Condition A F
+abbrev pub enclosed : {A S : Type 0} → Outer A → From S → Condition A S → Condition A S
 enclosed OuterExists f w = Exists f w
 enclosed (OuterList j op l s) f w = Listed j op l s f w
 
-pub enclosed-parts : {A F : Type 0} (o : Outer A) (f : F) (w : Condition A F) → parts (enclosed o f w) ≡ 1 + parts w
+pub enclosed-parts : {A S : Type 0} (o : Outer A) (f : From S) (w : Condition A S) → parts (enclosed o f w) ≡ 1 + parts w
 unfolding parts
 enclosed-parts OuterExists f w = refl
 enclosed-parts (OuterList j op l s) f w = refl
 
-pub enclosed-deep : {A F : Type 0} (o : Outer A) (f : F) (w : Condition A F) → fromsDeep (enclosed o f w) ≡ 1 + fromsDeep w
+pub enclosed-deep : {A S : Type 0} (o : Outer A) (f : From S) (w : Condition A S) → fromsDeep (enclosed o f w) ≡ letters f + fromsDeep w
 unfolding fromsDeep
 enclosed-deep OuterExists f w = refl
 enclosed-deep (OuterList j op l s) f w = refl
 
--- its FROM comes back from its note
-pub from-kept : (o : Outer WrittenValue) (f : From) (w : WrittenCondition) → Kept (enclosed o f w) → FromKept f
+-- its FROM and its inner condition come back from their notes
+pub enclosed-kept : (o : Outer WrittenValue) (f : From Source) (w : WrittenCondition) → Kept (enclosed o f w) → FromThroughout SourceKept f × Kept w
 unfolding Throughout
-from-kept OuterExists f w k = k .0
-from-kept (OuterList j op l s) f w k = k .2
+enclosed-kept OuterExists f w k = k
+enclosed-kept (OuterList j op l s) f w k = (k .2, k .3)
+
+-- the notes before its own are those of its inner condition
+enclosed-inner : (o : Outer WrittenValue) (f : From Source) (w : WrittenCondition) → innerNumbers (enclosed o f w) ≡ noted w
+enclosed-inner OuterExists f w = refl
+enclosed-inner (OuterList j op l s) f w = refl
 
 pub from-own : (o : Outer WrittenValue) (n : ℤ) (x : ℕ) (w : WrittenCondition)
-    → (getD (ownNumbers (enclosed o (Over n x) w)) noteTable 0 ≡ toExcess n) × (getD (ownNumbers (enclosed o (Over n x) w)) noteLetter 0 ≡ x)
+    → let own = ownNumbers (enclosed o (Single (Over n x)) w) in
+    (getD own noteTable 0 ≡ toExcess n) × (getD own noteLetter 0 ≡ x)
 from-own OuterExists n x w = (refl, refl)
 from-own (OuterList j op l s) n x w = (refl, refl)
 
@@ -164,7 +158,7 @@ pub some-parts : (t : WrittenCondition) → 1 ≤ parts t
 unfolding parts
 some-parts (Atom x) = omega arith
 some-parts (Join j a b) = omega arith
-some-parts (Not a) = omega arith
+some-parts (Apply u a) = omega arith
 some-parts (Exists f w) = omega arith
 some-parts (Listed q op l s f w) = omega arith
 
@@ -208,15 +202,20 @@ module _ {notes : List ℕ} {h : ℕ} {before : List ℕ} {e levels : ℕ} where
   fewer q l are f d m =
       record { notes-room = omega (arith, q .notes-room); few-notes = omega (arith, q .few-notes); notes-are = are; fits = f; deep = d; kept = m }
 
-  pub not-inner : (a : WrittenCondition) → Standing notes h before (Not a) e levels → Standing notes (h - 1) before a e levels
+  pub unary-inner : (u : Unary) (a : WrittenCondition) → Standing notes h before (Apply u a) e levels → Standing notes (h - 1) before a e levels
   unfolding parts fromsDeep Throughout
-  not-inner a q = fewer q (omega arith) (inner-are q) (omega (arith, q .fits)) (q .deep) (q .kept)
+  unary-inner u a q = fewer q (omega arith) (inner-are q) (omega (arith, q .fits)) (q .deep) (q .kept)
 
-  pub from-inner : (o : Outer WrittenValue) (n : ℤ) (x : ℕ) (w : WrittenCondition) → Standing notes h before (enclosed o (Over n x) w) e levels
+  pub from-inner : (o : Outer WrittenValue) (n : ℤ) (x : ℕ) (w : WrittenCondition) → Standing notes h before (enclosed o (Single (Over n x)) w) e levels
       → Standing notes (h - 1) before w e (levels + 1)
-  unfolding parts fromsDeep Throughout
-  from-inner OuterExists n x w q = fewer q (omega arith) (inner-are q) (omega (arith, q .fits)) (omega (arith, q .deep)) (q .kept .1)
-  from-inner (OuterList j op l s) n x w q = fewer q (omega arith) (inner-are q) (omega (arith, q .fits)) (omega (arith, q .deep)) (q .kept .3)
+  from-inner o n x w q =
+      let f = Single (Over n x) in
+      fewer q
+      (omega arith)
+      (inner-are q ∙ ap (before ++_) (enclosed-inner o f w))
+      (omega (arith, q .fits, enclosed-parts o f w))
+      (omega (arith, q .deep, enclosed-deep o f w))
+      (enclosed-kept o f w (q .kept) .1)
 
   module _ (j : Connective) (a b : WrittenCondition) (q : Standing notes h before (Join j a b) e levels) where
     both-are : take (noteSize * (h - 1)) notes ≡ (before ++ noted a) ++ noted b
@@ -245,64 +244,72 @@ module _ {notes : List ℕ} {h : ℕ} {before : List ℕ} {e levels : ℕ} where
 
 -- ---- the kind tells the shape
 
+abbrev pub kindOf : WrittenCondition → Kind
+kindOf (Atom (Compare op l r)) = CompareKind
+kindOf (Atom (Mark m l)) = MarkKind m
+kindOf (Join j a b) = JoinKind j
+kindOf (Apply u a) = UnaryKind u
+kindOf (Exists f w) = ExistsKind
+kindOf (Listed q op l s f w) = ListKind q
+
+pub own-kind : (t : WrittenCondition) → getD (ownNumbers t) 0 0 ≡ kindNumber (kindOf t)
+own-kind (Atom (Compare op l r)) = refl
+own-kind (Atom (Mark m l)) = refl
+own-kind (Join j a b) = refl
+own-kind (Apply u a) = refl
+own-kind (Exists f w) = refl
+own-kind (Listed q op l s f w) = refl
+
 pub record PairShape (t : WrittenCondition) : Type 0 where
   pub joint : Connective
   pub left : WrittenCondition
   pub right : WrittenCondition
   pub is : t ≡ Join joint left right
 
-pub pair-shape : (t : WrittenCondition) → (joinKind And ≤ getD (ownNumbers t) 0 0) × (getD (ownNumbers t) 0 0 ≤ joinKind Or) → PairShape t
-pair-shape (Atom (Compare op l r)) k = absurd (omega arith)
-pair-shape (Atom (IsNull l)) k = absurd (omega arith)
-pair-shape (Atom (IsNotNull l)) k = absurd (omega arith)
-pair-shape (Join And a b) k = record { joint = And; left = a; right = b; is = refl }
-pair-shape (Join Or a b) k = record { joint = Or; left = a; right = b; is = refl }
-pair-shape (Not a) k = absurd (omega arith)
-pair-shape (Exists (Over n x) w) k = absurd (omega arith)
-pair-shape (Listed Some op l s (Over n x) w) k = absurd (omega arith)
-pair-shape (Listed All op l s (Over n x) w) k = absurd (omega arith)
-
-pub record NotShape (t : WrittenCondition) : Type 0 where
+pub record UnaryShape (t : WrittenCondition) : Type 0 where
+  pub unary : Unary
   pub inside : WrittenCondition
-  pub is : t ≡ Not inside
-
-pub not-shape : (t : WrittenCondition) → getD (ownNumbers t) 0 0 ≡ notKind → NotShape t
-not-shape (Atom (Compare op l r)) k = absurd (omega arith)
-not-shape (Atom (IsNull l)) k = absurd (omega arith)
-not-shape (Atom (IsNotNull l)) k = absurd (omega arith)
-not-shape (Join And a b) k = absurd (omega arith)
-not-shape (Join Or a b) k = absurd (omega arith)
-not-shape (Not a) k = record { inside = a; is = refl }
-not-shape (Exists (Over n x) w) k = absurd (omega arith)
-not-shape (Listed Some op l s (Over n x) w) k = absurd (omega arith)
-not-shape (Listed All op l s (Over n x) w) k = absurd (omega arith)
+  pub is : t ≡ Apply unary inside
 
 pub record TestShape (t : WrittenCondition) : Type 0 where
   pub test : Test WrittenValue
   pub is : t ≡ Atom test
-
-pub test-shape : (t : WrittenCondition) → (compareKind ≤ getD (ownNumbers t) 0 0) × (getD (ownNumbers t) 0 0 ≤ notNullKind) → TestShape t
-test-shape (Atom x) k = record { test = x; is = refl }
-test-shape (Join And a b) k = absurd (omega arith)
-test-shape (Join Or a b) k = absurd (omega arith)
-test-shape (Not a) k = absurd (omega arith)
-test-shape (Exists (Over n x) w) k = absurd (omega arith)
-test-shape (Listed Some op l s (Over n x) w) k = absurd (omega arith)
-test-shape (Listed All op l s (Over n x) w) k = absurd (omega arith)
 
 pub record FromShape (t : WrittenCondition) : Type 0 where
   pub outer : Outer WrittenValue
   pub table : ℤ
   pub letter : ℕ
   pub inside : WrittenCondition
-  pub is : t ≡ enclosed outer (Over table letter) inside
+  pub is : t ≡ enclosed outer (Single (Over table letter)) inside
 
-pub from-shape : (t : WrittenCondition) → existsKind ≤ getD (ownNumbers t) 0 0 → FromShape t
-from-shape (Atom (Compare op l r)) k = absurd (omega arith)
-from-shape (Atom (IsNull l)) k = absurd (omega arith)
-from-shape (Atom (IsNotNull l)) k = absurd (omega arith)
-from-shape (Join And a b) k = absurd (omega arith)
-from-shape (Join Or a b) k = absurd (omega arith)
-from-shape (Not a) k = absurd (omega arith)
-from-shape (Exists (Over n x) w) k = record { outer = OuterExists; table = n; letter = x; inside = w; is = refl }
-from-shape (Listed j op l s (Over n x) w) k = record { outer = OuterList j op l s; table = n; letter = x; inside = w; is = refl }
+abbrev Shape : WrittenCondition → Kind → Type 0
+Shape t (JoinKind j) = PairShape t
+Shape t (UnaryKind u) = UnaryShape t
+Shape t CompareKind = TestShape t
+Shape t (MarkKind m) = TestShape t
+Shape t ExistsKind = FromShape t
+Shape t (ListKind q) = FromShape t
+
+shape : (t : WrittenCondition) → Shape t (kindOf t)
+shape (Atom (Compare op l r)) = record { test = Compare op l r; is = refl }
+shape (Atom (Mark m l)) = record { test = Mark m l; is = refl }
+shape (Join j a b) = record { joint = j; left = a; right = b; is = refl }
+shape (Apply u a) = record { unary = u; inside = a; is = refl }
+shape (Exists (Single (Over n x)) w) = record { outer = OuterExists; table = n; letter = x; inside = w; is = refl }
+shape (Listed q op l s (Single (Over n x)) w) = record { outer = OuterList q op l s; table = n; letter = x; inside = w; is = refl }
+
+module _ (t : WrittenCondition) (n : ℕ) (here : n ≡ kindNumber (kindOf t)) where
+  told : (k : Kind) → n ≡ kindNumber k → Shape t k
+  told k e = subst (Shape t) (same-kind (kindOf t) k (sym here ∙ e)) (shape t)
+
+  pub pair-shape : JoinNumber n → PairShape t
+  pair-shape k = told (JoinKind (k .0)) (k .1)
+
+  pub unary-shape : UnaryNumber n → UnaryShape t
+  unary-shape k = told (UnaryKind (k .0)) (k .1)
+
+  pub test-shape : TestNumber n → TestShape t
+  test-shape k = ⊎-elim (λ e. told CompareKind e) (λ m. told (MarkKind (m .0)) (m .1)) k
+
+  pub from-shape : FromNumber n → FromShape t
+  from-shape k = ⊎-elim (λ e. told ExistsKind e) (λ q. told (ListKind (q .0)) (q .1)) k

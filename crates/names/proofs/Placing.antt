@@ -9,28 +9,31 @@ use lib.ListN.{length, take, drop, getD}
 use lib.Seq.{take-at}
 use Rattle.tables.specs.Lists.{_>>=_}
 use Rattle.tables.specs.Tables.{tableCount, columnsOf}
-use Rattle.tables.specs.Values.{mostLevels, Value, comparisonNumber, And, Or, Quantifier, Some, All}
+use Rattle.tables.specs.Values.{mostLevels, Value, comparisonNumber, And}
 use Rattle.tables.proofs.Sizes.{columns-count}
 use Rattle.cells.specs.Code.{fromExcess}
-use Rattle.rule.specs.Condition.{Test, Compare, IsNull, IsNotNull, Atom, Join, Not, Listed, WrittenValue, Over, WrittenCondition, Rule, parts, fromsDeep}
+use Rattle.rule.specs.Condition.{Test, Compare, Mark, Unary, From, Single, Atom, Join, Apply, Listed, WrittenValue, Source, Over, WrittenCondition, Rule, parts, fromsDeep}
 use Rattle.rule.specs.Throughout.{Throughout}
-use Rattle.rule.specs.Names.{mostParts, Scope, outermost, bound, existing, valueIn, testIn, ruleIn}
-use Rattle.rule.specs.Parts.{joinKind, listKind, notKind, compareKind, nullKind, notNullKind, existsKind, Head, AtomHead, JoinHead, NotHead, ExistsHead, ListedHead, partOf, partsFrom, partsOf}
+use Rattle.rule.specs.Names.{mostParts, Scope, outermost, bound, existing, valueIn, testIn, fromIn, ruleIn}
+use Rattle.rule.specs.Parts.{joinKind, compareKind, markKind, listKind, kindNumber, Head, AtomHead, JoinHead, UnaryHead, ExistsHead, ListedHead, partOf, partsFrom, partsOf}
+use Rattle.rule.specs.Groups.{lastKind, JoinNumber, UnaryNumber, TestNumber, FromNumber}
 use Rattle.rule.specs.declared.Part.{Part}
 use Rattle.phrases.specs.Code.{noted}
 use Rattle.grammar.specs.Code.{noteSize, noteComparison, noteTable, noteLetter, noteLeftLetter, noteRightLetter}
 use Rattle.scopes.specs.Code.{valueNumbers, existingAs, scopeIn, binding, outerScope, ScopeFits, partFields, plainPartNumbers, leftWritten, rightWritten, comparedNumbers, nullNumbers, ownPartNumbers, comparedAs}
 use Rattle.scopes.proofs.Looking.{none-there, some-there}
 use Rattle.scopes.proofs.Resolving.{map-none, Mapped, map-some}
+use Rattle.scopes.proofs.Owning.{own-mark, own-list}
 use Rattle.scopes.proofs.Scopes.{bound-below, bound-is, fits-fewer, room-for, fits-deeper, outer-is, outer-fits}
 use Rattle.rule.proofs.Parts.{parts-length}
+use Rattle.rule.proofs.Groups.{kind-bounds}
 use Rattle.names.specs.Code.{partSize, partsSize, partNumbers, partsNumbers, Kept, kindAt, Placeable, PlacedAt, PlacedAs, PlacedTo, Nameable, NamedAt}
 use Rattle.scopes.specs.declared.Compared.{Compared}
 use Rattle.scopes.specs.declared.Compared.the-variants.{Part as ComparedPart, NoValues}
 use Rattle.scopes.specs.declared.Fields.{Fields}
 use Rattle.names.specs.declared.Placed.{Placed}
 use Rattle.names.specs.declared.Placed.the-variants.{At, Unplaced}
-use Rattle.names.proofs.Notes.{ownNumbers, own-low, value-back, Standing, stands, some-parts, some-notes, number-is, value-at, kind-is, not-inner, from-inner, right-inner, left-enough, left-inner, PairShape, pair-shape, NotShape, not-shape, TestShape, test-shape, Outer, OuterExists, OuterList, enclosed, enclosed-parts, enclosed-deep, from-kept, from-own, FromShape, from-shape}
+use Rattle.names.proofs.Notes.{ownNumbers, value-back, Standing, stands, some-parts, some-notes, number-is, value-at, kind-is, unary-inner, from-inner, right-inner, left-enough, left-inner, kindOf, own-kind, PairShape, pair-shape, UnaryShape, unary-shape, TestShape, test-shape, Outer, OuterExists, OuterList, enclosed, enclosed-parts, enclosed-deep, enclosed-kept, from-own, FromShape, from-shape}
 
 -- ---- what may be missing
 
@@ -94,31 +97,39 @@ abbrev outerIn : List ℕ → Scope → Scope → Outer WrittenValue → Option 
 outerIn columns outside inside OuterExists = some OuterExists
 outerIn columns outside inside (OuterList j op l s) = valueIn columns outside l >>= (λ v. valueIn columns inside s >>= (λ w. some (OuterList j op v w)))
 
-abbrev outerHead : Outer Value → ℕ → Head
-outerHead OuterExists t = ExistsHead t
-outerHead (OuterList j op v w) t = ListedHead j op v w t
+abbrev outerHead : Outer Value → From ℕ → Head
+outerHead OuterExists f = ExistsHead f
+outerHead (OuterList j op v w) f = ListedHead j op v w f
 
-enclosed-from : (k : ℕ) (o : Outer Value) (t : ℕ) (w : Rule) → partsFrom k (enclosed o t w) ≡ partOf (k + (1 + parts w)) (outerHead o t) ∷ partsFrom (k + 1) w
+enclosed-from : (k : ℕ) (o : Outer Value) (f : From ℕ) (w : Rule) → partsFrom k (enclosed o f w) ≡ partOf (k + (1 + parts w)) (outerHead o f) ∷ partsFrom (k + 1) w
 unfolding partsFrom
-enclosed-from k OuterExists t w = refl
-enclosed-from k (OuterList j op l s) t w = refl
+enclosed-from k OuterExists f w = refl
+enclosed-from k (OuterList j op l s) f w = refl
 
 module _ (columns : List ℕ) (scope : Scope) where
-  enclosed-unknown : (o : Outer WrittenValue) (n : ℤ) (x : ℕ) (w : WrittenCondition) → existing (length columns) n ≡ none → ruleIn columns scope (enclosed o (Over n x) w) ≡ none
-  unfolding ruleIn
-  enclosed-unknown OuterExists n x w m = rw m
-  enclosed-unknown (OuterList j op l s) n x w m = rw m
+  module _ (n : ℤ) (x : ℕ) where
+    from-none : existing (length columns) n ≡ none → fromIn columns scope (Single (Over n x)) ≡ none
+    unfolding fromIn
+    from-none m = rw m
 
-  enclosed-known : (o : Outer WrittenValue) (n : ℤ) (x : ℕ) (w : WrittenCondition) (t : ℕ) → existing (length columns) n ≡ some t
-      → ruleIn columns scope (enclosed o (Over n x) w)
-      ≡ (outerIn columns scope (bound scope x t) o >>= (λ v. ruleIn columns (bound scope x t) w >>= (λ r. some (enclosed v t r))))
+    from-some : (t : ℕ) → existing (length columns) n ≡ some t → fromIn columns scope (Single (Over n x)) ≡ some (Single t, bound scope x t)
+    unfolding fromIn
+    from-some t m = rw m
+
+  enclosed-unknown : (o : Outer WrittenValue) (f : From Source) (w : WrittenCondition) → fromIn columns scope f ≡ none → ruleIn columns scope (enclosed o f w) ≡ none
   unfolding ruleIn
-  enclosed-known OuterExists n x w t m = rw m
-  enclosed-known (OuterList j op l s) n x w t m = rw m (go (valueIn columns scope l) (valueIn columns (bound scope x t) s) (ruleIn columns (bound scope x t) w))
+  enclosed-unknown OuterExists f w m = rw m
+  enclosed-unknown (OuterList j op l s) f w m = rw m
+
+  enclosed-known : (o : Outer WrittenValue) (f : From Source) (w : WrittenCondition) (g : From ℕ) (inside : Scope) → fromIn columns scope f ≡ some (g, inside)
+      → ruleIn columns scope (enclosed o f w) ≡ (outerIn columns scope inside o >>= (λ v. ruleIn columns inside w >>= (λ r. some (enclosed v g r))))
+  unfolding ruleIn
+  enclosed-known OuterExists f w g inside m = rw m
+  enclosed-known (OuterList j op l s) f w g inside m = rw m (go (valueIn columns scope l) (valueIn columns inside s) (ruleIn columns inside w))
     where
       go : (a b : Option Value) (o : Option Rule)
-          → (a >>= (λ v. b >>= (λ w. o >>= (λ r. some (Listed j op v w t r)))))
-          ≡ ((a >>= (λ v. b >>= (λ w. some (OuterList j op v w)))) >>= (λ v. o >>= (λ r. some (enclosed v t r))))
+          → (a >>= (λ v. b >>= (λ w. o >>= (λ r. some (Listed j op v w g r)))))
+          ≡ ((a >>= (λ v. b >>= (λ w. some (OuterList j op v w)))) >>= (λ v. o >>= (λ r. some (enclosed v g r))))
       go none b o = refl
       go (some v) none o = refl
       go (some v) (some w) o = refl
@@ -141,21 +152,16 @@ module _ (columns : List ℕ) (outside inside : Scope) (t e : ℕ) where
   null-map F g kind m none = refl
   null-map F g kind m (some v) = ap some (m v)
 
-  own-outer : (o : Outer WrittenValue) (n : ℤ) (x : ℕ) (w : WrittenCondition) → Kept (enclosed o (Over n x) w)
-      → ownIn (ownNumbers (enclosed o (Over n x) w)) ≡ Option·map (λ v. partNumbers (partOf e (outerHead v t))) (outerIn columns outside inside o)
+  own-outer : (o : Outer WrittenValue) (n : ℤ) (x : ℕ) (w : WrittenCondition) → Kept (enclosed o (Single (Over n x)) w)
+      → ownIn (ownNumbers (enclosed o (Single (Over n x)) w)) ≡ Option·map (λ v. partNumbers (partOf e (outerHead v (Single t)))) (outerIn columns outside inside o)
   unfolding Throughout
   own-outer OuterExists n x w kept = refl
   own-outer (OuterList j op l s) n x w kept =
       ap₂ (λ (l s : WrittenValue). ownPartNumbers (listKind j) (comparisonNumber op) t e (valueIn columns outside l) (valueIn columns inside s))
       (value-back l (kept .0))
       (value-back s (kept .1))
-      ∙ go j
-    where
-      go : (j : Quantifier)
-          → ownPartNumbers (listKind j) (comparisonNumber op) t e (valueIn columns outside l) (valueIn columns inside s)
-          ≡ Option·map (λ v. partNumbers (partOf e (outerHead v t))) (outerIn columns outside inside (OuterList j op l s))
-      go Some = compared-map (OuterList Some op) _ (listKind Some) (comparisonNumber op) (λ v w. refl) (valueIn columns outside l) (valueIn columns inside s)
-      go All = compared-map (OuterList All op) _ (listKind All) (comparisonNumber op) (λ v w. refl) (valueIn columns outside l) (valueIn columns inside s)
+      ∙ own-list (listKind j) (comparisonNumber op) t e (valueIn columns outside l) (valueIn columns inside s) j refl
+      ∙ compared-map (OuterList j op) _ (listKind j) (comparisonNumber op) (λ v w. refl) (valueIn columns outside l) (valueIn columns inside s)
 
 own-test : (columns : List ℕ) (scope : Scope) (e : ℕ) (x : Test WrittenValue) → Kept (Atom x)
     → ownIn columns scope scope 0 e (ownNumbers (Atom x)) ≡ Option·map (λ y. partNumbers (partOf e (AtomHead y))) (testIn columns scope x)
@@ -165,12 +171,10 @@ own-test columns scope e (Compare op l r) kept =
     (value-back l (kept .0))
     (value-back r (kept .1))
     ∙ compared-map columns scope scope 0 e (Compare op) _ compareKind (comparisonNumber op) (λ v w. refl) (valueIn columns scope l) (valueIn columns scope r)
-own-test columns scope e (IsNull l) kept =
-    ap (λ (l : WrittenValue). nullNumbers nullKind e (valueIn columns scope l)) (value-back l kept)
-    ∙ null-map columns scope scope 0 e IsNull _ nullKind (λ v. refl) (valueIn columns scope l)
-own-test columns scope e (IsNotNull l) kept =
-    ap (λ (l : WrittenValue). nullNumbers notNullKind e (valueIn columns scope l)) (value-back l kept)
-    ∙ null-map columns scope scope 0 e IsNotNull _ notNullKind (λ v. refl) (valueIn columns scope l)
+own-test columns scope e (Mark m l) kept =
+    own-mark (markKind m) 0 0 e _ _ m refl
+    ∙ ap (λ (l : WrittenValue). nullNumbers (markKind m) e (valueIn columns scope l)) (value-back l kept)
+    ∙ null-map columns scope scope 0 e (Mark m) _ (markKind m) (λ v. refl) (valueIn columns scope l)
 
 -- ---- a FROM whose table was found, and its letter bound
 
@@ -212,15 +216,14 @@ module _ {file notes : List ℕ} {h : ℕ} {room : List ℕ} {e : ℕ} {scope : 
   pub has-parts : (1 ≤ e) × (e ≤ mostParts)
   has-parts = (omega (arith, q .fits, some-parts (q .tree)), q .few-parts)
 
-  kind-here : kindAt notes h ≡ getD (ownNumbers (q .tree)) 0 0
-  kind-here = kind-is here
+  kind-here : kindAt notes h ≡ kindNumber (kindOf (q .tree))
+  kind-here = kind-is here ∙ own-kind (q .tree)
 
-  pub kind-low : 1 ≤ kindAt notes h
-  kind-low = rw kind-here (own-low (q .tree))
+  pub kind-low : joinKind And ≤ kindAt notes h
+  kind-low = omega (arith, kind-here, kind-bounds (kindOf (q .tree)))
 
-  -- the kinds between those of NOT and EXISTS
-  pub test-kinds : notKind ≤ kindAt notes h → kindAt notes h < existsKind → (kindAt notes h ≡ notKind → ⊥) → (compareKind ≤ kindAt notes h) × (kindAt notes h ≤ notNullKind)
-  test-kinds a b x = (omega arith, omega arith)
+  pub kind-high : kindAt notes h ≤ lastKind
+  kind-high = omega (arith, kind-here, kind-bounds (kindOf (q .tree)))
 
   pub file-long : 0 < length file
   file-long = omega (arith, q .sized .long)
@@ -271,55 +274,61 @@ module _ {file notes : List ℕ} {h : ℕ} {room : List ℕ} {e : ℕ} {scope : 
 
   -- ---- NOT
 
-  module _ (k : kindAt notes h ≡ notKind) where
-    pub not-here : NotShape (q .tree)
-    not-here = not-shape (q .tree) (sym kind-here ∙ k)
+  module _ (k : UnaryNumber (kindAt notes h)) where
+    pub unary-here : UnaryShape (q .tree)
+    unary-here = unary-shape (q .tree) (kindAt notes h) kind-here k
 
-    abbrev pub not-tree : WrittenCondition
-    not-tree = not-here .inside
+    abbrev pub unary : Unary
+    unary = unary-here .unary
 
-    pub not-stands : Standing notes h (q .before) (Not not-tree) e levels
-    not-stands = stands q (Not not-tree) (not-here .is)
+    abbrev pub unary-tree : WrittenCondition
+    unary-tree = unary-here .inside
 
-    pub not-in : Standing notes (h - 1) (q .before) not-tree e levels
-    not-in = not-inner not-tree not-stands
+    pub unary-stands : Standing notes h (q .before) (Apply unary unary-tree) e levels
+    unary-stands = stands q (Apply unary unary-tree) (unary-here .is)
 
-    abbrev pub not-run : Placeable file notes (h - 1) room e scope levels
-    not-run = run-of not-in (q .scope-fits) (q .parts-size) (q .few-parts)
+    pub unary-in : Standing notes (h - 1) (q .before) unary-tree e levels
+    unary-in = unary-inner unary unary-tree unary-stands
 
-    pub not-missing : (mid : List ℕ) (r : Placed) → PlacedTo file notes (h - 1) room mid e scope levels r → r ≡ Unplaced → ruleIn columns around (q .tree) ≡ none
+    abbrev pub unary-run : Placeable file notes (h - 1) room e scope levels
+    unary-run = run-of unary-in (q .scope-fits) (q .parts-size) (q .few-parts)
+
+    pub unary-missing : (mid : List ℕ) (r : Placed) → PlacedTo file notes (h - 1) room mid e scope levels r → r ≡ Unplaced → ruleIn columns around (q .tree) ≡ none
     unfolding ruleIn
-    not-missing mid r w u = missing-as (Not not-tree) (not-here .is) (rw (was-missing file scope levels not-tree room mid e r (w not-run) u))
+    unary-missing mid r w u = missing-as (Apply unary unary-tree) (unary-here .is) (rw (was-missing file scope levels unary-tree room mid e r (w unary-run) u))
 
     module _ {mid : List ℕ} {p : ℕ} (i : Inner file notes (h - 1) room e scope levels mid p) where
-      not-at : PlacedAt file scope levels not-tree room mid p e
-      not-at = i .placed not-run
+      unary-at : PlacedAt file scope levels unary-tree room mid p e
+      unary-at = i .placed unary-run
 
-      pub not-room : (1 ≤ p) × (p ≤ mostParts)
+      pub unary-room : (1 ≤ p) × (p ≤ mostParts)
       unfolding parts
-      not-room = (omega (arith, not-at .start, not-stands .fits), omega (arith, not-at .start, q .few-parts))
+      unary-room = (omega (arith, unary-at .start, unary-stands .fits), omega (arith, unary-at .start, q .few-parts))
 
-      pub not-placed : (new own : List ℕ) → own ≡ plainPartNumbers notKind e → drop (partSize * (p - 1)) new ≡ own ++ drop (partSize * (p - 1 + 1)) mid
+      pub unary-placed : (new own : List ℕ) → own ≡ plainPartNumbers (kindAt notes h) e → drop (partSize * (p - 1)) new ≡ own ++ drop (partSize * (p - 1 + 1)) mid
           → PlacedAt file scope levels (q .tree) room new (p - 1) e
       unfolding ruleIn parts partsFrom
-      not-placed new own o d =
-          let w = not-at in
+      unary-placed new own o d =
+          let w = unary-at in
           let s = w .start in
-          let y = not-room in
+          let y = unary-room in
           let sp = w .same-parts in
-          placed-as (Not not-tree) (not-here .is) new (p - 1) record {
-            rule = Not (w .rule);
+          placed-as (Apply unary unary-tree) (unary-here .is) new (p - 1) record {
+            rule = Apply unary (w .rule);
             named = rw (w .named);
             same-parts = ap (1 +_) sp;
             start = omega arith;
-            written = around-written room mid new (p - 1) e p (omega arith) (w .rule) NotHead own (omega arith) (w .written) o d;
+            written =
+                around-written room mid new (p - 1) e p (omega arith) (w .rule) (UnaryHead unary) own (omega arith) (w .written)
+                (o ∙ ap (λ (n : ℕ). plainPartNumbers n e) (kind-is unary-stands))
+                d;
           }
 
   -- ---- AND and OR
 
-  module _ (k : (joinKind And ≤ kindAt notes h) × (kindAt notes h ≤ joinKind Or)) where
+  module _ (k : JoinNumber (kindAt notes h)) where
     pub pair-here : PairShape (q .tree)
-    pair-here = pair-shape (q .tree) (rw (← kind-here) k)
+    pair-here = pair-shape (q .tree) (kindAt notes h) kind-here k
 
     abbrev pub left-tree : WrittenCondition
     left-tree = pair-here .left
@@ -425,10 +434,10 @@ module _ {file notes : List ℕ} {h : ℕ} {room : List ℕ} {e : ℕ} {scope : 
       (value-at st noteLeftLetter (omega arith))
       (value-at st noteRightLetter (omega arith))
 
-  module _ (k : (compareKind ≤ kindAt notes h) × (kindAt notes h ≤ notNullKind)) (r : Compared)
+  module _ (k : TestNumber (kindAt notes h)) (r : Compared)
       (came : comparedAs r ≡ ownPartNumbers kindHere opHere 0 e (valueIn columns around leftHere) (valueIn columns around rightHere)) where
     test-here : TestShape (q .tree)
-    test-here = test-shape (q .tree) (rw (← kind-here) k)
+    test-here = test-shape (q .tree) (kindAt notes h) kind-here k
 
     test-stands : Standing notes h (q .before) (Atom (test-here .test)) e levels
     test-stands = stands q (Atom (test-here .test)) (test-here .is)
@@ -462,9 +471,9 @@ module _ {file notes : List ℕ} {h : ℕ} {room : List ℕ} {e : ℕ} {scope : 
 
   -- ---- EXISTS, SOME and ALL
 
-  module _ (k : existsKind ≤ kindAt notes h) where
+  module _ (k : FromNumber (kindAt notes h)) where
     pub from-here : FromShape (q .tree)
-    from-here = from-shape (q .tree) (rw (← kind-here) k)
+    from-here = from-shape (q .tree) (kindAt notes h) kind-here k
 
     abbrev pub outer : Outer WrittenValue
     outer = from-here .outer
@@ -478,24 +487,27 @@ module _ {file notes : List ℕ} {h : ℕ} {room : List ℕ} {e : ℕ} {scope : 
     abbrev pub from-tree : WrittenCondition
     from-tree = from-here .inside
 
+    abbrev from : From Source
+    from = Single (Over table letter)
+
     abbrev from-whole : WrittenCondition
-    from-whole = enclosed outer (Over table letter) from-tree
+    from-whole = enclosed outer from from-tree
 
     pub from-stands : Standing notes h (q .before) from-whole e levels
     from-stands = stands q from-whole (from-here .is)
 
     pub from-few : levels < mostLevels
-    from-few = omega (arith, from-stands .deep, enclosed-deep outer (Over table letter) from-tree)
+    from-few = omega (arith, from-stands .deep, enclosed-deep outer from from-tree)
 
     table-is : (t : ℕ) → TableFound file notes h t → existingAs t ≡ existing (length columns) table
     table-is t f =
         f
         ∙ ap₂ existing (sym (columns-count file))
         (ap fromExcess (number-is from-stands noteTable (omega arith) ∙ from-own outer table letter from-tree .0)
-        ∙ from-kept outer (Over table letter) from-tree (from-stands .kept))
+        ∙ enclosed-kept outer from from-tree (from-stands .kept) .0)
 
     pub from-unknown : (t : ℕ) → TableFound file notes h t → t ≡ 0 → ruleIn columns around (q .tree) ≡ none
-    from-unknown t f z = missing-as from-whole (from-here .is) (enclosed-unknown columns around outer table letter from-tree (none-there t (table-is t f) z))
+    from-unknown t f z = missing-as from-whole (from-here .is) (enclosed-unknown columns around outer from from-tree (from-none columns around table letter (none-there t (table-is t f) z)))
 
     module _ {t : ℕ} {inside : List ℕ} (b : Bound file notes h scope levels t inside) where
       pub from-fits : (seen : ℕ) → seen ≤ levels + 1 → ScopeFits file inside seen
@@ -518,10 +530,10 @@ module _ {file notes : List ℕ} {h : ℕ} {room : List ℕ} {e : ℕ} {scope : 
       abbrev outer-here : Option (Outer Value)
       outer-here = outerIn columns around (bound around letter t) outer
 
-      from-rule : ruleIn columns around from-whole ≡ (outer-here >>= (λ v. ruleIn columns (scopeIn inside (levels + 1)) from-tree >>= (λ w. some (enclosed v t w))))
+      from-rule : ruleIn columns around from-whole ≡ (outer-here >>= (λ v. ruleIn columns (scopeIn inside (levels + 1)) from-tree >>= (λ w. some (enclosed v (Single t) w))))
       from-rule =
-          enclosed-known columns around outer table letter from-tree t (some-there t (table-is t (b .found)) (b .known))
-          ∙ ap (λ (s : Scope). outer-here >>= (λ v. ruleIn columns s from-tree >>= (λ w. some (enclosed v t w)))) (sym inside-is)
+          enclosed-known columns around outer from from-tree (Single t) _ (from-some columns around table letter t (some-there t (table-is t (b .found)) (b .known)))
+          ∙ ap (λ (s : Scope). outer-here >>= (λ v. ruleIn columns s from-tree >>= (λ w. some (enclosed v (Single t) w)))) (sym inside-is)
 
       pub from-missing : (mid : List ℕ) (r : Placed) → PlacedTo file notes (h - 1) room mid e inside (levels + 1) r → r ≡ Unplaced → ruleIn columns around (q .tree) ≡ none
       from-missing mid r w u =
@@ -534,11 +546,11 @@ module _ {file notes : List ℕ} {h : ℕ} {room : List ℕ} {e : ℕ} {scope : 
 
         pub from-room : (1 ≤ p) × (p ≤ mostParts)
         from-room =
-            (omega (arith, from-at .start, from-stands .fits, enclosed-parts outer (Over table letter) from-tree), omega (arith, from-at .start, q .few-parts))
+            (omega (arith, from-at .start, from-stands .fits, enclosed-parts outer from from-tree), omega (arith, from-at .start, q .few-parts))
 
       module _ (r : Compared)
           (came : comparedAs r ≡ ownPartNumbers kindHere opHere t e (valueIn columns (scopeIn inside levels) leftHere) (valueIn columns (scopeIn inside (levels + 1)) rightHere)) where
-        came-own : comparedAs r ≡ Option·map (λ v. partNumbers (partOf e (outerHead v t))) outer-here
+        came-own : comparedAs r ≡ Option·map (λ v. partNumbers (partOf e (outerHead v (Single t)))) outer-here
         came-own =
             came
             ∙ (ap₂ (λ (s w : Scope). ownPartNumbers kindHere opHere t e (valueIn columns s leftHere) (valueIn columns w rightHere)) outside-is inside-is
@@ -550,7 +562,7 @@ module _ {file notes : List ℕ} {h : ℕ} {room : List ℕ} {e : ℕ} {scope : 
             missing-as from-whole (from-here .is) (from-rule ∙ rw m)
 
         module _ (own : Fields) (u : r ≡ ComparedPart own) where
-          found-own : Mapped (λ v. partNumbers (partOf e (outerHead v t))) outer-here (partFields own)
+          found-own : Mapped (λ v. partNumbers (partOf e (outerHead v (Single t)))) outer-here (partFields own)
           found-own = map-some _ outer-here (partFields own) (sym (ap comparedAs u) ∙ came-own)
 
           pub from-placed : {mid : List ℕ} {p : ℕ} → Inner file notes (h - 1) room e inside (levels + 1) mid p → (new : List ℕ) → drop (partSize * (p - 1)) new ≡ partFields own ++ drop (partSize * (p - 1 + 1)) mid
@@ -560,17 +572,17 @@ module _ {file notes : List ℕ} {h : ℕ} {room : List ℕ} {e : ℕ} {scope : 
               let s = w .start in
               let y = from-room i in
               let sp = w .same-parts in
-              let n = enclosed-parts outer (Over table letter) from-tree in
+              let n = enclosed-parts outer from from-tree in
               let v = found-own in
-              let n2 = enclosed-parts (v .value) t (w .rule) in
+              let n2 = enclosed-parts (v .value) (Single t) (w .rule) in
               placed-as from-whole (from-here .is) new (p - 1) record {
-                rule = enclosed (v .value) t (w .rule);
+                rule = enclosed (v .value) (Single t) (w .rule);
                 named = from-rule ∙ rw (v .is, w .named);
                 same-parts = omega arith;
                 start = omega arith;
                 written =
-                    around-written room mid new (p - 1) e p (omega arith) (w .rule) (outerHead (v .value) t) (partFields own) (omega arith) (w .written) (sym (v .image)) d
-                    ∙ ap (λ (ps : List Part). partsNumbers ps ++ drop (partSize * e) room) (sym (enclosed-from (p - 1) (v .value) t (w .rule)));
+                    around-written room mid new (p - 1) e p (omega arith) (w .rule) (outerHead (v .value) (Single t)) (partFields own) (omega arith) (w .written) (sym (v .image)) d
+                    ∙ ap (λ (ps : List Part). partsNumbers ps ++ drop (partSize * e) room) (sym (enclosed-from (p - 1) (v .value) (Single t) (w .rule)));
               }
 
 -- ---- a whole rule

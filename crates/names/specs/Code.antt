@@ -10,7 +10,7 @@ use lib.ListN.{length, take, drop, getD}
 use Rattle.tables.specs.Tables.{columnsOf}
 use Rattle.tables.specs.Values.{mostLevels}
 use Rattle.cells.specs.Code.{fromExcess, toExcess, Sized}
-use Rattle.rule.specs.Condition.{WrittenValue, Plain, Named, From, Over, WrittenCondition, Rule, parts, fromsDeep}
+use Rattle.rule.specs.Condition.{WrittenValue, Plain, Named, Source, Over, WrittenCondition, Rule, parts, fromsDeep}
 use Rattle.rule.specs.Throughout.{Throughout}
 use Rattle.rule.specs.Names.{mostParts, mostFroms, outermost, ruleIn}
 use Rattle.rule.specs.Parts.{partsFrom, partsOf}
@@ -72,13 +72,13 @@ abbrev pub ValueKept : WrittenValue → Type 0
 ValueKept (Plain k) = NumberKept k
 ValueKept (Named x k) = (1 ≤ x) × NumberKept k
 
--- and so does a FROM's table
-abbrev pub FromKept : From → Type 0
-FromKept (Over n x) = NumberKept n
+-- and so does a table of a FROM
+abbrev pub SourceKept : Source → Type 0
+SourceKept (Over n x) = NumberKept n
 
 -- and so do all values and FROMs of a condition
 abbrev pub Kept : WrittenCondition → Type 0
-Kept = Throughout ValueKept FromKept
+Kept = Throughout ValueKept SourceKept
 
 -- ---- placing parts
 

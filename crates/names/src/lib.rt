@@ -4,11 +4,10 @@
 // bound.
 ghost use mathlib.Core.Path.{_≡_};
 ghost use mathlib.Core.List.{_++_};
-ghost use Prim.Native.Nat.{_+_, _*_, _-_, _<_, _≤_};
+ghost use Prim.Native.Nat.{_+_, _*_, _<_};
 ghost use lib.ListN.{length, drop};
-ghost use Rattle.tables.specs.Values.{And, Or};
 ghost use Rattle.rule.specs.Names.{mostParts};
-ghost use Rattle.rule.specs.Parts.{joinKind, notKind, compareKind, notNullKind, existsKind};
+ghost use Rattle.rule.specs.Groups.{JoinNumber, UnaryNumber, TestNumber, FromNumber};
 ghost use Rattle.scopes.specs.Code.{partFields};
 ghost use Rattle.names.specs.Code.{partSize, partsSize, kindAt, Placeable, PlacedTo, Nameable, NamedTo};
 use cells::byte;
@@ -16,12 +15,15 @@ use grammar::MOST_PARTS;
 use grammar::NOTE_FIELDS;
 use grammar::NOTE_LETTER;
 use grammar::NOTE_TABLE;
+use rule::ALL_PART;
 use rule::AND_PART;
 use rule::COMPARISON_PART;
+use rule::EXISTS_PART;
 use rule::NOT_NULL_PART;
 use rule::NOT_PART;
 use rule::NULL_PART;
 use rule::OR_PART;
+use rule::SOME_PART;
 use scopes::Compared;
 use scopes::Fields;
 use scopes::SCOPE_NUMBERS;
@@ -93,11 +95,17 @@ fn place(
     let kind = notes[NOTE_FIELDS * (h - 1)];
     match kind {
         AND_PART | OR_PART => place_pair(file, notes, h, parts, e, scope, levels),
-        NOT_PART => place_not(file, notes, h, parts, e, scope, levels),
+        NOT_PART => place_unary(file, notes, h, parts, e, scope, levels),
         COMPARISON_PART | NULL_PART | NOT_NULL_PART => {
             place_test(file, notes, h, parts, e, scope, levels)
         }
-        _ => place_from(file, notes, h, parts, e, scope, levels),
+        EXISTS_PART | SOME_PART | ALL_PART => {
+            place_from(file, notes, h, parts, e, scope, levels)
+        }
+        _ => {
+            cells::never();
+            Placed::Unplaced
+        }
     }
 }
 
@@ -111,7 +119,7 @@ fn place_pair(
     scope: &[usize; SCOPE_NUMBERS],
     levels: usize,
 ) -> Placed
-    requires { ⌜ Placeable (now file) (now notes) h (now parts) e (now scope) levels ⌝ ∗ ⌜ (joinKind And ≤ kindAt (now notes) h) × (kindAt (now notes) h ≤ joinKind Or) ⌝ }
+    requires { ⌜ Placeable (now file) (now notes) h (now parts) e (now scope) levels ⌝ ∗ ⌜ JoinNumber (kindAt (now notes) h) ⌝ }
     ensures placed { λ r. ⌜ PlacedTo (now (file .entry)) (now (notes .entry)) h (now (parts .entry)) (now (parts .exit)) e (now (scope .entry)) levels r ⌝ }
     ensures size { λ _. ⌜ length (now (parts .exit)) ≡ partsSize ⌝ }
 {
@@ -128,8 +136,8 @@ fn place_pair(
     Placed::At(at)
 }
 
-// NOT.
-fn place_not(
+// NOT: a part that says no more than its kind, before one inner condition.
+fn place_unary(
     file: &[u8],
     notes: &[usize],
     h: usize,
@@ -138,15 +146,16 @@ fn place_not(
     scope: &[usize; SCOPE_NUMBERS],
     levels: usize,
 ) -> Placed
-    requires { ⌜ Placeable (now file) (now notes) h (now parts) e (now scope) levels ⌝ ∗ ⌜ kindAt (now notes) h ≡ notKind ⌝ }
+    requires { ⌜ Placeable (now file) (now notes) h (now parts) e (now scope) levels ⌝ ∗ ⌜ UnaryNumber (kindAt (now notes) h) ⌝ }
     ensures placed { λ r. ⌜ PlacedTo (now (file .entry)) (now (notes .entry)) h (now (parts .entry)) (now (parts .exit)) e (now (scope .entry)) levels r ⌝ }
     ensures size { λ _. ⌜ length (now (parts .exit)) ≡ partsSize ⌝ }
 {
+    let b = NOTE_FIELDS * (h - 1);
     let Placed::At(inner) = place(file, notes, h - 1, parts, e, scope, levels) else {
         return Placed::Unplaced;
     };
     let at = inner - 1;
-    put_part(parts, at, plain_part(NOT_PART, e));
+    put_part(parts, at, plain_part(notes[b], e));
     Placed::At(at)
 }
 
@@ -160,7 +169,7 @@ fn place_test(
     scope: &[usize; SCOPE_NUMBERS],
     levels: usize,
 ) -> Placed
-    requires { ⌜ Placeable (now file) (now notes) h (now parts) e (now scope) levels ⌝ ∗ ⌜ (compareKind ≤ kindAt (now notes) h) × (kindAt (now notes) h ≤ notNullKind) ⌝ }
+    requires { ⌜ Placeable (now file) (now notes) h (now parts) e (now scope) levels ⌝ ∗ ⌜ TestNumber (kindAt (now notes) h) ⌝ }
     ensures placed { λ r. ⌜ PlacedTo (now (file .entry)) (now (notes .entry)) h (now (parts .entry)) (now (parts .exit)) e (now (scope .entry)) levels r ⌝ }
     ensures size { λ _. ⌜ length (now (parts .exit)) ≡ partsSize ⌝ }
 {
@@ -183,7 +192,7 @@ fn place_from(
     scope: &[usize; SCOPE_NUMBERS],
     levels: usize,
 ) -> Placed
-    requires { ⌜ Placeable (now file) (now notes) h (now parts) e (now scope) levels ⌝ ∗ ⌜ existsKind ≤ kindAt (now notes) h ⌝ }
+    requires { ⌜ Placeable (now file) (now notes) h (now parts) e (now scope) levels ⌝ ∗ ⌜ FromNumber (kindAt (now notes) h) ⌝ }
     ensures placed { λ r. ⌜ PlacedTo (now (file .entry)) (now (notes .entry)) h (now (parts .entry)) (now (parts .exit)) e (now (scope .entry)) levels r ⌝ }
     ensures size { λ _. ⌜ length (now (parts .exit)) ≡ partsSize ⌝ }
 {

@@ -3,7 +3,7 @@ use mathlib.Core.Path.{_≡_, sym, ap, _∙_}
 use mathlib.Core.Bool.{Bool, true, false}
 use mathlib.Core.List.{List, [], _++_}
 use mathlib.Core.Option.{Option, none, some}
-use Prim.Native.Nat.{ℕ, _≤_, _<_}
+use Prim.Native.Nat.{ℕ, _*_, _≤_, _<_}
 use native.Mathlib.Omega.{arith}
 use borrow.Author.Tests.{lt-ltb, le-ltb, le-leb, lt-leb}
 use lib.Dec.{ltb}
@@ -29,8 +29,10 @@ use Rattle.lexer.specs.Code.{tokensIn, tokenizedAs, tokensFit}
 use Rattle.lexer.specs.declared.Tokenized.{Tokenized}
 use Rattle.grammar.specs.Code.{notesSize, WholeReading, ReadsAll}
 use Rattle.grammar.specs.declared.Step.{Step}
-use Rattle.names.specs.Code.{partsSize, Nameable, NamedAt, NamedTo}
+use Rattle.names.specs.Code.{partSize, partsSize, Nameable, NamedAt, NamedTo}
 use Rattle.names.proofs.Keeping.{read-kept}
+use Rattle.parts.specs.Code.{Countable, CountedTo}
+use Rattle.parts.proofs.Parts.{rule-stands}
 use Rattle.parser.specs.Code.{TextReady, TokensParsing, TokensParsedTo, parsedAnswer, parseCall, Parsing, ParsedTo}
 use Rattle.parser.proofs.Sizes.{written-count}
 use Rattle.parser.specs.declared.Parsed.{Parsed}
@@ -112,20 +114,40 @@ module _ (s file : List ℕ) where
         unfolding nameable
         unnamed new r e f = no-rule (rw e at (f nameable))
 
-        pub parsed-tokens : (new : List ℕ) (r : Bool) → r ≡ true → length new ≡ partsSize → NamedTo file notes n new r → TokensParsing s file new n
-        unfolding nameable
-        parsed-tokens new r e l f =
-            let named : NamedAt file (w .tree) n new = rw e at (f nameable) in
-            record {
+        -- the names are found: the first parts are those of the rule, whose entries can be counted
+        module _ (new : List ℕ) (r : Bool) (e : r ≡ true) (l : length new ≡ partsSize) (f : NamedTo file notes n new r) where
+          is-named : NamedAt file (w .tree) n new
+          unfolding nameable
+          is-named = rw e at (f nameable)
+
+          has-count : n ≡ parts (is-named .rule)
+          has-count = written-count new n (is-named .rule) (omega arith) (is-named .written)
+
+          abbrev countable : Countable new n
+          countable =
+              record {
+                rule = is-named .rule;
+                size = l;
+                count = has-count;
+                few = omega arith;
+                stands = rule-stands new (is-named .rule) (sym (ap (λ (k : ℕ). take (partSize * k) new) has-count) ∙ is-named .written);
+              }
+
+          pub parsed-tokens : Countable new n × ((m : ℕ) → CountedTo new n m → TokensParsing s file new n m)
+          parsed-tokens = (
+            countable,
+            λ m c. record {
               brackets = b;
               tree = w .tree;
               reads = w .reads;
               limits = limits;
-              rule = named .rule;
-              named = named .named;
-              count = written-count new n (named .rule) (omega arith) (named .written);
-              written = named .written;
-            }
+              rule = is-named .rule;
+              named = is-named .named;
+              count = has-count;
+              written = is-named .written;
+              sum = c countable;
+            },
+          )
 
 -- what the lexer answered, and the grammar's reader
 module _ (text new : List ℕ) (r : Tokenized) (told : tokenizedAs r new ≡ tokensOf text) where
@@ -184,7 +206,7 @@ module _ (text file : List ℕ) where
           ∙ first-append (tablesRefusals file) _ (ready .tables-pass)
           ∙ first-append (textRefusals text) _ (scan-passes text (ready .short) _ are)
 
-      module _ (written : List ℕ) (m : ℕ) (q : TokensParsing s file written m) where
+      module _ (written : List ℕ) (n m : ℕ) (q : TokensParsing s file written n m) where
         accepted : Accepted text file
         unfolding firstApplying
         accepted = tokens-decide ∙ rw (q .brackets, q .reads, q .limits, q .named)
@@ -193,14 +215,14 @@ module _ (text file : List ℕ) where
         unfolding ruleOf conditionOf
         is-rule = rw (are, q .reads, q .named)
 
-        parsing : Parsing text file written m
-        parsing = record { accepted = accepted; rule = q .rule; is-rule = is-rule; count = q .count; written = q .written }
+        parsing : Parsing text file written n m
+        parsing = record { accepted = accepted; rule = q .rule; is-rule = is-rule; count = q .count; written = q .written; sum = q .sum }
 
-        parse-given : Given m ≡ parseCall text file
+        parse-given : Given n ≡ parseCall text file
         unfolding parseCall
         parse-given = ap Given (q .count ∙ sym (ap (λ (o : Option Rule). withRule o 0 parts) is-rule)) ∙ sym (unless-none _ _ accepted)
 
       pub parse-tokens-to : (written : List ℕ) (t : Parsed) → TokensParsedTo s file written t
           → (parsedAnswer t ≡ parseCall text file) × ParsedTo text file written t
-      parse-tokens-to written (ParsedRule m) q = (parse-given written m q, parsing written m q)
+      parse-tokens-to written (ParsedRule n m) q = (parse-given written n m q, parsing written n m q)
       parse-tokens-to written (ParsedRefused x) q = (refused-first (tokens-decide ∙ q), tt)

@@ -16,14 +16,15 @@ use Rattle.cells.proofs.Valid.{refused-some}
 use Rattle.rule.specs.Condition.{Rule, parts, fromsDeep}
 use Rattle.rule.specs.Names.{mostParts, Fits}
 use Rattle.rule.specs.Parts.{partsOf}
+use Rattle.rule.specs.Sum.{entrySum}
 use Rattle.rule.specs.Calls.{ruleOf, readingRefusals, Accepted}
 use Rattle.rule.proofs.Parts.{parts-length}
 use Rattle.rule.proofs.Accepted.{accepted-claim, parts-claim}
 use Rattle.names.specs.Code.{partSize, partsNumbers}
 use Rattle.parser.specs.Code.{parsedAnswer, refusalIn, parseCall, Parsing, ParsedTo}
-use Rattle.parser.specs.Parts.{partsIn, SmallParts}
+use Rattle.parts.specs.Parts.{partsIn, SmallParts}
 use Rattle.parser.specs.declared.Parsed.{Parsed}
-use Rattle.parser.proofs.Small.{rule-small, few-tables, few-columns, written-parts}
+use Rattle.parts.proofs.Small.{rule-small, few-tables, few-columns, written-parts}
 
 -- the rule of an accepted text
 pub record Known (file : List ℕ) (rule : Rule) : Type 0 where
@@ -54,24 +55,25 @@ module _ (text file : List ℕ) (r : Parsed) where
   unfolding parseCall
   parse-refused x y p e u = rw (u ∙ ap refusalIn e) (refused-some _ (firstApplying (readingRefusals text file)) (sym (ap parsedAnswer e) ∙ p))
 
-  pub parse-given : (new : List ℕ) (n : ℕ) → ParsedTo text file new r → r ≡ Parsed.Rule n → Parsing text file new n
-  parse-given new n told e = rw e at told
+  pub parse-given : (new : List ℕ) (n m : ℕ) → ParsedTo text file new r → r ≡ Parsed.Rule n m → Parsing text file new n m
+  parse-given new n m told e = rw e at told
 
--- a rule that it gave, with its parts at the front of an array
-pub record Read (text file new : List ℕ) (n : ℕ) : Type 0 where
+-- a rule that it gave, with its n parts at the front of an array and the m entries of its card
+pub record Read (text file new : List ℕ) (n m : ℕ) : Type 0 where
   pub accepted : Accepted text file
   pub rule : Rule
   pub is-rule : ruleOf text (columnsOf file) ≡ some rule
   pub count : n ≡ parts rule
   pub written : take (partSize * parts rule) new ≡ partsNumbers (partsOf rule)
+  pub sum : m ≡ entrySum rule
   pub sized : Sized file
   pub fits : Fits (columnsOf file) judgedLevels rule
   pub few-parts : n ≤ mostParts
   pub few-froms : fromsDeep rule ≤ 3
 
-pub rule-read : (text file new : List ℕ) {r : Parsed} {n : ℕ} → r ≡ Parsed.Rule n → ParsedTo text file new r → Read text file new n
-rule-read text file new {r} {n} e told =
-    let q = parse-given text file r new n told e in
+pub rule-read : (text file new : List ℕ) {r : Parsed} {n m : ℕ} → r ≡ Parsed.Rule n m → ParsedTo text file new r → Read text file new n m
+rule-read text file new {r} {n} {m} e told =
+    let q = parse-given text file r new n m told e in
     let k = known text file (q .rule) (q .accepted) (q .is-rule) in
     let few = k .few-parts in
     record {
@@ -80,6 +82,7 @@ rule-read text file new {r} {n} e told =
       is-rule = q .is-rule;
       count = q .count;
       written = sym (ap (λ (k : ℕ). take (partSize * k) new) (q .count)) ∙ q .written;
+      sum = q .sum;
       sized = k .sized;
       fits = k .fits;
       few-parts = omega (arith, q .count);

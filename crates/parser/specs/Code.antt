@@ -17,6 +17,7 @@ use Rattle.rule.specs.Condition.{WrittenCondition, Rule, parts}
 use Rattle.rule.specs.Reader.{readAll}
 use Rattle.rule.specs.Names.{limitsFit, outermost, ruleIn}
 use Rattle.rule.specs.Parts.{partsOf}
+use Rattle.rule.specs.Sum.{entrySum}
 use Rattle.rule.specs.Calls.{mostBytes, tokensRefusals, ruleOf, readingRefusals, Accepted, withRule}
 use Rattle.lexer.specs.Code.{tokensIn}
 use Rattle.grammar.specs.Code.{noteSize}
@@ -40,8 +41,8 @@ pub record TextReady (text file : List ℕ) : Type 0 where
   pub sized : Sized file
   pub tables-pass : firstApplying (tablesRefusals file) ≡ none
 
--- the rule of some tokens, and its parts at the front of an array
-pub record TokensParsing (s file new : List ℕ) (n : ℕ) : Type 0 where
+-- the rule of some tokens, its n parts at the front of an array, and the m entries of its card
+pub record TokensParsing (s file new : List ℕ) (n m : ℕ) : Type 0 where
   pub brackets : opensFit (pos 0) (tokensIn s) ≡ true
   pub tree : WrittenCondition
   pub reads : readAll (tokensIn s) ≡ some tree
@@ -50,34 +51,36 @@ pub record TokensParsing (s file new : List ℕ) (n : ℕ) : Type 0 where
   pub named : ruleIn (columnsOf file) outermost tree ≡ some rule
   pub count : n ≡ parts rule
   pub written : take (partSize * n) new ≡ partsNumbers (partsOf rule)
+  pub sum : m ≡ entrySum rule
 
 abbrev pub TokensParsedTo : (s file new : List ℕ) → Parsed → Type 0
-TokensParsedTo s file new (ParsedRule n) = TokensParsing s file new n
+TokensParsedTo s file new (ParsedRule n m) = TokensParsing s file new n m
 TokensParsedTo s file new (ParsedRefused x) = firstApplying (tokensRefusals (columnsOf file) (some (tokensIn s))) ≡ some (reasonNumber x)
 
 -- ---- reading as a whole
 
 -- how many parts a rule has, or a refusal of reading
 abbrev pub parsedAnswer : Parsed → Answer ℕ
-parsedAnswer (ParsedRule n) = Given n
+parsedAnswer (ParsedRule n m) = Given n
 parsedAnswer (ParsedRefused x) = Refused (reasonNumber x)
 
 -- why there is no rule; of a rule, which nothing refuses, the last reason
 abbrev pub refusalIn : Parsed → Reason
-refusalIn (ParsedRule n) = Short
+refusalIn (ParsedRule n m) = Short
 refusalIn (ParsedRefused x) = x
 
 unfoldable pub parseCall : List ℕ → List ℕ → Answer ℕ
 parseCall text file = unless (firstApplying (readingRefusals text file)) (λ _. withRule (ruleOf text (columnsOf file)) 0 parts)
 
--- the rule of a text, and its parts at the front of an array
-pub record Parsing (text file new : List ℕ) (n : ℕ) : Type 0 where
+-- the rule of a text, its n parts at the front of an array, and the m entries of its card
+pub record Parsing (text file new : List ℕ) (n m : ℕ) : Type 0 where
   pub accepted : Accepted text file
   pub rule : Rule
   pub is-rule : ruleOf text (columnsOf file) ≡ some rule
   pub count : n ≡ parts rule
   pub written : take (partSize * n) new ≡ partsNumbers (partsOf rule)
+  pub sum : m ≡ entrySum rule
 
 abbrev pub ParsedTo : (text file new : List ℕ) → Parsed → Type 0
-ParsedTo text file new (ParsedRule n) = Parsing text file new n
+ParsedTo text file new (ParsedRule n m) = Parsing text file new n m
 ParsedTo text file new (ParsedRefused x) = Unit {0}

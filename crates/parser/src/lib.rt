@@ -30,9 +30,9 @@ const FEW_PARTS: usize = 16;
 
 const FEW_NOTES: usize = NOTE_FIELDS * FEW_PARTS;
 
-// What reading gives: the number of a rule's parts, or why there is no rule.
+// What reading gives: the number of a rule's parts and that of the entries of its card, or why there is no rule.
 pub enum Parsed {
-    Rule(usize),
+    Rule(usize, usize),
     Refused(Reason),
 }
 
@@ -41,7 +41,7 @@ pub fn refusal(parsed: Parsed) -> Reason
     ensures { λ r. ⌜ r ≡ refusalIn parsed ⌝ }
 {
     match parsed {
-        Parsed::Rule(_) => Reason::Short,
+        Parsed::Rule(_, _) => Reason::Short,
         Parsed::Refused(x) => x,
     }
 }
@@ -99,7 +99,8 @@ fn parse_tokens(s: &[usize], file: &[u8], parts: &mut [usize; PART_NUMBERS]) -> 
     if !named {
         return Parsed::Refused(Reason::Names);
     }
-    Parsed::Rule(count)
+    let entries = parts::count_entries(parts, count);
+    Parsed::Rule(count, entries)
 }
 
 // The rule of a text that is not too long, with tables that are not refused: refusals 4 to 8. There is room for its tokens.

@@ -11,14 +11,13 @@ use lib.ListN.{getD}
 use Rattle.tables.specs.Lists.{_>>=_}
 use Rattle.tables.specs.Values.{Comparison, comparisonOf, Quantifier}
 use Rattle.tables.proofs.Values.{comparison-number}
-use Rattle.cells.specs.Code.{fromExcess}
 use Rattle.cells.proofs.Signed.{to-from}
 use Rattle.rule.specs.Tokens.{SELECT, Open}
-use Rattle.rule.specs.Condition.{Over, WrittenValue, parts, fromsDeep}
+use Rattle.rule.specs.Condition.{WrittenValue, parts, fromsDeep}
 use Rattle.rule.specs.Parts.{listKind}
 use Rattle.rule.specs.Reader.{readValue, readFrom, Around, OfList, startList}
 use Rattle.lexer.specs.Code.{codeOf}
-use Rattle.phrases.specs.Code.{tokensFrom, writtenNumbers, writtenOf, noteNumbers, noted, ValueIs, ValueAt, FromIs, FromAt, AroundIs}
+use Rattle.phrases.specs.Code.{tokensFrom, writtenNumbers, writtenOf, fromOf, noteNumbers, noted, ValueIs, ValueAt, FromIs, FromAt, AroundIs}
 use Rattle.phrases.specs.declared.Note.{Note}
 use Rattle.phrases.specs.declared.ValueRead.{ValueRead}
 use Rattle.phrases.specs.declared.ValueRead.the-variants.{Value as ReadValue, NoValue}
@@ -77,7 +76,7 @@ module _ (s : List ℕ) (at : ℕ) where
           no-source e = rw (behind-select, v .found, e)
 
           pub list-found : (t y next : ℕ) → FromIs s behind t y next
-              → startList q op l (tokensFrom s at) ≡ some (Around (OfList q op l (writtenOf r m) (Over (fromExcess t) y)) (tokensFrom s next))
+              → startList q op l (tokensFrom s at) ≡ some (Around (OfList q op l (writtenOf r m) (fromOf t y)) (tokensFrom s next))
           list-found t y next f = rw (behind-select, v .found, f .found)
 
   module _ (q : Quantifier) (kind c x n : ℕ) (low : 1 ≤ c) (high : c ≤ 6) (k : kind ≡ listKind q) (bracket : getD s at 0 ≡ codeOf Open) (select : getD s (at + 1) 0 ≡ codeOf SELECT)
@@ -86,7 +85,7 @@ module _ (s : List ℕ) (at : ℕ) where
       pub a-list : (note : Note) → noteNumbers note ≡ kind ∷ c ∷ t ∷ y ∷ x ∷ n ∷ r ∷ m ∷ [] → AroundIs s at (startList q (comparisonOf c) (writtenOf x n) (tokensFrom s at)) note next
       unfolding noted parts fromsDeep
       a-list note e = record {
-        opening = OfList q (comparisonOf c) (writtenOf x n) (writtenOf r m) (Over (fromExcess t) y);
+        opening = OfList q (comparisonOf c) (writtenOf x n) (writtenOf r m) (fromOf t y);
         found = list-found q (comparisonOf c) (writtenOf x n) bracket select r m behind v t y next f;
         notes = λ w. rw (e, to-from t, comparison-number c low high, value-numbers x n, value-numbers r m, k);
         one = λ w. refl;

@@ -6,16 +6,15 @@ use Prim.Native.Nat.{ℕ, _+_, _-_, _<_, _≤_}
 use native.Mathlib.Omega.{arith}
 use lib.ListN.{getD}
 use Rattle.tables.specs.Lists.{_>>=_, _<|>_}
-use Rattle.tables.specs.Values.{Comparison, Eq, Ne, comparisonNumber, comparisonOf, Quantifier, Some, All}
+use Rattle.tables.specs.Values.{Comparison, Eq, Ne, comparisonNumber, comparisonOf, Quantifier, Some, All, MarkTest, Null, NotNull}
 use Rattle.tables.proofs.Values.{comparison-number}
-use Rattle.cells.specs.Code.{fromExcess}
 use Rattle.cells.proofs.Signed.{to-from}
 use Rattle.rule.specs.Tokens.{Token, NOT, EXISTS, IN, SOME, ALL, IS, NULL, Open}
-use Rattle.rule.specs.Condition.{Compare, IsNull, IsNotNull, Atom, Over, WrittenValue, parts, fromsDeep}
-use Rattle.rule.specs.Parts.{listKind, compareKind, nullKind, notNullKind, existsKind}
+use Rattle.rule.specs.Condition.{Compare, Mark, Atom, WrittenValue, parts, fromsDeep}
+use Rattle.rule.specs.Parts.{compareKind, markKind, existsKind, listKind}
 use Rattle.rule.specs.Reader.{expect, readValue, readFrom, Start, Whole, Around, OfExists, startList, startValue, start}
 use Rattle.lexer.specs.Code.{comparesCode, letterCode, codeOf}
-use Rattle.phrases.specs.Code.{tokensFrom, writtenOf, noteNumbers, leftNumbers, noted, Moved, ValueIs, FromIs, WholeIs, AroundIs, BracketIs, Starts, ListAt, BehindAt, TestAt}
+use Rattle.phrases.specs.Code.{tokensFrom, writtenOf, fromOf, noteNumbers, leftNumbers, noted, Moved, ValueIs, FromIs, WholeIs, AroundIs, BracketIs, Starts, ListAt, BehindAt, TestAt}
 use Rattle.phrases.specs.declared.Note.{Note}
 use Rattle.phrases.specs.declared.Start.{Start as Started}
 use Rattle.phrases.specs.declared.Start.the-variants.{Whole as StartedWhole, Around as StartedAround, Bracket as StartedBracket, NoTest}
@@ -53,8 +52,8 @@ module _ (l : WrittenValue) (s : List ℕ) (at : ℕ) where
   module _ (is : getD s at 0 ≡ codeOf IS) where
     behind-is :
         startValue l (tokensFrom s at)
-        ≡ ((expect NULL (tokensFrom s (at + 1)) >>= (λ rest. some (Whole (Atom (IsNull l)) rest)))
-        <|> (expect NOT (tokensFrom s (at + 1)) >>= (λ vs. expect NULL vs >>= (λ rest. some (Whole (Atom (IsNotNull l)) rest)))))
+        ≡ ((expect NULL (tokensFrom s (at + 1)) >>= (λ rest. some (Whole (Atom (Mark Null l)) rest)))
+        <|> (expect NOT (tokensFrom s (at + 1)) >>= (λ vs. expect NULL vs >>= (λ rest. some (Whole (Atom (Mark NotNull l)) rest)))))
     unfolding startValue
     behind-is =
         rw (
@@ -65,20 +64,20 @@ module _ (l : WrittenValue) (s : List ℕ) (at : ℕ) where
         )
         (simp or-none)
 
-    pub null-found : getD s (at + 1) 0 ≡ codeOf NULL → startValue l (tokensFrom s at) ≡ some (Whole (Atom (IsNull l)) (tokensFrom s (at + 2)))
+    pub null-found : getD s (at + 1) 0 ≡ codeOf NULL → startValue l (tokensFrom s at) ≡ some (Whole (Atom (Mark Null l)) (tokensFrom s (at + 2)))
     null-found u = rw (behind-is, expect-to s (at + 1) (codeOf NULL) (at + 2) tt (omega arith) u)
 
     pub no-null : (getD s (at + 1) 0 ≡ codeOf NULL → ⊥) → (getD s (at + 1) 0 ≡ codeOf NOT → ⊥) → startValue l (tokensFrom s at) ≡ none
     no-null f g = rw (behind-is, expect-no s (at + 1) (codeOf NULL) f, expect-no s (at + 1) (codeOf NOT) g)
 
     module _ (u : getD s (at + 1) 0 ≡ codeOf NOT) where
-      behind-not-is : startValue l (tokensFrom s at) ≡ (expect NULL (tokensFrom s (at + 2)) >>= (λ rest. some (Whole (Atom (IsNotNull l)) rest)))
+      behind-not-is : startValue l (tokensFrom s at) ≡ (expect NULL (tokensFrom s (at + 2)) >>= (λ rest. some (Whole (Atom (Mark NotNull l)) rest)))
       behind-not-is = rw (behind-is, expect-no s (at + 1) (codeOf NULL) (λ e. omega arith), expect-to s (at + 1) (codeOf NOT) (at + 2) tt (omega arith) u)
 
       pub no-not-null : (getD s (at + 2) 0 ≡ codeOf NULL → ⊥) → startValue l (tokensFrom s at) ≡ none
       no-not-null f = rw (behind-not-is, expect-no s (at + 2) (codeOf NULL) f)
 
-      pub not-null-found : getD s (at + 2) 0 ≡ codeOf NULL → startValue l (tokensFrom s at) ≡ some (Whole (Atom (IsNotNull l)) (tokensFrom s (at + 3)))
+      pub not-null-found : getD s (at + 2) 0 ≡ codeOf NULL → startValue l (tokensFrom s at) ≡ some (Whole (Atom (Mark NotNull l)) (tokensFrom s (at + 3)))
       not-null-found w = rw (behind-not-is, expect-to s (at + 2) (codeOf NULL) (at + 3) tt (omega arith) w)
 
   -- a comparison
@@ -162,30 +161,22 @@ module _ (l : WrittenValue) (s : List ℕ) (at : ℕ) where
 
 -- the same, as what the functions answer: x and n are the value's numbers
 module _ (x n : ℕ) (s : List ℕ) (at : ℕ) where
+  -- a test by the mark, up to the place behind it
+  a-mark : (m : MarkTest) (note : Note) (next : ℕ) → startValue (writtenOf x n) (tokensFrom s at) ≡ some (Whole (Atom (Mark m (writtenOf x n))) (tokensFrom s next))
+      → noteNumbers note ≡ leftNumbers (markKind m) x n → Moved s at next → WholeIs s at (startValue (writtenOf x n) (tokensFrom s at)) note next
+  unfolding noted parts fromsDeep
+  a-mark m note next found e h =
+      record { whole = Atom (Mark m (writtenOf x n)); found = found; notes = rw (e, value-numbers x n); one = refl; flat = refl; moved = h }
+
   module _ (is : getD s at 0 ≡ codeOf IS) (note : Note) where
-    pub a-null : getD s (at + 1) 0 ≡ codeOf NULL → noteNumbers note ≡ leftNumbers nullKind x n → WholeIs s at (startValue (writtenOf x n) (tokensFrom s at)) note (at + 2)
-    unfolding noted parts fromsDeep
-    a-null u e = record {
-      whole = Atom (IsNull (writtenOf x n));
-      found = null-found (writtenOf x n) s at is u;
-      notes = rw (e, value-numbers x n);
-      one = refl;
-      flat = refl;
-      moved = moved s at (at + 1) (at + 2) (omega arith) (omega arith) (omega arith);
-    }
+    pub a-null : getD s (at + 1) 0 ≡ codeOf NULL → noteNumbers note ≡ leftNumbers (markKind Null) x n → WholeIs s at (startValue (writtenOf x n) (tokensFrom s at)) note (at + 2)
+    a-null u e = a-mark Null note (at + 2) (null-found (writtenOf x n) s at is u) e (moved s at (at + 1) (at + 2) (omega arith) (omega arith) (omega arith))
 
     pub a-not-null :
-        getD s (at + 1) 0 ≡ codeOf NOT → getD s (at + 2) 0 ≡ codeOf NULL → noteNumbers note ≡ leftNumbers notNullKind x n
+        getD s (at + 1) 0 ≡ codeOf NOT → getD s (at + 2) 0 ≡ codeOf NULL → noteNumbers note ≡ leftNumbers (markKind NotNull) x n
         → WholeIs s at (startValue (writtenOf x n) (tokensFrom s at)) note (at + 3)
-    unfolding noted parts fromsDeep
-    a-not-null u w e = record {
-      whole = Atom (IsNotNull (writtenOf x n));
-      found = not-null-found (writtenOf x n) s at is u w;
-      notes = rw (e, value-numbers x n);
-      one = refl;
-      flat = refl;
-      moved = moved s at (at + 2) (at + 3) (omega arith) (omega arith) (omega arith);
-    }
+    a-not-null u w e =
+        a-mark NotNull note (at + 3) (not-null-found (writtenOf x n) s at is u w) e (moved s at (at + 2) (at + 3) (omega arith) (omega arith) (omega arith))
 
   -- t is the number of a comparison
   module _ (t : ℕ) (is : t ≡ getD s at 0) (low : comparesCode < t) (high : t < letterCode) where
@@ -243,7 +234,7 @@ module _ (s : List ℕ) (at : ℕ) where
           → AroundIs s at (start (tokensFrom s at)) note next
       unfolding noted parts fromsDeep
       an-exists t y next f note e = record {
-        opening = OfExists (Over (fromExcess t) y);
+        opening = OfExists (fromOf t y);
         found = rw (behind-bracket, f .found);
         notes = λ w. rw (e, to-from t);
         one = λ w. refl;

@@ -7,12 +7,11 @@ use native.Mathlib.Omega.{arith}
 use borrow.Author.Tests.{ne-eqb}
 use lib.ListN.{getD}
 use Rattle.tables.specs.Lists.{_>>=_}
-use Rattle.cells.specs.Code.{fromExcess}
 use Rattle.rule.specs.Tokens.{FROM, WHERE, Point}
-use Rattle.rule.specs.Condition.{Named, Over}
+use Rattle.rule.specs.Condition.{Named}
 use Rattle.rule.specs.Reader.{expect, readNumber, readLetter, readValue, readFrom}
 use Rattle.lexer.specs.Code.{letterCode, numberCode, codeOf}
-use Rattle.phrases.specs.Code.{tokensFrom, Moved, ValueIs, FromIs}
+use Rattle.phrases.specs.Code.{fromOf, tokensFrom, Moved, ValueIs, FromIs}
 use Rattle.phrases.proofs.Tokens.{there, by-kind, number-here, letter-here, expect-to, expect-no, number-to, number-no, letter-to, letter-no}
 
 -- a place before one whose number is not 0
@@ -65,7 +64,7 @@ module _ (s : List ℕ) (at : ℕ) where
 
     module _ (x : ℕ) (high : numberCode ≤ n) (letter : x ≡ getD s (at + 2) 0) where
       behind-table :
-          readFrom (tokensFrom s at) ≡ (readLetter (tokensFrom s (at + 2)) >>= (λ x. expect WHERE (x .1) >>= (λ vs. some (Over (fromExcess (n - numberCode)) (x .0), vs))))
+          readFrom (tokensFrom s at) ≡ (readLetter (tokensFrom s (at + 2)) >>= (λ x. expect WHERE (x .1) >>= (λ vs. some (fromOf (n - numberCode) (x .0), vs))))
       unfolding readFrom
       behind-table =
           rw (expect-to s at (codeOf FROM) (at + 1) tt refl (omega arith), number-to s (at + 1) (at + 2) (omega arith) (omega arith), table)

@@ -9,8 +9,8 @@ use lib.Dec.{eqb}
 use lib.ListN.{length, drop}
 use Rattle.tables.specs.Values.{comparisonNumber, comparisonOf, Quantifier}
 use Rattle.cells.specs.Code.{fromExcess, toExcess}
-use Rattle.rule.specs.Condition.{Compare, IsNull, IsNotNull, Atom, Join, Not, Exists, Listed, WrittenValue, Plain, Named, Over, WrittenCondition, parts, fromsDeep}
-use Rattle.rule.specs.Parts.{joinKind, listKind, notKind, compareKind, nullKind, notNullKind, existsKind}
+use Rattle.rule.specs.Condition.{Compare, Mark, From, Single, Atom, Join, Apply, Exists, Listed, WrittenValue, Plain, Named, Source, Over, WrittenCondition, parts, fromsDeep}
+use Rattle.rule.specs.Parts.{joinKind, unaryKind, compareKind, markKind, existsKind, listKind}
 use Rattle.rule.specs.Grammar.{Tokens}
 use Rattle.rule.specs.Reader.{readValue, readFrom, Opening, Bracket, closed, Start, Whole, Around, startList, startValue, start}
 use Rattle.lexer.specs.Code.{tokensIn}
@@ -37,6 +37,13 @@ writtenNumbers (Named x k) = x ∷ toExcess k ∷ []
 abbrev pub writtenOf : ℕ → ℕ → WrittenValue
 writtenOf x n = cond (eqb x 0) (Plain (fromExcess n)) (Named x (fromExcess n))
 
+-- what a FROM says, as it is written: its table's number plus 2 ^ 31, and its letter
+abbrev pub fromNumbers : From Source → List ℕ
+fromNumbers (Single (Over n x)) = toExcess n ∷ x ∷ []
+
+abbrev pub fromOf : ℕ → ℕ → From Source
+fromOf t x = Single (Over (fromExcess t) x)
+
 -- a part of this kind with a left value alone, or with none
 abbrev pub leftNumbers : ℕ → ℕ → ℕ → List ℕ
 leftNumbers kind x n = kind ∷ 0 ∷ 0 ∷ 0 ∷ x ∷ n ∷ 0 ∷ 0 ∷ []
@@ -47,13 +54,11 @@ plainNoteNumbers kind = leftNumbers kind 0 0
 -- the parts of a condition as they are written, each after its inner parts
 unfoldable pub noted : WrittenCondition → List ℕ
 noted (Atom (Compare op l r)) = compareKind ∷ comparisonNumber op ∷ 0 ∷ 0 ∷ (writtenNumbers l ++ writtenNumbers r)
-noted (Atom (IsNull l)) = nullKind ∷ 0 ∷ 0 ∷ 0 ∷ (writtenNumbers l ++ (0 ∷ 0 ∷ []))
-noted (Atom (IsNotNull l)) = notNullKind ∷ 0 ∷ 0 ∷ 0 ∷ (writtenNumbers l ++ (0 ∷ 0 ∷ []))
+noted (Atom (Mark m l)) = markKind m ∷ 0 ∷ 0 ∷ 0 ∷ (writtenNumbers l ++ (0 ∷ 0 ∷ []))
 noted (Join j a b) = noted a ++ (noted b ++ plainNoteNumbers (joinKind j))
-noted (Not a) = noted a ++ plainNoteNumbers notKind
-noted (Exists (Over n x) w) = noted w ++ (existsKind ∷ 0 ∷ toExcess n ∷ x ∷ 0 ∷ 0 ∷ 0 ∷ 0 ∷ [])
-noted (Listed q op l s (Over n x) w) =
-    noted w ++ (listKind q ∷ comparisonNumber op ∷ toExcess n ∷ x ∷ (writtenNumbers l ++ writtenNumbers s))
+noted (Apply u a) = noted a ++ plainNoteNumbers (unaryKind u)
+noted (Exists f w) = noted w ++ (existsKind ∷ 0 ∷ (fromNumbers f ++ (0 ∷ 0 ∷ 0 ∷ 0 ∷ [])))
+noted (Listed q op l s f w) = noted w ++ (listKind q ∷ comparisonNumber op ∷ (fromNumbers f ++ (writtenNumbers l ++ writtenNumbers s)))
 
 -- ---- places
 
@@ -77,7 +82,7 @@ ValueAt s at (ReadValue x n next) = ValueIs s at x n next
 ValueAt s at NoValue = readValue (tokensFrom s at) ≡ none
 
 pub record FromIs (s : List ℕ) (at t x next : ℕ) : Type 0 where
-  pub found : readFrom (tokensFrom s at) ≡ some (Over (fromExcess t) x, tokensFrom s next)
+  pub found : readFrom (tokensFrom s at) ≡ some (fromOf t x, tokensFrom s next)
   pub moved : Moved s at next
 
 abbrev pub FromAt : List ℕ → ℕ → FromRead → Type 0

@@ -13,7 +13,7 @@ use Rattle.rule.specs.Calls.{readCall}
 use Rattle.rule.specs.declared.Part.{Part}
 use Rattle.rule.proofs.Calls.{calls-claim}
 use Rattle.parser.specs.Code.{parsedAnswer, refusalIn, parseCall}
-use Rattle.parser.specs.Parts.{partsIn, SmallParts}
+use Rattle.parts.specs.Parts.{partsIn, SmallParts}
 use Rattle.parser.specs.declared.Parsed.{Parsed}
 use Rattle.parser.proofs.Known.{Read, parse-refused, rule-parts}
 use Rattle.reader.specs.Code.{ReadTo}
@@ -44,7 +44,7 @@ module _ (text file : List ℕ) (room : ℕ) (new : List ℕ) where
   read-refused r x y p e u = not-read y (λ old _. calls-claim .read-refused text file old _ (parse-refused text file r x y p e u))
 
   -- a rule was read
-  module _ {n : ℕ} (q : Read text file new n) where
+  module _ {n m : ℕ} (q : Read text file new n m) where
     pub read-short : room < n → ReadTo text file room new (NotRead Reason.Short)
     read-short h = not-read Reason.Short (λ old l. calls-claim .read-short text file old (q .accepted) (q .rule) (q .is-rule) (omega (arith, q .count)))
 

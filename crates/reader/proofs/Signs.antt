@@ -13,10 +13,9 @@ use mir.Syntax.{w32}
 use mir.Val.{SFits, toZ, ofZ}
 use mir.Facts.{toZ-ofZ}
 use Rattle.tables.specs.Values.{constantTag}
-use Rattle.rule.specs.Parts.{partWith}
 use Rattle.rule.specs.declared.TaggedValue.{TaggedValue}
 use Rattle.names.specs.Code.{partSize, partComparison, partTable, partEnd, partLeftTag, partLeftNumber, partRightTag, partRightNumber}
-use Rattle.parser.specs.Parts.{signedOf, taggedFrom, partIn, Signable}
+use Rattle.parts.specs.Parts.{signedOf, taggedFrom, partIn, Signable}
 use Rattle.cells.specs.Code.{excessAdded}
 
 -- ---- by its tag, in the code
@@ -66,5 +65,5 @@ pub part-is : (l : List ℕ) (i : ℕ) {op t e : ℕ} {left right : TaggedValue}
     → t ≡ getD l (partSize * i + partTable) 0 → e ≡ getD l (partSize * i + partEnd) 0
     → left ≡ taggedFrom (getD l (partSize * i + partLeftTag) 0) (getD l (partSize * i + partLeftNumber) 0)
     → right ≡ taggedFrom (getD l (partSize * i + partRightTag) 0) (getD l (partSize * i + partRightNumber) 0)
-    → partWith (getD l (partSize * i) 0) op t e left right ≡ partIn l i
+    → record { kind = getD l (partSize * i) 0; comparison = op; table = t; end = e; left = left; right = right } ≡ partIn l i
 part-is l i is-op is-t is-e is-left is-right = rw (is-op, is-t, is-e, is-left, is-right)

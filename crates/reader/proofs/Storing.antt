@@ -7,7 +7,7 @@ use lib.ListN.{length, set, drop, length-append}
 use Rattle.tables.specs.Lists.{placed}
 use Rattle.tables.proofs.Placed.{placed-length, placed-start, placed-one, placed-next}
 use Rattle.rule.specs.declared.Part.{Part}
-use Rattle.parser.specs.Parts.{partIn, partsIn}
+use Rattle.parts.specs.Parts.{partIn, partsIn}
 
 module _ (numbers : List ℕ) where
   parts-count : (i : ℕ) → length (partsIn numbers i) ≡ i

@@ -6,7 +6,7 @@ use lib.ListN.{length, drop}
 use Rattle.rule.specs.Names.{mostParts}
 use Rattle.rule.specs.declared.Part.{Part}
 use Rattle.rule.specs.Calls.{readCall}
-use Rattle.parser.specs.Parts.{partsIn, SmallParts}
+use Rattle.parts.specs.Parts.{partsIn, SmallParts}
 use Rattle.reader.specs.Answers.{readAnswer}
 use Rattle.reader.specs.declared.Reading.{Reading}
 use Rattle.reader.specs.declared.Reading.the-variants.{Parts, NotRead}

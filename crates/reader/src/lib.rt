@@ -7,7 +7,7 @@ ghost use Prim.Native.Nat.{_+_, _*_, _<_, _≤_};
 ghost use lib.ListN.{length, drop, getD};
 ghost use Rattle.rule.specs.Calls.{readCall};
 ghost use Rattle.names.specs.Code.{partSize, partsSize};
-ghost use Rattle.parser.specs.Parts.{signedOf, taggedFrom, partIn, partsIn, Signable, SmallPart, SmallParts};
+ghost use Rattle.parts.specs.Parts.{signedOf, taggedFrom, partIn, partsIn, Signable, SmallPart, SmallParts};
 ghost use Rattle.reader.specs.Answers.{readAnswer};
 ghost use Rattle.reader.specs.Code.{storedBy, ReadTo};
 use cells::EXCESS;
@@ -44,7 +44,7 @@ fn read_numbers(
     ensures size { λ _. ⌜ length (now (numbers .exit)) ≡ partsSize ⌝ }
 {
     let parsed = parser::parse(text, file, numbers);
-    let Parsed::Rule(n) = parsed else {
+    let Parsed::Rule(n, _) = parsed else {
         return Reading::NotRead(parser::refusal(parsed));
     };
     if room < n {

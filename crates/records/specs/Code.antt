@@ -5,15 +5,16 @@ use mathlib.Core.Bool.{Bool, true, false, cond}
 use mathlib.Core.List.{List, [], _∷_, _++_}
 use Prim.Native.Nat.{ℕ, _+_, _*_, _<_, _≤_}
 use lib.Dec.{eqb}
-use lib.ListN.{length, getD}
+use lib.ListN.{length}
 use Rattle.tables.specs.Lists.{placed}
 use Rattle.tables.specs.Bytes.{bytes16, bytes32}
-use Rattle.tables.specs.Values.{constantTag, And, Or, Some, All}
+use Rattle.tables.specs.Values.{constantTag, unusedValue, Comparison, comparisonNumber, Connective, Some, All, MarkTest}
 use Rattle.cells.specs.Code.{words32, excess}
 use Rattle.card.specs.Card.{AsNo, AsYes}
-use Rattle.card.specs.Layout.{recordSize, pairKind, rowKind, comparisonKind, blankKind, notBlankKind, noValue}
+use Rattle.card.specs.Layout.{recordSize, pairKind, rowKind, comparisonKind, markKind, valueBytes}
 use Rattle.card.specs.Sound.{mostEntries}
-use Rattle.rule.specs.Parts.{joinKind, notNullKind}
+use Rattle.rule.specs.Parts.{joinKind, markKind as partMark}
+use Rattle.translation.specs.Translation.{otherComparison, otherConnective, otherMark}
 use Rattle.records.specs.declared.LeafNumbers.{LeafNumbers}
 
 -- ---- bytes
@@ -24,7 +25,7 @@ byteNumber tag n = cond (eqb tag constantTag) (excess n) n
 
 -- the record of an entry with inner ones
 abbrev pub plainRecord : ℕ → ℕ → List ℕ
-plainRecord end′ table = bytes16 end′ ++ (table ∷ 0 ∷ noValue ++ noValue)
+plainRecord end′ table = bytes16 end′ ++ (table ∷ 0 ∷ valueBytes unusedValue ++ valueBytes unusedValue)
 
 -- and of any, by its end, its table and what else it says
 abbrev pub entryRecord : ℕ → ℕ → LeafNumbers → List ℕ
@@ -54,15 +55,29 @@ pub record EntryWritten (kinds records kinds′ records′ : List ℕ) (k end′
 abbrev pub LeafWritten : (kinds records kinds′ records′ : List ℕ) (k : ℕ) → LeafNumbers → Type 0
 LeafWritten kinds records kinds′ records′ k x = EntryWritten kinds records kinds′ records′ k (k + 1) 0 x
 
--- ---- kinds and comparisons, negated or not
+-- ---- kinds and comparisons, negated or not: an entry's number by the number that the part has
 
-abbrev pub comparisonAs : Bool → ℕ → ℕ
-comparisonAs false op = op
-comparisonAs true op = getD (0 ∷ 2 ∷ 1 ∷ 6 ∷ 5 ∷ 4 ∷ 3 ∷ []) op op
+-- the number of a comparison
+abbrev pub ComparisonCode : ℕ → Type 0
+ComparisonCode n = (op : Comparison) × (n ≡ comparisonNumber op)
 
-abbrev pub pairKindAs : Bool → ℕ → ℕ
-pairKindAs false kind = cond (eqb kind (joinKind Or)) (pairKind Or) (pairKind And)
-pairKindAs true kind = cond (eqb kind (joinKind Or)) (pairKind And) (pairKind Or)
+abbrev pub comparisonAs : Bool → Comparison → Comparison
+comparisonAs negate op = cond negate (otherComparison op) op
+
+abbrev pub ComparedAs : Bool → ℕ → ℕ → Type 0
+ComparedAs negate n r = (op : Comparison) → n ≡ comparisonNumber op → r ≡ comparisonNumber (comparisonAs negate op)
+
+abbrev pub connectiveAs : Bool → Connective → Connective
+connectiveAs negate j = cond negate (otherConnective j) j
+
+abbrev pub JoinedAs : Bool → ℕ → ℕ → Type 0
+JoinedAs negate n r = (j : Connective) → n ≡ joinKind j → r ≡ pairKind (connectiveAs negate j)
+
+abbrev pub markAs : Bool → MarkTest → MarkTest
+markAs negate m = cond negate (otherMark m) m
+
+abbrev pub MarkedAs : Bool → ℕ → ℕ → Type 0
+MarkedAs negate n r = (m : MarkTest) → n ≡ partMark m → r ≡ markKind (markAs negate m)
 
 abbrev pub rowKindAs : Bool → ℕ
 rowKindAs every = cond every (rowKind All) (rowKind Some)
@@ -70,7 +85,3 @@ rowKindAs every = cond every (rowKind All) (rowKind Some)
 abbrev pub compareKindAs : Bool → Bool → ℕ
 compareKindAs false unknown = cond unknown (comparisonKind AsYes) (comparisonKind AsNo)
 compareKindAs true unknown = cond unknown (comparisonKind AsNo) (comparisonKind AsYes)
-
-abbrev pub nullKindAs : Bool → ℕ → ℕ
-nullKindAs false kind = cond (eqb kind notNullKind) notBlankKind blankKind
-nullKindAs true kind = cond (eqb kind notNullKind) blankKind notBlankKind

@@ -9,7 +9,8 @@ ghost use Rattle.tables.specs.Bytes.{bytes16, bytes32};
 ghost use Rattle.cells.specs.Code.{words32};
 ghost use Rattle.card.specs.Layout.{recordSize, valueSize};
 ghost use Rattle.card.specs.Sound.{mostEntries};
-ghost use Rattle.records.specs.Code.{byteNumber, plainRecord, LeafAt, EntryWritten, LeafWritten, comparisonAs, pairKindAs, rowKindAs, compareKindAs, nullKindAs};
+ghost use Rattle.rule.specs.Groups.{JoinNumber, MarkNumber};
+ghost use Rattle.records.specs.Code.{byteNumber, plainRecord, LeafAt, EntryWritten, LeafWritten, ComparisonCode, ComparedAs, JoinedAs, MarkedAs, rowKindAs, compareKindAs};
 use card::AND_ENTRY;
 use card::BLANK;
 use card::COMPARISON_OR_NO;
@@ -25,7 +26,9 @@ use card::RIGHT_PLACE;
 use card::SOME_ROW;
 use card::TABLE_PLACE;
 use cells::EXCESS;
+use rule::AND_PART;
 use rule::NOT_NULL_PART;
+use rule::NULL_PART;
 use rule::OR_PART;
 use values::CONSTANT;
 
@@ -124,7 +127,8 @@ pub fn put_leaf(kinds: &mut [u8; MOST_ENTRIES], records: &mut [u8], k: usize, le
 
 // A comparison, or the one that holds just where it does not.
 pub fn comparison_as(op: usize, negate: bool) -> usize
-    ensures { λ r. ⌜ r ≡ comparisonAs negate op ⌝ }
+    requires { ⌜ ComparisonCode op ⌝ }
+    ensures { λ r. ⌜ ComparedAs negate op r ⌝ }
 {
     if !negate {
         return op;
@@ -136,18 +140,36 @@ pub fn comparison_as(op: usize, negate: bool) -> usize
         4 => 5,
         5 => 4,
         6 => 3,
-        _ => op,
+        _ => {
+            cells::never();
+            op
+        }
     }
 }
 
 // AND and OR, which negating swaps.
 pub fn pair_kind(kind: usize, negate: bool) -> usize
-    ensures { λ r. ⌜ r ≡ pairKindAs negate kind ⌝ }
+    requires { ⌜ JoinNumber kind ⌝ }
+    ensures { λ r. ⌜ JoinedAs negate kind r ⌝ }
 {
-    if (kind == OR_PART) == negate {
-        return AND_ENTRY;
+    match kind {
+        AND_PART => {
+            if negate {
+                return OR_ENTRY;
+            }
+            AND_ENTRY
+        }
+        OR_PART => {
+            if negate {
+                return AND_ENTRY;
+            }
+            OR_ENTRY
+        }
+        _ => {
+            cells::never();
+            AND_ENTRY
+        }
     }
-    OR_ENTRY
 }
 
 // A test of every row, or of some row.
@@ -171,11 +193,26 @@ pub fn compare_kind(negate: bool, unknown: bool) -> usize
 }
 
 // Blank and not blank, from IS NULL and IS NOT NULL, which negating swaps.
-pub fn null_kind(kind: usize, negate: bool) -> usize
-    ensures { λ r. ⌜ r ≡ nullKindAs negate kind ⌝ }
+pub fn mark_kind(kind: usize, negate: bool) -> usize
+    requires { ⌜ MarkNumber kind ⌝ }
+    ensures { λ r. ⌜ MarkedAs negate kind r ⌝ }
 {
-    if (kind == NOT_NULL_PART) == negate {
-        return BLANK;
+    match kind {
+        NULL_PART => {
+            if negate {
+                return NOT_BLANK;
+            }
+            BLANK
+        }
+        NOT_NULL_PART => {
+            if negate {
+                return BLANK;
+            }
+            NOT_BLANK
+        }
+        _ => {
+            cells::never();
+            BLANK
+        }
     }
-    NOT_BLANK
 }

@@ -3,22 +3,25 @@ use mathlib.Core.List.{[], _∷_}
 use Prim.Native.Nat.{ℕ}
 use lib.IntN.{ℤ}
 use Rattle.rule.specs.Tokens.{Token, Letter, Number}
-use Rattle.rule.specs.Condition.{WrittenValue, Plain, Named, From, Over, WrittenCondition}
-use Rattle.rule.specs.Grammar.{Tokens, IsValue, number, column, IsCondition, one-conjunction, joined-by-or, IsConjunction, one-factor, joined-by-and, IsFactor, not-factor, one-test, IsTest, bracketed, exists, is-null, is-not-null, compared, some-of, all-of, is-in, not-in, IsList, list}
-use Rattle.rule.specs.Throughout.{Throughout}
+use Rattle.rule.specs.Condition.{From, WrittenValue, Plain, Named, Source, Over, WrittenCondition}
+use Rattle.rule.specs.Grammar.{Tokens, IsValue, number, column, IsFrom, single, IsCondition, one-conjunction, joined-by-or, IsConjunction, one-factor, joined-by-and, IsFactor, not-factor, one-test, IsTest, bracketed, exists, is-null, is-not-null, compared, some-of, all-of, is-in, not-in, IsList, list}
+use Rattle.rule.specs.Throughout.{FromThroughout, Throughout}
 
 abbrev pub EachToken : (Token → Type 0) → Tokens → Type 0
 EachToken P [] = Unit {0}
 EachToken P (t ∷ ts) = P t × EachToken P ts
 
--- P of tokens, Q of values and R of FROMs
-module _ (P : Token → Type 0) (Q : WrittenValue → Type 0) (R : From → Type 0)
+-- P of tokens, Q of values and R of tables
+module _ (P : Token → Type 0) (Q : WrittenValue → Type 0) (R : Source → Type 0)
     (plain : (n : ℤ) → P (Number n) → Q (Plain n))
     (named : (x : ℕ) (n : ℤ) → P (Letter x) → P (Number n) → Q (Named x n))
     (over : (n : ℤ) (x : ℕ) → P (Number n) → P (Letter x) → R (Over n x)) where
   value-carried : {ts rest : Tokens} {v : WrittenValue} → IsValue ts v rest → EachToken P ts → Q v × EachToken P rest
   value-carried number f = (plain _ (f .0), f .1)
   value-carried column f = (named _ _ (f .0) (f .1 .1 .0), f .1 .1 .1)
+
+  from-carried : {ts rest : Tokens} {f : From Source} → IsFrom ts f rest → EachToken P ts → FromThroughout R f × EachToken P rest
+  from-carried single f = (over _ _ (f .0) (f .1 .0), f .1 .1)
 
   mutual
     unfolding Throughout
@@ -37,9 +40,7 @@ module _ (P : Token → Type 0) (Q : WrittenValue → Type 0) (R : From → Type
 
     test-carried : {ts rest : Tokens} {a : WrittenCondition} → IsTest ts a rest → EachToken P ts → Throughout Q R a × EachToken P rest
     test-carried (bracketed r) f = let x = condition-carried r (f .1) in (x .0, x .1 .1)
-    test-carried (exists r) f =
-        let x = condition-carried r (f .1 .1 .1 .1 .1 .1) in
-        ((over _ _ (f .1 .1 .1 .0) (f .1 .1 .1 .1 .0), x .0), x .1 .1)
+    test-carried (exists g r) f = let x = from-carried g (f .1 .1 .1) in let y = condition-carried r (x .1 .1) in ((x .0, y .0), y .1 .1)
     test-carried (is-null v) f = let x = value-carried v f in (x .0, x .1 .1 .1)
     test-carried (is-not-null v) f = let x = value-carried v f in (x .0, x .1 .1 .1 .1)
     test-carried (compared v w) f = let x = value-carried v f in let y = value-carried w (x .1 .1) in ((x .0, y .0), y .1)
@@ -48,12 +49,13 @@ module _ (P : Token → Type 0) (Q : WrittenValue → Type 0) (R : From → Type
     test-carried (is-in v r) f = let x = value-carried v f in let y = list-carried r (x .1 .1) in ((x .0, y .0, y .1, y .2), y .3)
     test-carried (not-in v r) f = let x = value-carried v f in let y = list-carried r (x .1 .1 .1) in ((x .0, y .0, y .1, y .2), y .3)
 
-    list-carried : {ts rest : Tokens} {s : WrittenValue} {g : From} {w : WrittenCondition} → IsList ts s g w rest → EachToken P ts
-        → Q s × R g × Throughout Q R w × EachToken P rest
-    list-carried (list v r) f =
+    list-carried : {ts rest : Tokens} {s : WrittenValue} {g : From Source} {w : WrittenCondition} → IsList ts s g w rest → EachToken P ts
+        → Q s × FromThroughout R g × Throughout Q R w × EachToken P rest
+    list-carried (list v g r) f =
         let x = value-carried v (f .1 .1) in
-        let y = condition-carried r (x .1 .1 .1 .1 .1) in
-        (x .0, over _ _ (x .1 .1 .0) (x .1 .1 .1 .0), y .0, y .1 .1)
+        let y = from-carried g (x .1 .1) in
+        let z = condition-carried r (y .1 .1) in
+        (x .0, y .0, z .0, z .1 .1)
 
   pub carried : {ts rest : Tokens} {a : WrittenCondition} → IsCondition ts a rest → EachToken P ts → Throughout Q R a
   carried r f = condition-carried r f .0

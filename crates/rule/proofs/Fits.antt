@@ -3,7 +3,7 @@ use mathlib.Core.Path.{_≡_, refl, ap, ap₂, _∙_}
 use mathlib.Core.Bool.{Bool, true, false}
 use mathlib.Core.List.{List, [], _∷_, _++_}
 use mathlib.Core.Option.{some}
-use Prim.Native.Nat.{ℕ, suc, _<_, _+_, max}
+use Prim.Native.Nat.{ℕ, _<_, _+_, max}
 use native.Mathlib.Omega.{arith}
 use lib.Dec.{T, eqb, ltb, lt→ltb}
 use lib.Ieee.Fits.{and-i}
@@ -13,8 +13,8 @@ use lib.Seq.{getD-append-seam}
 use Rattle.tables.specs.Lists.{numbered, only}
 use Rattle.tables.specs.Bytes.{between}
 use Rattle.tables.specs.Values.{judgedLevels, Value, Constant, Column, valueFits}
-use Rattle.rule.specs.Condition.{Test, Compare, IsNull, IsNotNull, Atom, Join, Not, Exists, Listed, WrittenValue, Plain, Named, Over, WrittenCondition, Rule, parts, fromsDeep}
-use Rattle.rule.specs.Names.{Binding, Scope, outermost, bound, nearest, existing, valueIn, testIn, ruleIn, ValueFits, TestFits, TableFits, Fits, ValueScoped, Scoped}
+use Rattle.rule.specs.Condition.{Test, Compare, Mark, From, Single, Atom, Join, Apply, Exists, Listed, WrittenValue, Plain, Named, Source, Over, WrittenCondition, Rule, parts, letters, fromsDeep}
+use Rattle.rule.specs.Names.{Binding, Scope, outermost, bound, nearest, existing, valueIn, testIn, fromIn, ruleIn, within, ValueFits, TestFits, FromFits, Fits, ValueScoped, Scoped}
 use Rattle.rule.proofs.Every.{Every, missing, there, found, every-bind}
 use Rattle.rule.specs.Throughout.{TestThroughout, Throughout}
 use Rattle.rule.proofs.Constants.{WrittenFits, Constants}
@@ -47,8 +47,9 @@ bound-placed {levels} {scope} x t e p =
     let q : InPlace (levels ++ (t ∷ [])) (record { letter = x; level = length scope; table = t }) = (far, ap (λ (n : ℕ). getD (levels ++ (t ∷ [])) n 0) e ∙ getD-append-seam levels t [] 0) in
     one-placed q (deeper t p)
 
-one-longer : (levels : List ℕ) (n t : ℕ) → n ≡ length levels → suc n ≡ length (levels ++ (t ∷ []))
-one-longer levels n t e = simp length-append (omega arith)
+-- one level more for each letter of a FROM
+pub within-length : (levels : List ℕ) (n : ℕ) (f : From ℕ) → n ≡ length levels → letters f + n ≡ length (within levels f)
+within-length levels n (Single t) e = simp length-append (omega arith)
 
 nearest-placed : {levels : List ℕ} {scope : Scope} → Placed levels scope → (x : ℕ) → Every (InPlace levels) (nearest scope x)
 unfolding nearest
@@ -80,8 +81,20 @@ module _ (columns : List ℕ) where
   unfolding testIn
   test-fits p (Compare op l r) f =
       every-bind (ValueFits columns _) (TestFits columns _) _ (value-fits p l (f .0)) (λ x h. every-bind (ValueFits columns _) (TestFits columns _) _ (value-fits p r (f .1)) (λ y g. there (h, g)))
-  test-fits p (IsNull l) f = every-bind (ValueFits columns _) (TestFits columns _) _ (value-fits p l f) (λ x h. there h)
-  test-fits p (IsNotNull l) f = every-bind (ValueFits columns _) (TestFits columns _) _ (value-fits p l f) (λ x h. there h)
+  test-fits p (Mark m l) f = every-bind (ValueFits columns _) (TestFits columns _) _ (value-fits p l f) (λ x h. there h)
+
+  -- a FROM's tables exist, and its letters are bound at the next levels
+  record Opened (levels : List ℕ) (f : From Source) (g : From ℕ × Scope) : Type 0 where
+    from-fits : FromFits columns (g .0)
+    same-letters : letters (g .0) ≡ letters f
+    same-levels : length (g .1) ≡ length (within levels (g .0))
+    placed : Placed (within levels (g .0)) (g .1)
+
+  opened : {levels : List ℕ} {scope : Scope} → length scope ≡ length levels → Placed levels scope → (f : From Source) → Every (Opened levels f) (fromIn columns scope f)
+  unfolding fromIn
+  opened {levels} {scope} e p (Single (Over n x)) =
+      every-bind (λ t. T (between 1 (length columns) t)) (Opened levels (Single (Over n x))) _ (existing-fits (length columns) n) (λ t g.
+      there (record { from-fits = g; same-letters = refl; same-levels = simp length-append (omega arith); placed = bound-placed x t e p }))
 
   -- the rule of a condition fits, with as many parts and as many FROMs around one another
   pub record Resolved (levels : List ℕ) (a : WrittenCondition) (r : Rule) : Type 0 where
@@ -96,19 +109,19 @@ module _ (columns : List ℕ) where
       every-bind (Resolved _ a) (Resolved _ (Join j a b)) _ (rule-fits e p a (f .0)) (λ x h.
       every-bind (Resolved _ b) (Resolved _ (Join j a b)) _ (rule-fits e p b (f .1)) (λ y g.
       there (record { fits = (h .fits, g .fits); same-parts = ap₂ (λ m n. 1 + m + n) (h .same-parts) (g .same-parts); same-depth = ap₂ max (h .same-depth) (g .same-depth) })))
-  rule-fits e p (Not a) f =
-      every-bind (Resolved _ a) (Resolved _ (Not a)) _ (rule-fits e p a f) (λ x h. there (record { fits = h .fits; same-parts = ap (1 +_) (h .same-parts); same-depth = h .same-depth }))
-  rule-fits {levels} {scope} e p (Exists (Over n x) w) f =
-      every-bind (TableFits columns) (Resolved levels (Exists (Over n x) w)) _ (existing-fits (length columns) n) (λ t g.
-      every-bind (Resolved (levels ++ (t ∷ [])) w) (Resolved levels (Exists (Over n x) w)) _ (rule-fits (one-longer levels (length scope) t e) (bound-placed x t e p) w (f .1)) (λ w′ h.
-      there (record { fits = (g, h .fits); same-parts = ap (1 +_) (h .same-parts); same-depth = ap (1 +_) (h .same-depth) })))
-  rule-fits {levels} {scope} e p (Listed q op l s (Over n x) w) f =
-      let a = Listed q op l s (Over n x) w in
-      every-bind (TableFits columns) (Resolved levels a) _ (existing-fits (length columns) n) (λ t g.
-      every-bind (ValueFits columns levels) (Resolved levels a) _ (value-fits p l (f .0)) (λ l′ hl.
-      every-bind (ValueFits columns (levels ++ (t ∷ []))) (Resolved levels a) _ (value-fits (bound-placed x t e p) s (f .1)) (λ s′ hs.
-      every-bind (Resolved (levels ++ (t ∷ [])) w) (Resolved levels a) _ (rule-fits (one-longer levels (length scope) t e) (bound-placed x t e p) w (f .3)) (λ w′ h.
-      there (record { fits = (g, hl, hs, h .fits); same-parts = ap (1 +_) (h .same-parts); same-depth = ap (1 +_) (h .same-depth) })))))
+  rule-fits e p (Apply u a) f =
+      every-bind (Resolved _ a) (Resolved _ (Apply u a)) _ (rule-fits e p a f) (λ x h. there (record { fits = h .fits; same-parts = ap (1 +_) (h .same-parts); same-depth = h .same-depth }))
+  rule-fits {levels} {scope} e p (Exists f w) c =
+      every-bind (Opened levels f) (Resolved levels (Exists f w)) _ (opened e p f) (λ g o.
+      every-bind (Resolved (within levels (g .0)) w) (Resolved levels (Exists f w)) _ (rule-fits (o .same-levels) (o .placed) w (c .1)) (λ w′ h.
+      there (record { fits = (o .from-fits, h .fits); same-parts = ap (1 +_) (h .same-parts); same-depth = ap₂ _+_ (o .same-letters) (h .same-depth) })))
+  rule-fits {levels} {scope} e p (Listed q op l s f w) c =
+      let a = Listed q op l s f w in
+      every-bind (Opened levels f) (Resolved levels a) _ (opened e p f) (λ g o.
+      every-bind (ValueFits columns levels) (Resolved levels a) _ (value-fits p l (c .0)) (λ l′ hl.
+      every-bind (ValueFits columns (within levels (g .0))) (Resolved levels a) _ (value-fits (o .placed) s (c .1)) (λ s′ hs.
+      every-bind (Resolved (within levels (g .0)) w) (Resolved levels a) _ (rule-fits (o .same-levels) (o .placed) w (c .3)) (λ w′ h.
+      there (record { fits = (o .from-fits, hl, hs, h .fits); same-parts = ap (1 +_) (h .same-parts); same-depth = ap₂ _+_ (o .same-letters) (h .same-depth) })))))
 
   -- a whole rule
   pub names-fit : (a : WrittenCondition) {r : Rule} → Constants a → ruleIn columns outermost a ≡ some r → Resolved judgedLevels a r
@@ -124,13 +137,12 @@ module _ (columns : List ℕ) where
   pub fits-scoped : (n : ℕ) (levels : List ℕ) → n ≡ length levels → (r : Rule) → Fits columns levels r → Scoped n r
   unfolding Fits Scoped
   fits-scoped n levels e (Atom (Compare op l r)) f = (value-scoped n levels e l (f .0), value-scoped n levels e r (f .1))
-  fits-scoped n levels e (Atom (IsNull l)) f = value-scoped n levels e l f
-  fits-scoped n levels e (Atom (IsNotNull l)) f = value-scoped n levels e l f
+  fits-scoped n levels e (Atom (Mark m l)) f = value-scoped n levels e l f
   fits-scoped n levels e (Join j a b) f = (fits-scoped n levels e a (f .0), fits-scoped n levels e b (f .1))
-  fits-scoped n levels e (Not a) f = fits-scoped n levels e a f
-  fits-scoped n levels e (Exists t w) f = fits-scoped (suc n) (levels ++ (t ∷ [])) (one-longer levels n t e) w (f .1)
-  fits-scoped n levels e (Listed q op l s t w) f = (
+  fits-scoped n levels e (Apply u a) f = fits-scoped n levels e a f
+  fits-scoped n levels e (Exists g w) f = fits-scoped (letters g + n) (within levels g) (within-length levels n g e) w (f .1)
+  fits-scoped n levels e (Listed q op l s g w) f = (
     value-scoped n levels e l (f .1),
-    value-scoped (suc n) (levels ++ (t ∷ [])) (one-longer levels n t e) s (f .2),
-    fits-scoped (suc n) (levels ++ (t ∷ [])) (one-longer levels n t e) w (f .3),
+    value-scoped (letters g + n) (within levels g) (within-length levels n g e) s (f .2),
+    fits-scoped (letters g + n) (within levels g) (within-length levels n g e) w (f .3),
   )

@@ -9,10 +9,10 @@ use lib.Dec.{eqb}
 use lib.IntN.{ℤ}
 use borrow.Author.Tests.{eqb-true}
 use Rattle.tables.specs.Lists.{only, _>>=_, _<|>_}
-use Rattle.tables.specs.Values.{Comparison, Eq, Ne, Quantifier, Some, All}
+use Rattle.tables.specs.Values.{Comparison, Eq, Ne, Quantifier, Some, All, Null, NotNull}
 use Rattle.rule.specs.Tokens.{Fixed, Compares, Letter, Number, AND, OR, NOT, EXISTS, IN, SOME, ALL, IS, NULL, SELECT, FROM, WHERE, Open, Close, Point}
-use Rattle.rule.specs.Condition.{Compare, IsNull, IsNotNull, Atom, Listed, WrittenValue, Plain, Named, From, Over, WrittenCondition}
-use Rattle.rule.specs.Grammar.{Tokens, IsValue, number, column, IsCondition, IsTest, bracketed, exists, is-null, is-not-null, compared, some-of, all-of, is-in, not-in, IsList, list}
+use Rattle.rule.specs.Condition.{Compare, Mark, From, Single, Atom, Listed, WrittenValue, Plain, Named, Source, Over, WrittenCondition}
+use Rattle.rule.specs.Grammar.{Tokens, IsValue, number, column, IsFrom, single, IsCondition, IsTest, bracketed, exists, is-null, is-not-null, compared, some-of, all-of, is-in, not-in, IsList, list}
 use Rattle.rule.specs.Reader.{expect, readNumber, readLetter, readComparison, readValue, readFrom, Opening, OfList, closed, Start, Whole, Around, startList, startValue, start}
 
 module _ {A : Type 0} where
@@ -81,14 +81,14 @@ module _ {B : Type 0} (Q : Tokens → Option B → Type 0) (missing : (ts : Toke
       (λ n ws. h (Named x n) (Letter x ∷ Point ∷ Number n ∷ ws) ws column) vs) us)
   value-at f h (Number n ∷ us) = h (Plain n) (Number n ∷ us) us number
 
-  from-at : (f : From × Tokens → Option B) → ((n : ℤ) (x : ℕ) (us : Tokens) → Q (FROM ∷ Number n ∷ Letter x ∷ WHERE ∷ us) (f (Over n x, us))) → (ts : Tokens) → Q ts (readFrom ts >>= f)
+  from-at : (f : From Source × Tokens → Option B) → ((g : From Source) (ts us : Tokens) → IsFrom ts g (WHERE ∷ us) → Q (FROM ∷ ts) (f (g, us))) → (ts : Tokens) → Q ts (readFrom ts >>= f)
   unfolding readFrom
   from-at f h ts =
       simp bind-bind
       (expect-at Q missing 11 _ (λ us.
       number-at (λ vs o. Q (FROM ∷ vs) o) (λ vs. missing (FROM ∷ vs)) _ (λ n vs.
       letter-at (λ ws o. Q (FROM ∷ Number n ∷ ws) o) (λ ws. missing (FROM ∷ Number n ∷ ws)) _ (λ x ws.
-      expect-at (λ xs o. Q (FROM ∷ Number n ∷ Letter x ∷ xs) o) (λ xs. missing (FROM ∷ Number n ∷ Letter x ∷ xs)) 12 _ (λ xs. h n x xs) ws) vs) us) ts)
+      expect-at (λ xs o. Q (FROM ∷ Number n ∷ Letter x ∷ xs) o) (λ xs. missing (FROM ∷ Number n ∷ Letter x ∷ xs)) 12 _ (λ xs. h (Single (Over n x)) (Number n ∷ Letter x ∷ WHERE ∷ xs) xs single) ws) vs) us) ts)
 
 -- what a start promises: the whole test is read, or it is once its condition and the bracket behind it are
 pub data Promised (ts : Tokens) : Option Start → Type 0 where
@@ -98,14 +98,14 @@ pub data Promised (ts : Tokens) : Option Start → Type 0 where
 
 -- a list that is read to its WHERE; `h` makes the test of it
 list-promised : (q : Quantifier) (op : Comparison) (l : WrittenValue) (ts us : Tokens)
-    → ((s : WrittenValue) (f : From) (w : WrittenCondition) (rest : Tokens) → IsList us s f w rest → IsTest ts (Listed q op l s f w) rest) → Promised ts (startList q op l us)
+    → ((s : WrittenValue) (f : From Source) (w : WrittenCondition) (rest : Tokens) → IsList us s f w rest → IsTest ts (Listed q op l s f w) rest) → Promised ts (startList q op l us)
 unfolding startList
 list-promised q op l ts =
-    let Q : Tokens → Option Start → Type 0 = λ us o. ((s : WrittenValue) (f : From) (w : WrittenCondition) (rest : Tokens) → IsList us s f w rest → IsTest ts (Listed q op l s f w) rest) → Promised ts o in
+    let Q : Tokens → Option Start → Type 0 = λ us o. ((s : WrittenValue) (f : From Source) (w : WrittenCondition) (rest : Tokens) → IsList us s f w rest → IsTest ts (Listed q op l s f w) rest) → Promised ts o in
     expect-at Q (λ _ _. nothing) 13 _ (λ us.
     expect-at (λ vs o. Q (Open ∷ vs) o) (λ _ _. nothing) 10 _ (λ vs.
     value-at (λ ws o. Q (Open ∷ SELECT ∷ ws) o) (λ _ _. nothing) _ (λ v ws xs is.
-    from-at (λ ys o. IsValue ws v ys → Q (Open ∷ SELECT ∷ ws) o) (λ _ _ _. nothing) _ (λ n x ys is′ h. around (λ w rest c. h v (Over n x) w rest (list is′ c))) xs is) vs) us)
+    from-at (λ ys o. IsValue ws v ys → Q (Open ∷ SELECT ∷ ws) o) (λ _ _ _. nothing) _ (λ g ys zs is′ is″ h. around (λ w rest c. h v g w rest (list is″ is′ c))) xs is) vs) us)
 
 -- what stands behind a value: the productions in the order of startValue
 module _ (l : WrittenValue) where
@@ -129,7 +129,7 @@ unfolding start
 start-promised ts =
     or-ind (Promised ts) _ _ (or-ind (Promised ts) _ _
     (expect-at Promised (λ _. nothing) 13 _ (λ us. around (λ w rest c. bracketed c)) ts)
-    (expect-at Promised (λ _. nothing) 4 _ (λ us. expect-at (λ vs o. Promised (EXISTS ∷ vs) o) (λ _. nothing) 13 _ (λ vs. from-at (λ ws o. Promised (EXISTS ∷ Open ∷ ws) o) (λ _. nothing) _ (λ n x ws. around (λ w rest c. exists c)) vs) us) ts))
+    (expect-at Promised (λ _. nothing) 4 _ (λ us. expect-at (λ vs o. Promised (EXISTS ∷ vs) o) (λ _. nothing) 13 _ (λ vs. from-at (λ ws o. Promised (EXISTS ∷ Open ∷ ws) o) (λ _. nothing) _ (λ g ws xs is. around (λ w rest c. exists is c)) vs) us) ts))
     (value-at Promised (λ _. nothing) _ (λ l us vs is. value-promised l vs us is) ts)
 
 -- ---- what may stand behind a form: a form is found where the token behind it does not go on with it
@@ -199,11 +199,11 @@ value-first column = refl
 start-value : {ts us : Tokens} {l : WrittenValue} → IsValue ts l us → AfterValue us → start ts ≡ startValue l us
 start-value v k = value-first v ∙ ap (_>>= (λ x. startValue (x .0) (x .1))) (value-found v k)
 
-pub null-found : {ts rest : Tokens} {l : WrittenValue} → IsValue ts l (IS ∷ NULL ∷ rest) → start ts ≡ some (Whole (Atom (IsNull l)) rest)
+pub null-found : {ts rest : Tokens} {l : WrittenValue} → IsValue ts l (IS ∷ NULL ∷ rest) → start ts ≡ some (Whole (Atom (Mark Null l)) rest)
 unfolding startValue expect
 null-found v = start-value v is-after
 
-pub not-null-found : {ts rest : Tokens} {l : WrittenValue} → IsValue ts l (IS ∷ NOT ∷ NULL ∷ rest) → start ts ≡ some (Whole (Atom (IsNotNull l)) rest)
+pub not-null-found : {ts rest : Tokens} {l : WrittenValue} → IsValue ts l (IS ∷ NOT ∷ NULL ∷ rest) → start ts ≡ some (Whole (Atom (Mark NotNull l)) rest)
 unfolding startValue expect
 not-null-found v = start-value v is-after
 
@@ -216,10 +216,17 @@ compared-found {op = op} {l = l} v w k =
     start-value v comparison-after
     ∙ or-left _ _ (or-left _ _ (or-left _ _ (or-left _ _ (ap (_>>= (λ x. some (Whole (Atom (Compare op l (x .0))) (x .1)))) (value-found w (test-ends k))))))
 
-pub list-found : (q : Quantifier) (op : Comparison) (l : WrittenValue) {us vs : Tokens} {s : WrittenValue} {n : ℤ} {x : ℕ}
-    → IsValue us s (FROM ∷ Number n ∷ Letter x ∷ WHERE ∷ vs) → startList q op l (Open ∷ SELECT ∷ us) ≡ some (Around (OfList q op l s (Over n x)) vs)
-unfolding startList expect readValue readNumber readFrom readLetter
-list-found q op l v = ap (_>>= (λ s. readFrom (s .1) >>= (λ f. some (Around (OfList q op l (s .0) (f .0)) (f .1))))) (value-found v from-after)
+-- what stands between FROM and WHERE
+pub from-found : {us vs : Tokens} {f : From Source} → IsFrom us f (WHERE ∷ vs) → readFrom (FROM ∷ us) ≡ some (f, vs)
+unfolding readFrom expect readNumber readLetter
+from-found single = refl
+
+pub list-found : (q : Quantifier) (op : Comparison) (l : WrittenValue) {ts us vs : Tokens} {s : WrittenValue} {f : From Source}
+    → IsValue ts s (FROM ∷ us) → IsFrom us f (WHERE ∷ vs) → startList q op l (Open ∷ SELECT ∷ ts) ≡ some (Around (OfList q op l s f) vs)
+unfolding startList expect
+list-found q op l {s = s} v is =
+    ap (_>>= (λ x. readFrom (x .1) >>= (λ f. some (Around (OfList q op l (x .0) (f .0)) (f .1))))) (value-found v from-after)
+    ∙ ap (_>>= (λ f. some (Around (OfList q op l s (f .0)) (f .1)))) (from-found is)
 
 -- a list after SOME, ALL, IN and NOT IN
 module _ {ts us : Tokens} {l : WrittenValue} {x : Start} where

@@ -8,6 +8,8 @@ pub mod Carried
 pub mod Constants
 pub mod Fits
 pub mod Parts
+pub mod Groups
+pub mod Sum
 pub mod Accepted
 pub mod Calls
 pub mod Truths

@@ -8,16 +8,15 @@ use native.Mathlib.Nat.{le-refl}
 use native.Mathlib.Omega.{arith}
 use borrow.Author.Tests.{eqb-true}
 use lib.Dec.{eqb}
-use lib.IntN.{ℤ}
 use lib.ListN.{length}
-use Rattle.tables.specs.Lists.{only, _>>=_}
+use Rattle.tables.specs.Lists.{only, _>>=_, _<|>_}
 use Rattle.tables.specs.Values.{Comparison, Eq, Ne, And, Or, Quantifier, Some, All}
 use Rattle.rule.specs.Tokens.{Fixed, Compares, Letter, Number, AND, OR, NOT, EXISTS, FROM, WHERE, Open, Close}
-use Rattle.rule.specs.Condition.{Join, Not, WrittenValue, From, Over, WrittenCondition}
-use Rattle.rule.specs.Grammar.{Tokens, IsValue, number, column, IsCondition, one-conjunction, joined-by-or, IsConjunction, one-factor, joined-by-and, IsFactor, not-factor, one-test, IsTest, bracketed, exists, is-null, is-not-null, compared, some-of, all-of, is-in, not-in, IsList, list, Reads}
-use Rattle.rule.specs.Reader.{expect, readNumber, readLetter, readFrom, Opening, Bracket, OfExists, OfList, closed, Start, Whole, Around, startList, start, Goal, condition, conjunction, factor, test, more-or, more-and, Found, branch, started, closing, read, depthFor, reading, atEnd, readAll}
+use Rattle.rule.specs.Condition.{Not, From, Join, Apply, WrittenValue, Source, WrittenCondition}
+use Rattle.rule.specs.Grammar.{Tokens, IsValue, number, column, IsFrom, single, IsCondition, one-conjunction, joined-by-or, IsConjunction, one-factor, joined-by-and, IsFactor, not-factor, one-test, IsTest, bracketed, exists, is-null, is-not-null, compared, some-of, all-of, is-in, not-in, IsList, list, Reads}
+use Rattle.rule.specs.Reader.{expect, readValue, Opening, Bracket, OfExists, OfList, closed, Start, Whole, Around, startList, start, Goal, condition, conjunction, factor, test, more-or, more-and, Found, branch, started, closing, read, depthFor, reading, atEnd, readAll}
 use Rattle.rule.specs.Claims.{ReadingClaim}
-use Rattle.rule.proofs.Found.{bind-ind, expect-at, Promised, nothing, whole, around, start-promised, AfterCondition, end-after, close-after, or-after, AfterTest, condition-ends, and-after, no-and, null-found, not-null-found, compared-found, list-found, some-found, all-found, in-found, not-in-found}
+use Rattle.rule.proofs.Found.{bind-ind, expect-at, Promised, nothing, whole, around, start-promised, AfterCondition, end-after, close-after, or-after, AfterTest, condition-ends, and-after, no-and, null-found, not-null-found, compared-found, from-found, list-found, some-found, all-found, in-found, not-in-found}
 
 -- ---- a reading of the function is one of the grammar
 
@@ -99,6 +98,9 @@ value-inside : {ts rest : Tokens} {v : WrittenValue} → IsValue ts v rest → l
 value-inside number = omega arith
 value-inside column = omega arith
 
+from-inside : {ts rest : Tokens} {f : From Source} → IsFrom ts f rest → length rest ≤ length ts
+from-inside single = omega arith
+
 mutual
   condition-inside : {ts rest : Tokens} {a : WrittenCondition} → IsCondition ts a rest → length rest ≤ length ts
   condition-inside (one-conjunction r) = conjunction-inside r
@@ -114,7 +116,7 @@ mutual
 
   test-inside : {ts rest : Tokens} {a : WrittenCondition} → IsTest ts a rest → length rest ≤ length ts
   test-inside (bracketed r) = omega (arith, condition-inside r)
-  test-inside (exists r) = omega (arith, condition-inside r)
+  test-inside (exists f r) = omega (arith, from-inside f, condition-inside r)
   test-inside (is-null v) = omega (arith, value-inside v)
   test-inside (is-not-null v) = omega (arith, value-inside v)
   test-inside (compared v w) = omega (arith, value-inside v, value-inside w)
@@ -123,8 +125,8 @@ mutual
   test-inside (is-in v r) = omega (arith, value-inside v, list-inside r)
   test-inside (not-in v r) = omega (arith, value-inside v, list-inside r)
 
-  list-inside : {ts rest : Tokens} {s : WrittenValue} {f : From} {w : WrittenCondition} → IsList ts s f w rest → length rest ≤ length ts
-  list-inside (list v r) = omega (arith, value-inside v, condition-inside r)
+  list-inside : {ts rest : Tokens} {s : WrittenValue} {f : From Source} {w : WrittenCondition} → IsList ts s f w rest → length rest ≤ length ts
+  list-inside (list v f r) = omega (arith, value-inside v, from-inside f, condition-inside r)
 
 module _ (d : ℕ) (ts : Tokens) (x : WrittenCondition × Tokens) where
   pub conjunction-left : read d conjunction ts ≡ some x → length (x .1) ≤ length ts
@@ -179,7 +181,7 @@ and-goes {d} {ts} {us} {rest} {a} {b} l r q = go (r .depth) (r .deep) (r .same)
 no-not : {ts rest : Tokens} {a : WrittenCondition} → IsTest ts a rest → expect NOT ts ≡ none
 unfolding expect
 no-not (bracketed r) = refl
-no-not (exists r) = refl
+no-not (exists f r) = refl
 no-not (is-null number) = refl
 no-not (is-null column) = refl
 no-not (is-not-null number) = refl
@@ -210,17 +212,17 @@ module _ {a : WrittenCondition} {rest : Tokens} where
   conjunction-step (suc e) ts h l r = record { depth = e; deep = omega arith; same = ap (_>>= (λ x. read e (more-and (x .0)) (x .1))) (r e (omega arith)) }
 
   not-step : (d : ℕ) (ts : Tokens) → depthFor factor (NOT ∷ ts) ≤ d
-      → ((e : ℕ) → depthFor factor ts ≤ e → read e factor ts ≡ some (a, rest)) → read d factor (NOT ∷ ts) ≡ some (Not a, rest)
+      → ((e : ℕ) → depthFor factor ts ≤ e → read e factor ts ≡ some (a, rest)) → read d factor (NOT ∷ ts) ≡ some (Apply Not a, rest)
   unfolding read expect
   not-step zero ts h r = absurd (omega arith)
-  not-step (suc e) ts h r = ap (_>>= (λ x. some (Not (x .0), x .1))) (r e (omega arith))
+  not-step (suc e) ts h r = ap (_>>= (λ x. some (Apply Not (x .0), x .1))) (r e (omega arith))
 
   factor-step : (d : ℕ) (ts : Tokens) → depthFor factor ts ≤ d → expect NOT ts ≡ none
       → ((e : ℕ) → depthFor test ts ≤ e → read e test ts ≡ some (a, rest)) → read d factor ts ≡ some (a, rest)
   unfolding read
   factor-step zero ts h n r = absurd (omega arith)
   factor-step (suc e) ts h n r =
-      ap (λ (o : Option Tokens). branch o (λ us. read e factor us >>= (λ x. some (Not (x .0), x .1))) (λ _. read e test ts)) n ∙ r e (omega arith)
+      ap (λ (o : Option Tokens). branch o (λ us. read e factor us >>= (λ x. some (Apply Not (x .0), x .1))) (λ _. read e test ts)) n ∙ r e (omega arith)
 
   -- a test that its start reads to its end
   whole-step : (d : ℕ) (ts : Tokens) → depthFor test ts ≤ d → start ts ≡ some (Whole a rest) → read d test ts ≡ some (a, rest)
@@ -237,7 +239,7 @@ module _ {a : WrittenCondition} {rest : Tokens} where
       ap (λ (o : Option Start). started o (λ op′ vs. read d condition vs >>= closing op′)) e ∙ ap (_>>= closing op) (r d (omega arith))
 
 -- a list, read: its start, and its WHERE
-record ListRead (ts : Tokens) (s : WrittenValue) (f : From) (w : WrittenCondition) (rest : Tokens) : Type 0 where
+record ListRead (ts : Tokens) (s : WrittenValue) (f : From Source) (w : WrittenCondition) (rest : Tokens) : Type 0 where
   inner : Tokens
   shorter : length inner ≤ length ts
   begins : (q : Quantifier) (op : Comparison) (l : WrittenValue) → startList q op l ts ≡ some (Around (OfList q op l s f) inner)
@@ -251,9 +253,9 @@ bracket-start : (ts : Tokens) → start (Open ∷ ts) ≡ some (Around Bracket t
 unfolding start expect
 bracket-start ts = refl
 
-exists-start : (n : ℤ) (x : ℕ) (ts : Tokens) → start (EXISTS ∷ Open ∷ FROM ∷ Number n ∷ Letter x ∷ WHERE ∷ ts) ≡ some (Around (OfExists (Over n x)) ts)
-unfolding start expect readFrom readNumber readLetter
-exists-start n x ts = refl
+exists-start : {ts us : Tokens} {f : From Source} → IsFrom ts f (WHERE ∷ us) → start (EXISTS ∷ Open ∷ FROM ∷ ts) ≡ some (Around (OfExists f) us)
+unfolding start expect readValue
+exists-start is = ap (λ o. (o >>= (λ f. some (Around (OfExists (f .0)) (f .1)))) <|> none) (from-found is)
 
 mutual
   condition-goes : {ts rest : Tokens} {a : WrittenCondition} → IsCondition ts a rest → (d : ℕ) → depthFor condition ts ≤ d → AfterCondition rest → Goes d condition ts (more-or a) rest
@@ -270,8 +272,8 @@ mutual
 
   test-read : {ts rest : Tokens} {a : WrittenCondition} → IsTest ts a rest → (d : ℕ) → depthFor test ts ≤ d → AfterTest rest → read d test ts ≡ some (a, rest)
   test-read (bracketed {ts = us} r) d h k = around-step d Bracket (Open ∷ us) us h (omega arith) (bracket-start us) (λ e g. closes (condition-goes r e g close-after))
-  test-read (exists {n = n} {x = x} {ts = us} r) d h k =
-      around-step d (OfExists (Over n x)) _ us h (omega arith) (exists-start n x us) (λ e g. closes (condition-goes r e g close-after))
+  test-read (exists {us = us} {f = f} is r) d h k =
+      around-step d (OfExists f) _ us h (omega (arith, from-inside is)) (exists-start is) (λ e g. closes (condition-goes r e g close-after))
   test-read {ts} (is-null v) d h k = whole-step d ts h (null-found v)
   test-read {ts} (is-not-null v) d h k = whole-step d ts h (not-null-found v)
   test-read {ts} (compared v w) d h k = whole-step d ts h (compared-found v w k)
@@ -288,8 +290,8 @@ mutual
       let q = list-read r in
       around-step d (OfList All Ne l s f) ts (q .inner) h (omega (arith, q .shorter, value-inside v)) (not-in-found (q .begins All Ne l) v) (q .reads)
 
-  list-read : {ts rest : Tokens} {s : WrittenValue} {f : From} {w : WrittenCondition} → IsList ts s f w rest → ListRead ts s f w rest
-  list-read (list {us = us} v r) = record { inner = us; shorter = omega (arith, value-inside v); begins = λ q op l. list-found q op l v; reads = λ e g. closes (condition-goes r e g close-after) }
+  list-read : {ts rest : Tokens} {s : WrittenValue} {f : From Source} {w : WrittenCondition} → IsList ts s f w rest → ListRead ts s f w rest
+  list-read (list {vs = vs} v is r) = record { inner = vs; shorter = omega (arith, value-inside v, from-inside is); begins = λ q op l. list-found q op l v is; reads = λ e g. closes (condition-goes r e g close-after) }
 
 -- ---- all the tokens
 

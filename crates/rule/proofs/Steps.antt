@@ -10,7 +10,7 @@ use lib.ListN.{length}
 use Rattle.tables.specs.Lists.{only, _>>=_}
 use Rattle.tables.specs.Values.{Comparison, Eq, Ne, Connective, And, Or, Quantifier, Some, All}
 use Rattle.rule.specs.Tokens.{Token, isFixed, Fixed, Compares, Letter, Number, AND, OR, NOT, EXISTS, IN, SOME, ALL, IS, NULL, SELECT, FROM, WHERE, Open, Point}
-use Rattle.rule.specs.Condition.{Join, Not, WrittenValue, WrittenCondition}
+use Rattle.rule.specs.Condition.{Not, Join, Apply, WrittenValue, WrittenCondition}
 use Rattle.rule.specs.Grammar.{Tokens}
 use Rattle.rule.specs.Reader.{expect, readNumber, readLetter, readComparison, readValue, readFrom, Opening, Start, Whole, Around, startList, startValue, start, Goal, condition, conjunction, factor, test, more-or, more-and, chain, operand, more, joinWord, Found, branch, started, closing, read, depthFor, reading, atEnd, readAll}
 use Rattle.rule.proofs.Found.{bind-ind, or-ind}
@@ -176,7 +176,7 @@ same (suc d) (suc e) (more-and a) ts p q =
     refl
 same (suc d) (suc e) factor ts p q =
     branch-same (expect NOT ts) _ _ _ _
-    (λ us i. let k : length us < length ts = expect-under NOT ts us i in ap (_>>= (λ x. some (Not (x .0), x .1))) (same d e factor us (omega arith) (omega arith)))
+    (λ us i. let k : length us < length ts = expect-under NOT ts us i in ap (_>>= (λ x. some (Apply Not (x .0), x .1))) (same d e factor us (omega arith) (omega arith)))
     (same d e test ts (omega arith) (omega arith))
 same (suc d) (suc e) test ts p q =
     started-same (start ts) _ _
@@ -226,13 +226,13 @@ reading-more-and a ts =
     (λ x f. let l : length (x .1) ≤ length us = factor-left d us x f in at-depth d (more-and (Join And a (x .0))) (x .1) (omega arith)))
     refl
 
-pub reading-factor : (ts : Tokens) → reading factor ts ≡ branch (expect NOT ts) (λ us. reading factor us >>= (λ a. some (Not (a .0), a .1))) (λ _. reading test ts)
+pub reading-factor : (ts : Tokens) → reading factor ts ≡ branch (expect NOT ts) (λ us. reading factor us >>= (λ a. some (Apply Not (a .0), a .1))) (λ _. reading test ts)
 unfolding read
 reading-factor ts =
     let d : ℕ = depthFor factor ts in
     sym (at-depth (suc d) factor ts (omega arith))
     ∙ branch-same (expect NOT ts) _ _ _ _
-    (λ us i. let k : length us < length ts = expect-under NOT ts us i in ap (_>>= (λ x. some (Not (x .0), x .1))) (at-depth d factor us (omega arith)))
+    (λ us i. let k : length us < length ts = expect-under NOT ts us i in ap (_>>= (λ x. some (Apply Not (x .0), x .1))) (at-depth d factor us (omega arith)))
     (at-depth d test ts (omega arith))
 
 pub reading-test : (ts : Tokens) → reading test ts ≡ started (start ts) (λ o us. reading condition us >>= closing o)

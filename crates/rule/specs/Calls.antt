@@ -81,8 +81,8 @@ unfoldable pub judgeCall : List ℕ → List ℕ → ℕ → Answer Truth
 judgeCall text file row =
     unless (firstApplying (judgeRefusals text file row)) (λ _. withRule (ruleOf text (columnsOf file)) Unknown (judged (tablesOf file) row))
 
--- ---- the published order of each call's refusals: where several apply, the first in the call's list is given. Document 01 says 'the lowest applying number is
--- given', and its rows stand in the order of their numbers: each list rises. 'Reading goes before judging'
+-- ---- the order of each call's refusals, by their numbers: where several apply, the first in the call's list is given. By document 01 it is 'the lowest
+-- applying number', so each list rises; and 'reading goes before judging'
 
 abbrev pub readOrder : List ℕ
 readOrder = 1 ∷ 2 ∷ 3 ∷ 4 ∷ 5 ∷ 6 ∷ 7 ∷ 8 ∷ 12 ∷ []

@@ -10,7 +10,6 @@ use Rattle.tables.specs.Cases.{Edge, _refused_, accepted}
 use Rattle.tables.specs.Refusals.{Answer, Given, firstApplying, Lent}
 use Rattle.tables.specs.Values.{Eq, Ne, Lt, Le, Gt, Ge}
 use Rattle.rule.specs.Tokens.{bytes, Token, Fixed, Compares, Letter, Number}
-use Rattle.rule.specs.Parts.{unused, partWith}
 use Rattle.rule.specs.declared.TaggedValue.{TaggedValue}
 use Rattle.rule.specs.declared.Part.{Part}
 use Rattle.rule.specs.Meaning.{Truth, False, Unknown, True}
@@ -89,6 +88,12 @@ testCases =
 abbrev field : ℕ → ℤ → TaggedValue
 field t n = record { tag = t; number = n }
 
+abbrev pub unused : TaggedValue
+unused = field 0 (pos 0)
+
+abbrev pub partBy : ℕ → ℕ → ℕ → ℕ → TaggedValue → TaggedValue → Part
+partBy k op t e l r = record { kind = k; comparison = op; table = t; end = e; left = l; right = r }
+
 pub record PartsCase : Type 0 where
   pub text : String
   pub parts : List Part
@@ -98,19 +103,19 @@ abbrev chainCase : PartsCase
 chainCase = record {
   text = "1 = 1 OR 1 = 2 OR 1 = 3 AND 1 = 4 AND NOT m.1 <= 2 OR EXISTS (FROM 2 v WHERE v.1 IS NULL)";
   parts =
-      partWith 2 0 0 13 unused unused
-      ∷ partWith 2 0 0 11 unused unused
-      ∷ partWith 2 0 0 5 unused unused
-      ∷ partWith 4 1 0 4 (field 255 (pos 1)) (field 255 (pos 1))
-      ∷ partWith 4 1 0 5 (field 255 (pos 1)) (field 255 (pos 2))
-      ∷ partWith 1 0 0 11 unused unused
-      ∷ partWith 1 0 0 9 unused unused
-      ∷ partWith 4 1 0 8 (field 255 (pos 1)) (field 255 (pos 3))
-      ∷ partWith 4 1 0 9 (field 255 (pos 1)) (field 255 (pos 4))
-      ∷ partWith 3 0 0 11 unused unused
-      ∷ partWith 4 4 0 11 (field 0 (pos 1)) (field 255 (pos 2))
-      ∷ partWith 7 0 2 13 unused unused
-      ∷ partWith 5 0 0 13 (field 1 (pos 1)) unused
+      partBy 2 0 0 13 unused unused
+      ∷ partBy 2 0 0 11 unused unused
+      ∷ partBy 2 0 0 5 unused unused
+      ∷ partBy 4 1 0 4 (field 255 (pos 1)) (field 255 (pos 1))
+      ∷ partBy 4 1 0 5 (field 255 (pos 1)) (field 255 (pos 2))
+      ∷ partBy 1 0 0 11 unused unused
+      ∷ partBy 1 0 0 9 unused unused
+      ∷ partBy 4 1 0 8 (field 255 (pos 1)) (field 255 (pos 3))
+      ∷ partBy 4 1 0 9 (field 255 (pos 1)) (field 255 (pos 4))
+      ∷ partBy 3 0 0 11 unused unused
+      ∷ partBy 4 4 0 11 (field 0 (pos 1)) (field 255 (pos 2))
+      ∷ partBy 7 0 2 13 unused unused
+      ∷ partBy 5 0 0 13 (field 1 (pos 1)) unused
       ∷ [];
 }
 
@@ -118,14 +123,14 @@ abbrev nestedCase : PartsCase
 nestedCase = record {
   text = "NOT (m.1 = 1 OR m.2 IS NOT NULL) AND m.1 NOT IN (SELECT v.1 FROM 2 v WHERE v.1 IN (SELECT m.2 FROM 1 m WHERE m.1 > -5))";
   parts =
-      partWith 1 0 0 8 unused unused
-      ∷ partWith 3 0 0 5 unused unused
-      ∷ partWith 2 0 0 5 unused unused
-      ∷ partWith 4 1 0 4 (field 0 (pos 1)) (field 255 (pos 1))
-      ∷ partWith 6 0 0 5 (field 0 (pos 2)) unused
-      ∷ partWith 9 2 2 8 (field 0 (pos 1)) (field 1 (pos 1))
-      ∷ partWith 8 1 1 8 (field 1 (pos 1)) (field 2 (pos 2))
-      ∷ partWith 4 5 0 8 (field 2 (pos 1)) (field 255 (negsuc 4))
+      partBy 1 0 0 8 unused unused
+      ∷ partBy 3 0 0 5 unused unused
+      ∷ partBy 2 0 0 5 unused unused
+      ∷ partBy 4 1 0 4 (field 0 (pos 1)) (field 255 (pos 1))
+      ∷ partBy 6 0 0 5 (field 0 (pos 2)) unused
+      ∷ partBy 9 2 2 8 (field 0 (pos 1)) (field 1 (pos 1))
+      ∷ partBy 8 1 1 8 (field 1 (pos 1)) (field 2 (pos 2))
+      ∷ partBy 4 5 0 8 (field 2 (pos 1)) (field 255 (negsuc 4))
       ∷ [];
 }
 
@@ -133,7 +138,7 @@ abbrev pub partsCases : List PartsCase
 partsCases = chainCase ∷ nestedCase ∷ []
 
 abbrev filler : Part
-filler = partWith 99 99 99 99 (field 99 (pos 99)) (field 99 (negsuc 99))
+filler = partBy 99 99 99 99 (field 99 (pos 99)) (field 99 (negsuc 99))
 
 -- READ with room for two parts more, and what it is to give
 unfoldable pub partsRead : PartsCase → Lent Part

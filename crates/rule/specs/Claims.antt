@@ -16,6 +16,7 @@ use Rattle.rule.specs.Grammar.{Tokens, Reads}
 use Rattle.rule.specs.Reader.{readAll}
 use Rattle.rule.specs.Names.{mostParts, mostFroms, outermost, ruleIn, Fits, Scoped}
 use Rattle.rule.specs.Parts.{partsFrom, partsOf, ruleOfParts}
+use Rattle.rule.specs.Sum.{entrySum, publishedSum}
 use Rattle.rule.specs.declared.Part.{Part}
 use Rattle.rule.specs.Meaning.{judged}
 use Rattle.rule.specs.Calls.{mostBytes, ruleOf, readingRefusals, Accepted, readCall, judgeRefusals, judgeCall, readOrder, judgeOrder}
@@ -65,6 +66,10 @@ PartsClaim = (text file : List ℕ) → Accepted text file → AcceptedAs text f
 abbrev pub EndsClaim : Type 0
 EndsClaim = (r : Rule) (k : ℕ) (d : Part) → getD (partsFrom k r) 0 d .end ≡ k + length (partsFrom k r)
 
+-- the number of entries is the sum that the section Card publishes, counted over the kinds of the rule's parts
+abbrev pub PublishedSumClaim : Type 0
+PublishedSumClaim = (r : Rule) → entrySum r ≡ publishedSum r
+
 -- READ and JUDGE by cases: a refusal of reading is passed up unchanged, with the buffer as it was; of an accepted text, READ gives the parts
 -- unless the buffer has fewer elements, and JUDGE the value unless table 1 has no such row
 pub record CallsClaim : Type 0 where
@@ -79,12 +84,11 @@ pub record CallsClaim : Type 0 where
   pub judge-given : (text file : List ℕ) (row : ℕ) → Accepted text file → (r : Rule) → ruleOf text (columnsOf file) ≡ some r
       → row < rowCount file 1 → judgeCall text file row ≡ Given (judged (tablesOf file) row r)
 
--- READ and JUDGE try their refusals in the published order, whatever they are given, and so the first in that order is given (FirstClaim of the crate tables);
--- the program's list, `admitCall`, has READ's order
+-- READ and JUDGE try their refusals in the published order, whatever they are given, and so the first in that order is given (FirstClaim of the
+-- crate tables)
 pub record OrderClaim : Type 0 where
   pub reading : (text file : List ℕ) (answer buffer : List Part) → numbers (lendRefusals (readingRefusals text file) answer buffer) ≡ readOrder
   pub judging : (text file : List ℕ) (row : ℕ) → numbers (judgeRefusals text file row) ≡ judgeOrder
-  pub admitting : (text file answer buffer : List ℕ) → numbers (lendRefusals (readingRefusals text file) answer buffer) ≡ readOrder
 
 -- cases 1 to 12, together
 abbrev pub CasesClaim : Type 0

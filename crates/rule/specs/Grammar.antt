@@ -3,9 +3,9 @@
 use mathlib.Core.List.{List, [], _∷_}
 use Prim.Native.Nat.{ℕ}
 use lib.IntN.{ℤ}
-use Rattle.tables.specs.Values.{Comparison, Eq, Ne, And, Or, Some, All}
+use Rattle.tables.specs.Values.{Comparison, Eq, Ne, And, Or, Some, All, Null, NotNull}
 use Rattle.rule.specs.Tokens.{Token, Compares, Letter, Number, AND, OR, NOT, EXISTS, IN, SOME, ALL, IS, NULL, SELECT, FROM, WHERE, Open, Close, Point}
-use Rattle.rule.specs.Condition.{Compare, IsNull, IsNotNull, Atom, Join, Not, Exists, Listed, WrittenValue, Plain, Named, From, Over, WrittenCondition}
+use Rattle.rule.specs.Condition.{Compare, Mark, Not, From, Single, Atom, Join, Apply, Exists, Listed, WrittenValue, Plain, Named, Source, Over, WrittenCondition}
 
 abbrev pub Tokens : Type 0
 Tokens = List Token
@@ -16,6 +16,11 @@ pub data IsValue : Tokens → WrittenValue → Tokens → Type 0 where
   number : {n : ℤ} {rest : Tokens} → IsValue (Number n ∷ rest) (Plain n) rest
   -- letter . number
   column : {x : ℕ} {n : ℤ} {rest : Tokens} → IsValue (Letter x ∷ Point ∷ Number n ∷ rest) (Named x n) rest
+
+-- what stands between FROM and WHERE, which the paper writes out in EXISTS and in a list alike: a table under a letter
+pub data IsFrom : Tokens → From Source → Tokens → Type 0 where
+  -- number letter
+  single : {n : ℤ} {x : ℕ} {rest : Tokens} → IsFrom (Number n ∷ Letter x ∷ rest) (Single (Over n x)) rest
 
 mutual
   -- condition: conjunctions with OR between them; what stands left of the last OR is one condition
@@ -37,7 +42,7 @@ mutual
   -- factor: a test, after any number of NOTs
   pub data IsFactor : Tokens → WrittenCondition → Tokens → Type 0 where
     -- NOT factor
-    not-factor : {ts rest : Tokens} {a : WrittenCondition} → IsFactor ts a rest → IsFactor (NOT ∷ ts) (Not a) rest
+    not-factor : {ts rest : Tokens} {a : WrittenCondition} → IsFactor ts a rest → IsFactor (NOT ∷ ts) (Apply Not a) rest
     -- test
     one-test : {ts rest : Tokens} {a : WrittenCondition} → IsTest ts a rest → IsFactor ts a rest
 
@@ -46,34 +51,34 @@ mutual
     -- ( condition )
     bracketed : {ts rest : Tokens} {a : WrittenCondition} → IsCondition ts a (Close ∷ rest) → IsTest (Open ∷ ts) a rest
     -- EXISTS ( FROM number letter WHERE condition )
-    exists : {n : ℤ} {x : ℕ} {ts rest : Tokens} {w : WrittenCondition} → IsCondition ts w (Close ∷ rest)
-        → IsTest (EXISTS ∷ Open ∷ FROM ∷ Number n ∷ Letter x ∷ WHERE ∷ ts) (Exists (Over n x) w) rest
+    exists : {ts us rest : Tokens} {f : From Source} {w : WrittenCondition}
+        → IsFrom ts f (WHERE ∷ us) → IsCondition us w (Close ∷ rest) → IsTest (EXISTS ∷ Open ∷ FROM ∷ ts) (Exists f w) rest
     -- value IS NULL
-    is-null : {ts rest : Tokens} {l : WrittenValue} → IsValue ts l (IS ∷ NULL ∷ rest) → IsTest ts (Atom (IsNull l)) rest
+    is-null : {ts rest : Tokens} {l : WrittenValue} → IsValue ts l (IS ∷ NULL ∷ rest) → IsTest ts (Atom (Mark Null l)) rest
     -- value IS NOT NULL
-    is-not-null : {ts rest : Tokens} {l : WrittenValue} → IsValue ts l (IS ∷ NOT ∷ NULL ∷ rest) → IsTest ts (Atom (IsNotNull l)) rest
+    is-not-null : {ts rest : Tokens} {l : WrittenValue} → IsValue ts l (IS ∷ NOT ∷ NULL ∷ rest) → IsTest ts (Atom (Mark NotNull l)) rest
     -- value comparison value
     compared : {ts us rest : Tokens} {op : Comparison} {l r : WrittenValue}
         → IsValue ts l (Compares op ∷ us) → IsValue us r rest → IsTest ts (Atom (Compare op l r)) rest
     -- value comparison SOME list
-    some-of : {ts us rest : Tokens} {op : Comparison} {l s : WrittenValue} {f : From} {w : WrittenCondition}
+    some-of : {ts us rest : Tokens} {op : Comparison} {l s : WrittenValue} {f : From Source} {w : WrittenCondition}
         → IsValue ts l (Compares op ∷ SOME ∷ us) → IsList us s f w rest → IsTest ts (Listed Some op l s f w) rest
     -- value comparison ALL list
-    all-of : {ts us rest : Tokens} {op : Comparison} {l s : WrittenValue} {f : From} {w : WrittenCondition}
+    all-of : {ts us rest : Tokens} {op : Comparison} {l s : WrittenValue} {f : From Source} {w : WrittenCondition}
         → IsValue ts l (Compares op ∷ ALL ∷ us) → IsList us s f w rest → IsTest ts (Listed All op l s f w) rest
     -- value IN list
-    is-in : {ts us rest : Tokens} {l s : WrittenValue} {f : From} {w : WrittenCondition}
+    is-in : {ts us rest : Tokens} {l s : WrittenValue} {f : From Source} {w : WrittenCondition}
         → IsValue ts l (IN ∷ us) → IsList us s f w rest → IsTest ts (Listed Some Eq l s f w) rest
     -- value NOT IN list
-    not-in : {ts us rest : Tokens} {l s : WrittenValue} {f : From} {w : WrittenCondition}
+    not-in : {ts us rest : Tokens} {l s : WrittenValue} {f : From Source} {w : WrittenCondition}
         → IsValue ts l (NOT ∷ IN ∷ us) → IsList us s f w rest → IsTest ts (Listed All Ne l s f w) rest
 
-  -- list: a selected value, a table under a letter, and a condition, in brackets.
+  -- list: a selected value, a FROM and a condition, in brackets.
   -- `IsList ts s f w rest`: the list selects s, its FROM is f and its WHERE is w.
-  pub data IsList : Tokens → WrittenValue → From → WrittenCondition → Tokens → Type 0 where
+  pub data IsList : Tokens → WrittenValue → From Source → WrittenCondition → Tokens → Type 0 where
     -- ( SELECT value FROM number letter WHERE condition )
-    list : {n : ℤ} {x : ℕ} {ts us rest : Tokens} {v : WrittenValue} {w : WrittenCondition}
-        → IsValue ts v (FROM ∷ Number n ∷ Letter x ∷ WHERE ∷ us) → IsCondition us w (Close ∷ rest) → IsList (Open ∷ SELECT ∷ ts) v (Over n x) w rest
+    list : {ts us vs rest : Tokens} {v : WrittenValue} {f : From Source} {w : WrittenCondition}
+        → IsValue ts v (FROM ∷ us) → IsFrom us f (WHERE ∷ vs) → IsCondition vs w (Close ∷ rest) → IsList (Open ∷ SELECT ∷ ts) v f w rest
 
 -- the whole of some tokens is a condition
 abbrev pub Reads : Tokens → WrittenCondition → Type 0

@@ -5,6 +5,8 @@ pub mod Grammar
 pub mod Reader
 pub mod Names
 pub mod Parts
+pub mod Groups
+pub mod Sum
 pub mod Meaning
 pub mod Calls
 pub mod Cases

@@ -1,11 +1,11 @@
 -- Document 01, Meaning: the value of a rule with each level at a row: true, false or unknown. Cards are not mentioned here.
-use mathlib.Core.Bool.{Bool, true, false, not, cond}
+use mathlib.Core.Bool.{Bool, true, false, cond}
 use mathlib.Core.List.{List, map}
 use Prim.Native.Nat.{ℕ}
 use Rattle.tables.specs.Lists.{any, keep, isThereOne}
-use Rattle.tables.specs.Tables.{Cell, Row, Tables, rowsOf}
-use Rattle.tables.specs.Values.{Value, Comparison, holds, Connective, And, Or, Quantifier, Some, All, Env, judgedRow, _▸_, cellOf, byNumbers, isBlank}
-use Rattle.rule.specs.Condition.{Test, Compare, IsNull, IsNotNull, Atom, Join, Not, Exists, Listed, Rule}
+use Rattle.tables.specs.Tables.{Cell, Tables, rowsOf}
+use Rattle.tables.specs.Values.{Value, Comparison, holds, Connective, And, Or, Quantifier, Some, All, Env, judgedRow, _▸_, cellOf, byNumbers, markPasses}
+use Rattle.rule.specs.Condition.{Test, Compare, Mark, Unary, Not, From, Single, Atom, Join, Apply, Exists, Listed, Rule}
 
 -- ---- the three truth values
 
@@ -63,6 +63,9 @@ abbrev pub join3 : Connective → Truth → Truth → Truth
 join3 And a b = and3 a b
 join3 Or a b = or3 a b
 
+abbrev pub unary3 : Unary → Truth → Truth
+unary3 Not a = not3 a
+
 -- ---- tests
 
 -- a comparison with a blank on either side is unknown
@@ -72,8 +75,7 @@ compare3 op x y = byNumbers Unknown (λ a b. truth (holds op a b)) x y
 -- IS NULL and IS NOT NULL are never unknown
 abbrev pub test3 : Env → Test Value → Truth
 test3 env (Compare op l r) = compare3 op (cellOf env l) (cellOf env r)
-test3 env (IsNull l) = truth (isBlank (cellOf env l))
-test3 env (IsNotNull l) = truth (not (isBlank (cellOf env l)))
+test3 env (Mark m l) = truth (markPasses m (cellOf env l))
 
 -- ---- subqueries
 
@@ -84,9 +86,13 @@ abbrev pub over3 : Quantifier → List Truth → Truth
 over3 Some vs = cond (any isTrue vs) True (cond (any isUnknown vs) Unknown False)
 over3 All vs = cond (any isFalse vs) False (cond (any isUnknown vs) Unknown True)
 
--- 'a subquery retains the rows whose WHERE is true': those of some rows on which what is asked of each is true
-abbrev pub retained : (Row → Truth) → List Row → List Row
-retained asked rows = keep (λ row. isTrue (asked row)) rows
+-- what a FROM ranges over: the levels around it, with one more for each row of its table
+abbrev pub ranged : Tables → Env → From ℕ → List Env
+ranged ts env (Single t) = map (λ row. env ▸ row) (rowsOf ts t)
+
+-- 'a subquery retains the rows whose WHERE is true': those of a range at which what is asked of each is true
+abbrev pub retained : (Env → Truth) → List Env → List Env
+retained asked range = keep (λ inside. isTrue (asked inside)) range
 
 -- ---- rules
 
@@ -94,10 +100,10 @@ retained asked rows = keep (λ row. isTrue (asked row)) rows
 unfoldable pub meaning : Tables → Env → Rule → Truth
 meaning ts env (Atom x) = test3 env x
 meaning ts env (Join j a b) = join3 j (meaning ts env a) (meaning ts env b)
-meaning ts env (Not a) = not3 (meaning ts env a)
-meaning ts env (Exists t w) = truth (isThereOne (retained (λ row. meaning ts (env ▸ row) w) (rowsOf ts t)))
-meaning ts env (Listed q op l s t w) =
-    over3 q (map (λ row. compare3 op (cellOf env l) (cellOf (env ▸ row) s)) (retained (λ row. meaning ts (env ▸ row) w) (rowsOf ts t)))
+meaning ts env (Apply u a) = unary3 u (meaning ts env a)
+meaning ts env (Exists f w) = truth (isThereOne (retained (λ inside. meaning ts inside w) (ranged ts env f)))
+meaning ts env (Listed q op l s f w) =
+    over3 q (map (λ inside. compare3 op (cellOf env l) (cellOf inside s)) (retained (λ inside. meaning ts inside w) (ranged ts env f)))
 
 -- the value on a row of table 1
 unfoldable pub judged : Tables → ℕ → Rule → Truth

@@ -2,14 +2,14 @@
 use mathlib.Core.Bool.{Bool, true, false, _&&_}
 use mathlib.Core.List.{List, [], _∷_, _++_}
 use mathlib.Core.Option.{Option, none, some}
-use Prim.Native.Nat.{ℕ, suc, _<_}
+use Prim.Native.Nat.{ℕ, _+_, _<_}
 use lib.Dec.{T, eqb, leb}
 use lib.IntN.{ℤ, pos, negsuc}
 use lib.ListN.{length, getD}
 use Rattle.tables.specs.Lists.{numbered, only, _>>=_}
 use Rattle.tables.specs.Bytes.{between, inRange}
 use Rattle.tables.specs.Values.{Value, Constant, Column}
-use Rattle.rule.specs.Condition.{Test, Compare, IsNull, IsNotNull, Atom, Join, Not, Exists, Listed, WrittenValue, Plain, Named, Over, WrittenCondition, Rule, parts, fromsDeep}
+use Rattle.rule.specs.Condition.{Test, Compare, Mark, From, Single, Atom, Join, Apply, Exists, Listed, WrittenValue, Plain, Named, Source, Over, WrittenCondition, Rule, parts, letters, fromsDeep}
 
 -- ---- refusal 7: the limits
 
@@ -70,23 +70,28 @@ module _ (columns : List ℕ) where
   -- a test, if its values do
   unfoldable pub testIn : Scope → Test WrittenValue → Option (Test Value)
   testIn scope (Compare op l r) = valueIn scope l >>= (λ x. valueIn scope r >>= (λ y. some (Compare op x y)))
-  testIn scope (IsNull l) = valueIn scope l >>= (λ x. some (IsNull x))
-  testIn scope (IsNotNull l) = valueIn scope l >>= (λ x. some (IsNotNull x))
+  testIn scope (Mark m l) = valueIn scope l >>= (λ x. some (Mark m x))
+
+  -- a FROM, if its table exists: what it says in a rule, and the scope of its WHERE and its SELECT
+  unfoldable pub fromIn : Scope → From Source → Option (From ℕ × Scope)
+  fromIn scope (Single (Over n x)) = existing (length columns) n >>= (λ t. some (Single t, bound scope x t))
 
   -- the rule that a written condition stands for; the value left of a list is looked up outside the list's FROM
   unfoldable pub ruleIn : Scope → WrittenCondition → Option Rule
   ruleIn scope (Atom x) = testIn scope x >>= (λ y. some (Atom y))
   ruleIn scope (Join j a b) = ruleIn scope a >>= (λ x. ruleIn scope b >>= (λ y. some (Join j x y)))
-  ruleIn scope (Not a) = ruleIn scope a >>= (λ x. some (Not x))
-  ruleIn scope (Exists (Over n x) w) =
-      existing (length columns) n >>= (λ t. ruleIn (bound scope x t) w >>= (λ w′. some (Exists t w′)))
-  ruleIn scope (Listed q op l s (Over n x) w) =
-      existing (length columns) n >>= (λ t.
-      valueIn scope l >>= (λ l′. valueIn (bound scope x t) s >>= (λ s′. ruleIn (bound scope x t) w >>= (λ w′. some (Listed q op l′ s′ t w′)))))
+  ruleIn scope (Apply u a) = ruleIn scope a >>= (λ x. some (Apply u x))
+  ruleIn scope (Exists f w) = fromIn scope f >>= (λ g. ruleIn (g .1) w >>= (λ w′. some (Exists (g .0) w′)))
+  ruleIn scope (Listed q op l s f w) =
+      fromIn scope f >>= (λ g.
+      valueIn scope l >>= (λ l′. valueIn (g .1) s >>= (λ s′. ruleIn (g .1) w >>= (λ w′. some (Listed q op l′ s′ (g .0) w′)))))
 
 -- ---- what a rule names exists
 
--- levels has the table of each level, level 0 first
+-- the table of each level, level 0 first, inside a FROM: one more for each of its letters
+abbrev pub within : List ℕ → From ℕ → List ℕ
+within levels (Single t) = levels ++ (t ∷ [])
+
 module _ (columns : List ℕ) where
   -- an existing level and column; a constant has 32 bits
   abbrev pub ValueFits : List ℕ → Value → Type 0
@@ -95,18 +100,18 @@ module _ (columns : List ℕ) where
 
   abbrev pub TestFits : List ℕ → Test Value → Type 0
   TestFits levels (Compare op l r) = ValueFits levels l × ValueFits levels r
-  TestFits levels (IsNull l) = ValueFits levels l
-  TestFits levels (IsNotNull l) = ValueFits levels l
+  TestFits levels (Mark m l) = ValueFits levels l
 
-  abbrev pub TableFits : ℕ → Type 0
-  TableFits t = T (between 1 (length columns) t)
+  -- an existing table
+  abbrev pub FromFits : From ℕ → Type 0
+  FromFits (Single t) = T (between 1 (length columns) t)
 
   unfoldable pub Fits : List ℕ → Rule → Type 0
   Fits levels (Atom x) = TestFits levels x
   Fits levels (Join j a b) = Fits levels a × Fits levels b
-  Fits levels (Not a) = Fits levels a
-  Fits levels (Exists t w) = TableFits t × Fits (levels ++ (t ∷ [])) w
-  Fits levels (Listed q op l s t w) = TableFits t × ValueFits levels l × ValueFits (levels ++ (t ∷ [])) s × Fits (levels ++ (t ∷ [])) w
+  Fits levels (Apply u a) = Fits levels a
+  Fits levels (Exists f w) = FromFits f × Fits (within levels f) w
+  Fits levels (Listed q op l s f w) = FromFits f × ValueFits levels l × ValueFits (within levels f) s × Fits (within levels f) w
 
 -- a value names a level below n
 abbrev pub ValueScoped : ℕ → Value → Type 0
@@ -115,13 +120,12 @@ ValueScoped n (Column l c) = l < n
 
 abbrev pub TestScoped : ℕ → Test Value → Type 0
 TestScoped n (Compare op l r) = ValueScoped n l × ValueScoped n r
-TestScoped n (IsNull l) = ValueScoped n l
-TestScoped n (IsNotNull l) = ValueScoped n l
+TestScoped n (Mark m l) = ValueScoped n l
 
 -- with n levels around it, a rule names existing levels alone
 unfoldable pub Scoped : ℕ → Rule → Type 0
 Scoped n (Atom x) = TestScoped n x
 Scoped n (Join j a b) = Scoped n a × Scoped n b
-Scoped n (Not a) = Scoped n a
-Scoped n (Exists t w) = Scoped (suc n) w
-Scoped n (Listed q op l s t w) = ValueScoped n l × ValueScoped (suc n) s × Scoped (suc n) w
+Scoped n (Apply u a) = Scoped n a
+Scoped n (Exists f w) = Scoped (letters f + n) w
+Scoped n (Listed q op l s f w) = ValueScoped n l × ValueScoped (letters f + n) s × Scoped (letters f + n) w

@@ -6,9 +6,9 @@ use Prim.Native.Nat.{ℕ, zero, suc, _+_, _*_}
 use lib.IntN.{ℤ}
 use lib.ListN.{length}
 use Rattle.tables.specs.Lists.{only, _>>=_, _<|>_}
-use Rattle.tables.specs.Values.{Comparison, Eq, Ne, Connective, And, Or, Quantifier, Some, All}
+use Rattle.tables.specs.Values.{Comparison, Eq, Ne, Connective, And, Or, Quantifier, Some, All, Null, NotNull}
 use Rattle.rule.specs.Tokens.{Token, isFixed, Fixed, Compares, Letter, Number, AND, OR, NOT, EXISTS, IN, SOME, ALL, IS, NULL, SELECT, FROM, WHERE, Open, Close, Point}
-use Rattle.rule.specs.Condition.{Compare, IsNull, IsNotNull, Atom, Join, Not, Exists, Listed, WrittenValue, Plain, Named, From, Over, WrittenCondition}
+use Rattle.rule.specs.Condition.{Compare, Mark, Not, From, Single, Atom, Join, Apply, Exists, Listed, WrittenValue, Plain, Named, Source, Over, WrittenCondition}
 use Rattle.rule.specs.Grammar.{Tokens}
 
 -- ---- one token
@@ -52,15 +52,15 @@ readValue (Letter x ∷ ts) = expect Point ts >>= (λ us. readNumber us >>= (λ 
 readValue (Number n ∷ ts) = some (Plain n, ts)
 
 -- FROM number letter WHERE
-unfoldable pub readFrom : Tokens → Option (From × Tokens)
+unfoldable pub readFrom : Tokens → Option (From Source × Tokens)
 readFrom ts =
-    expect FROM ts >>= (λ us. readNumber us >>= (λ n. readLetter (n .1) >>= (λ x. expect WHERE (x .1) >>= (λ vs. some (Over (n .0) (x .0), vs)))))
+    expect FROM ts >>= (λ us. readNumber us >>= (λ n. readLetter (n .1) >>= (λ x. expect WHERE (x .1) >>= (λ vs. some (Single (Over (n .0) (x .0)), vs)))))
 
 -- what stands before the condition that a test holds
 pub data Opening : Type 0 where
   Bracket : Opening
-  OfExists : From → Opening
-  OfList : Quantifier → Comparison → WrittenValue → WrittenValue → From → Opening
+  OfExists : From Source → Opening
+  OfList : Quantifier → Comparison → WrittenValue → WrittenValue → From Source → Opening
 
 -- the test, once that condition is read
 abbrev pub closed : Opening → WrittenCondition → WrittenCondition
@@ -80,8 +80,8 @@ startList q op l ts = expect Open ts >>= (λ us. expect SELECT us >>= (λ vs. re
 -- what may stand behind a value
 unfoldable pub startValue : WrittenValue → Tokens → Option Start
 startValue l ts =
-    (expect IS ts >>= (λ us. expect NULL us >>= (λ rest. some (Whole (Atom (IsNull l)) rest))))
-    <|> (expect IS ts >>= (λ us. expect NOT us >>= (λ vs. expect NULL vs >>= (λ rest. some (Whole (Atom (IsNotNull l)) rest)))))
+    (expect IS ts >>= (λ us. expect NULL us >>= (λ rest. some (Whole (Atom (Mark Null l)) rest))))
+    <|> (expect IS ts >>= (λ us. expect NOT us >>= (λ vs. expect NULL vs >>= (λ rest. some (Whole (Atom (Mark NotNull l)) rest)))))
     <|> (readComparison ts >>= (λ c. readValue (c .1) >>= (λ r. some (Whole (Atom (Compare (c .0) l (r .0))) (r .1)))))
     <|> (readComparison ts >>= (λ c. expect SOME (c .1) >>= (λ us. startList Some (c .0) l us)))
     <|> (readComparison ts >>= (λ c. expect ALL (c .1) >>= (λ us. startList All (c .0) l us)))
@@ -146,7 +146,7 @@ read (suc depth) (more-or a) ts =
 read (suc depth) conjunction ts = read depth factor ts >>= (λ a. read depth (more-and (a .0)) (a .1))
 read (suc depth) (more-and a) ts =
     branch (expect AND ts) (λ us. read depth factor us >>= (λ b. read depth (more-and (Join And a (b .0))) (b .1))) (λ _. some (a, ts))
-read (suc depth) factor ts = branch (expect NOT ts) (λ us. read depth factor us >>= (λ a. some (Not (a .0), a .1))) (λ _. read depth test ts)
+read (suc depth) factor ts = branch (expect NOT ts) (λ us. read depth factor us >>= (λ a. some (Apply Not (a .0), a .1))) (λ _. read depth test ts)
 read (suc depth) test ts = started (start ts) (λ o us. read depth condition us >>= closing o)
 
 -- a depth that no reading of a goal uses up

@@ -2,28 +2,31 @@
 use mathlib.Core.Path.{_≡_, refl, sym, ap, ap₂, subst, _∙_}
 use mathlib.Core.Bool.{Bool, true, false, not, Bool·beq, true≢false, false≢true}
 use mathlib.Core.List.{List, [], _∷_, _++_}
-use mathlib.Core.Logic.{⊎-elim}
+use mathlib.Core.Logic.{_⊎_, inl, inr, ⊎-elim}
 use mathlib.Core.Option.{some}
 use Prim.Native.Nat.{ℕ, zero, suc, _+_, _*_, _<_, _≤_, suc-le-suc}
 use native.Mathlib.Nat.{le-of-suc-le-suc, not-suc-le-zero, eq-or-lt-of-le}
 use native.Mathlib.Omega.{arith}
-use lib.Dec.{T, eqb, leb, leb→le}
+use borrow.Author.Tests.{lt-ltb, le-ltb}
+use lib.Dec.{T, eqb, leb, ltb, leb→le}
 use lib.Ieee.Fits.{and-l, and-r}
 use lib.ListN.{length, getD, set}
 use Rattle.tables.specs.Lists.{tabulate}
 use Rattle.tables.specs.Bytes.{between}
-use Rattle.tables.specs.Tables.{mostRows, mostCells, Row, columnsOf, tablesOf}
-use Rattle.tables.specs.Values.{mostLevels, comparisonOf, holds, Connective, And, Or, Some, All, Env, _▸_, cellOf, byNumbers, isBlank, valueFits}
+use Rattle.tables.specs.Tables.{mostRows, mostCells, Cell, Blank, Present, Row, columnsOf, tablesOf}
+use Rattle.tables.specs.Values.{mostLevels, comparisonOf, holds, And, Or, Some, All, MarkTest, Null, NotNull, Env, _▸_, cellOf, byNumbers, isBlank, markPasses, valueFits}
 use Rattle.cells.specs.Code.{seenCell, placeIn}
 use Rattle.cells.specs.declared.Place.{Place}
 use Rattle.cells.specs.declared.Seen.{Seen}
 use Rattle.tables.proofs.Tests.{both}
-use Rattle.card.specs.Card.{mostRowEntries, Interpretation, AsNo, AsYes, unknownSays, Leaf, CompareLeaf, BlankLeaf, NotBlankLeaf, Card, LeafEntry, PairEntry, RowEntry, leafSays, joined, overRows, answer, leafFits, rowEntryFits, cardFits}
-use Rattle.card.specs.Layout.{LeafHead, PairHead, RowHead, pairKind, rowKind, comparisonKind, blankKind, notBlankKind, kindOf}
-use Rattle.decoder.specs.Code.{entrySize, entryEnd, entryLeftTag, entryLeftNumber, entryRightTag, entryRightNumber, entryNextEnd, kindIn, nextEndIn, tableIn, comparisonIn, leftIn, rightIn, headIn, Coded, coded-leaf, coded-pair, coded-row}
-use Rattle.decoder.proofs.Coded.{head-at, kind-is, kind-pair, kind-row, kind-leaf, coded-less, coded-end, PairParts, RowParts, pair-of, row-of}
+use Rattle.card.specs.Card.{mostRowEntries, Interpretation, AsNo, AsYes, unknownSays, Leaf, CompareLeaf, MarkLeaf, Card, LeafEntry, PairEntry, RowEntry, leafSays, joined, overRows, answer, leafFits, rowEntryFits, cardFits}
+use Rattle.card.specs.Layout.{ComparisonKind, MarkKind, pairKind, rowKind, comparisonKind, markKind, LeafHead, RowHead}
+use Rattle.card.specs.Groups.{PairNumber, ComparisonNumber, MarkNumber, InnerNumber, LeafNumber}
+use Rattle.decoder.specs.Code.{entrySize, entryEnd, entryLeftTag, entryLeftNumber, entryRightTag, entryRightNumber, entryNextEnd, kindIn, nextEndIn, tableIn, comparisonIn, leftIn, rightIn, headAt, Coded, coded-leaf, coded-pair, coded-row}
+use Rattle.decoder.proofs.Grouped.{same-kind, pair-bounds, row-bounds, comparison-bounds, mark-bounds, leaf-bounds}
+use Rattle.decoder.proofs.Coded.{head-at, pair-at, row-at, leaf-at, kind-pair, kind-row, kind-leaf, coded-less, coded-end, PairParts, RowParts, pair-of, row-of, leaf-of}
 use Rattle.values.specs.Code.{rowFrom, Readable, ValueReady}
-use Rattle.runner.specs.Code.{LeafReady, Runnable, connectiveBy, pairKindFor, PairRunnable, quantifierBy, rowKindFor, RowsRunnable}
+use Rattle.runner.specs.Code.{TellsLeaf, TellsPair, TellsComparison, TellsUnknown, asksBlank, TellsBlank, LeafReady, Runnable, connectiveBy, pairKindFor, PairRunnable, quantifierBy, rowKindFor, RowsRunnable}
 use Rattle.values.proofs.Numbers.{seen-blank}
 use Rattle.values.proofs.Rows.{TableAt}
 use Rattle.values.proofs.Ranging.{firstAt, columnsAt, rowsAt, NextRow, next-none, next-more, table-bounds, table-here, row-deep, row-room as room-at, row-readable}
@@ -33,81 +36,115 @@ use Rattle.values.proofs.Ranging.{firstAt, columnsAt, rowsAt, NextRow, next-non
 -- which leaf it is, by its kind
 data LeafBy (d : List ℕ) (s : ℕ) : Leaf → Type 0 where
   by-compare : (u : Interpretation) → kindIn d s ≡ comparisonKind u → LeafBy d s (CompareLeaf u (comparisonOf (comparisonIn d s)) (leftIn d s) (rightIn d s))
-  by-blank : kindIn d s ≡ blankKind → LeafBy d s (BlankLeaf (leftIn d s))
-  by-not-blank : kindIn d s ≡ notBlankKind → LeafBy d s (NotBlankLeaf (leftIn d s))
+  by-mark : (m : MarkTest) → kindIn d s ≡ markKind m → LeafBy d s (MarkLeaf m (leftIn d s))
 
--- the kinds of comparisons are the lowest of them
-compare-low : (u : Interpretation) → comparisonKind u < blankKind
-compare-low AsNo = omega arith
-compare-low AsYes = omega arith
-
-compare-unknown : (u : Interpretation) → eqb (comparisonKind u) (comparisonKind AsYes) ≡ unknownSays u
-compare-unknown AsNo = refl
-compare-unknown AsYes = refl
-
-leaf-by : (d : List ℕ) (s : ℕ) (x : Leaf) → headIn d s ≡ some (LeafHead x) → LeafBy d s x
-leaf-by d s x h = go x h (sym (kind-is d s (LeafHead x) h))
+leaf-by : (d : List ℕ) (s : ℕ) (x : Leaf) → headAt d s ≡ some (LeafHead x) → LeafBy d s x
+leaf-by d s x h = go (kind-leaf d s x h)
   where
-    go : (x : Leaf) → headIn d s ≡ some (LeafHead x) → kindIn d s ≡ kindOf (LeafHead x) → LeafBy d s x
-    go (CompareLeaf AsNo op l r) h k = let z = head-at d s (comparisonKind AsNo) k in subst (LeafBy d s) (cc) (by-compare AsNo k)
-    go (CompareLeaf AsYes op l r) h k = let z = head-at d s (comparisonKind AsYes) k in subst (LeafBy d s) (cc) (by-compare AsYes k)
-    go (BlankLeaf l) h k = let z = head-at d s blankKind k in subst (LeafBy d s) (cc) (by-blank k)
-    go (NotBlankLeaf l) h k = let z = head-at d s notBlankKind k in subst (LeafBy d s) (cc) (by-not-blank k)
+    go : LeafNumber (kindIn d s) → LeafBy d s x
+    go (inl (u, k)) = let z = head-at d s (ComparisonKind u) k in subst (LeafBy d s) (cc) (by-compare u k)
+    go (inr (m, k)) = let z = head-at d s (MarkKind m) k in subst (LeafBy d s) (cc) (by-mark m k)
+
+-- no comparison is a test by the mark
+compare-not-mark : {n : ℕ} (u : Interpretation) (m : MarkTest) → n ≡ comparisonKind u → n ≡ markKind m → ⊥
+compare-not-mark u m e f =
+    let z = same-kind (ComparisonKind u) (MarkKind m) (sym e ∙ f) in
+    let y : _≡_ {A = ℕ} 0 1 = cc in
+    omega arith
 
 module _ (d columns levels : List ℕ) (s : ℕ) where
   left-by : {x : Leaf} → LeafBy d s x → T (leafFits columns levels x) → T (valueFits columns levels (leftIn d s))
   left-by (by-compare u k) f = and-l (valueFits columns levels (leftIn d s)) _ f
-  left-by (by-blank k) f = f
-  left-by (by-not-blank k) f = f
+  left-by (by-mark m k) f = f
 
-  right-by : {x : Leaf} → LeafBy d s x → kindIn d s < blankKind → T (leafFits columns levels x) → T (valueFits columns levels (rightIn d s))
-  right-by (by-compare u k) h f = and-r (valueFits columns levels (leftIn d s)) _ f
-  right-by (by-blank k) h f = absurd (omega arith)
-  right-by (by-not-blank k) h f = absurd (omega arith)
+  right-by : {x : Leaf} → LeafBy d s x → ComparisonNumber (kindIn d s) → T (leafFits columns levels x) → T (valueFits columns levels (rightIn d s))
+  right-by (by-compare u k) c f = and-r (valueFits columns levels (leftIn d s)) _ f
+  right-by (by-mark m k) c f = absurd (compare-not-mark (c .0) m (c .1) k)
+
+-- what a test by the mark says, by what it asks for
+marks-agree : (m : MarkTest) (x : Cell) → Bool·beq (isBlank x) (asksBlank m) ≡ markPasses m x
+marks-agree Null Blank = refl
+marks-agree Null (Present n) = refl
+marks-agree NotNull Blank = refl
+marks-agree NotNull (Present n) = refl
 
 module _ (d : List ℕ) (s : ℕ) (env : Env) (x : Seen) (left : seenCell x ≡ cellOf env (leftIn d s)) where
-  compare-by : {l : Leaf} → LeafBy d s l → kindIn d s < blankKind → (y : Seen) (r : Bool) → seenCell y ≡ cellOf env (rightIn d s)
-      → r ≡ byNumbers (eqb (kindIn d s) (comparisonKind AsYes)) (holds (comparisonOf (comparisonIn d s))) (seenCell x) (seenCell y) → r ≡ leafSays env l
-  compare-by (by-compare u k) h y r right e = rw (← left, ← right) (e ∙ rw (k, compare-unknown u))
-  compare-by (by-blank k) h y r right e = absurd (omega arith)
-  compare-by (by-not-blank k) h y r right e = absurd (omega arith)
+  compare-by : {l : Leaf} → LeafBy d s l → ComparisonNumber (kindIn d s) → (y : Seen) (u r : Bool) → seenCell y ≡ cellOf env (rightIn d s)
+      → TellsUnknown (kindIn d s) u → r ≡ byNumbers u (holds (comparisonOf (comparisonIn d s))) (seenCell x) (seenCell y) → r ≡ leafSays env l
+  compare-by (by-compare i k) c y u r right tells e = rw (← left, ← right, ← tells i k) e
+  compare-by (by-mark m k) c y u r right tells e = absurd (compare-not-mark (c .0) m (c .1) k)
 
-  blank-by : {l : Leaf} → LeafBy d s l → kindIn d s ≡ blankKind → x .blank ≡ leafSays env l
-  blank-by (by-compare u k) h = absurd (omega (arith, compare-low u))
-  blank-by (by-blank k) h = seen-blank x ∙ ap isBlank left
-  blank-by (by-not-blank k) h = absurd (omega arith)
+  mark-by : {l : Leaf} → LeafBy d s l → MarkNumber (kindIn d s) → (b : Bool) → TellsBlank (kindIn d s) b → Bool·beq (x .blank) b ≡ leafSays env l
+  mark-by (by-compare i k) c b tells = absurd (compare-not-mark i (c .0) k (c .1))
+  mark-by (by-mark m k) c b tells = ap₂ Bool·beq (seen-blank x) (tells m k) ∙ marks-agree m (seenCell x) ∙ ap (markPasses m) left
 
-  not-blank-by : {l : Leaf} → LeafBy d s l → blankKind ≤ kindIn d s → (kindIn d s ≡ blankKind → ⊥) → not (x .blank) ≡ leafSays env l
-  not-blank-by (by-compare u k) h n = absurd (omega (arith, compare-low u))
-  not-blank-by (by-blank k) h n = absurd (n k)
-  not-blank-by (by-not-blank k) h n = ap not (seen-blank x ∙ ap isBlank left)
+-- by what tells comparisons from tests by the mark
+module _ {n : ℕ} {r : Bool} where
+  told-comparison : LeafNumber n → TellsComparison n r → r ≡ true → ComparisonNumber n
+  told-comparison (inl k) t e = k
+  told-comparison (inr k) t e = absurd (true≢false (sym e ∙ t .1 k))
+
+  told-mark : LeafNumber n → TellsComparison n r → r ≡ false → MarkNumber n
+  told-mark (inl k) t e = absurd (true≢false (sym (t .0 k) ∙ e))
+  told-mark (inr k) t e = k
+
+pub comparison-told : (n : ℕ) → TellsComparison n (ltb n (markKind Null))
+comparison-told n = (
+  λ k. lt-ltb n (markKind Null) (omega (arith, comparison-bounds k)),
+  λ k. le-ltb n (markKind Null) (omega (arith, mark-bounds k)),
+)
+
+-- each kind has an arm
+pub unknown-none : {n : ℕ} → ComparisonNumber n → (n ≡ comparisonKind AsNo → ⊥) → (n ≡ comparisonKind AsYes → ⊥) → ⊥
+unknown-none (AsNo, e) not-no not-yes = not-no e
+unknown-none (AsYes, e) not-no not-yes = not-yes e
+
+pub unknown-told : {n : ℕ} (u : Interpretation) → n ≡ comparisonKind u → TellsUnknown n (unknownSays u)
+unknown-told u e v f =
+    let z = same-kind (ComparisonKind u) (ComparisonKind v) (sym e ∙ f) in
+    let same : u ≡ v = cc in
+    ap unknownSays same
+
+pub blank-none : {n : ℕ} → MarkNumber n → (n ≡ markKind Null → ⊥) → (n ≡ markKind NotNull → ⊥) → ⊥
+blank-none (Null, e) not-null not-not = not-null e
+blank-none (NotNull, e) not-null not-not = not-not e
+
+pub blank-told : {n : ℕ} (m : MarkTest) → n ≡ markKind m → TellsBlank n (asksBlank m)
+blank-told m e v f =
+    let z = same-kind (MarkKind m) (MarkKind v) (sym e ∙ f) in
+    let same : m ≡ v = cc in
+    ap asksBlank same
 
 module _ {d g file w : List ℕ} {s : ℕ} (h : LeafReady d g file w s) where
   which : LeafBy d s (h .leaf)
   which = leaf-by d s (h .leaf) (h .head)
 
+  module _ {r : Bool} (tells : TellsComparison (kindIn d s) r) where
+    pub comparison-here : r ≡ true → ComparisonNumber (kindIn d s)
+    comparison-here e = told-comparison (kind-leaf d s (h .leaf) (h .head)) tells e
+
+    pub mark-here : r ≡ false → MarkNumber (kindIn d s)
+    mark-here e = told-mark (kind-leaf d s (h .leaf) (h .head)) tells e
+
   pub left-fits : T (valueFits (columnsOf file) (h .levels) (leftIn d s))
   left-fits = left-by d (columnsOf file) (h .levels) s which (h .fits)
 
-  pub right-fits : kindIn d s < blankKind → T (valueFits (columnsOf file) (h .levels) (rightIn d s))
+  pub right-fits : ComparisonNumber (kindIn d s) → T (valueFits (columnsOf file) (h .levels) (rightIn d s))
   right-fits k = right-by d (columnsOf file) (h .levels) s which k (h .fits)
 
   abbrev pub left-ready : ValueReady g file w (getD d (entrySize * s + entryLeftTag) 0) (getD d (entrySize * s + entryLeftNumber) 0)
   left-ready = record { levels = h .levels; env = h .env; readable = h .readable; fits = left-fits }
 
-  abbrev pub right-ready : kindIn d s < blankKind → ValueReady g file w (getD d (entrySize * s + entryRightTag) 0) (getD d (entrySize * s + entryRightNumber) 0)
+  abbrev pub right-ready : ComparisonNumber (kindIn d s) → ValueReady g file w (getD d (entrySize * s + entryRightTag) 0) (getD d (entrySize * s + entryRightNumber) 0)
   right-ready k = record { levels = h .levels; env = h .env; readable = h .readable; fits = right-fits k }
 
   module _ (x : Seen) (left : seenCell x ≡ cellOf (h .env) (leftIn d s)) where
-    pub compare-answer : kindIn d s < blankKind → (y : Seen) (r : Bool) → seenCell y ≡ cellOf (h .env) (rightIn d s)
-        → r ≡ byNumbers (eqb (kindIn d s) (comparisonKind AsYes)) (holds (comparisonOf (comparisonIn d s))) (seenCell x) (seenCell y) → r ≡ leafSays (h .env) (h .leaf)
-    compare-answer k y r right e = compare-by d s (h .env) x left which k y r right e
+    pub compare-answer : ComparisonNumber (kindIn d s) → (y : Seen) (u r : Bool) → seenCell y ≡ cellOf (h .env) (rightIn d s)
+        → TellsUnknown (kindIn d s) u → r ≡ byNumbers u (holds (comparisonOf (comparisonIn d s))) (seenCell x) (seenCell y) → r ≡ leafSays (h .env) (h .leaf)
+    compare-answer k y u r right tells e = compare-by d s (h .env) x left which k y u r right tells e
 
-    pub blank-answer : kindIn d s ≡ blankKind → x .blank ≡ leafSays (h .env) (h .leaf)
-    blank-answer k = blank-by d s (h .env) x left which k
-
-    pub not-blank-answer : blankKind ≤ kindIn d s → (kindIn d s ≡ blankKind → ⊥) → not (x .blank) ≡ leafSays (h .env) (h .leaf)
-    not-blank-answer k n = not-blank-by d s (h .env) x left which k n
+    pub mark-answer : MarkNumber (kindIn d s) → (b : Bool) → TellsBlank (kindIn d s) b → Bool·beq (x .blank) b ≡ leafSays (h .env) (h .leaf)
+    mark-answer k b tells = mark-by d s (h .env) x left which k b tells
 
 -- ---- an entry with its inner ones, by its kind
 
@@ -115,33 +152,62 @@ module _ {d g file w : List ℕ} {s : ℕ} (h : LeafReady d g file w s) where
 pub record LeafPart (d : List ℕ) (s : ℕ) (c : Card) : Type 0 where
   pub leaf : Leaf
   pub is : c ≡ LeafEntry leaf
-  pub head : headIn d s ≡ some (LeafHead leaf)
+  pub head : headAt d s ≡ some (LeafHead leaf)
 
-leaf-part : {d : List ℕ} {s e : ℕ} {c : Card} → Coded d s e c → rowKind All < kindIn d s → LeafPart d s c
-leaf-part (coded-leaf {x = x} h p q) k = record { leaf = x; is = refl; head = h }
-leaf-part {d} {s} (coded-pair {j = j} h p a b) k = let z = kind-pair d s j h in absurd (omega arith)
-leaf-part {d} {s} (coded-row {q = q} {t = t} h p a) k = let z = kind-row d s q t h in absurd (omega arith)
+leaf-part : {d : List ℕ} {s e : ℕ} {c : Card} → Coded d s e c → LeafNumber (kindIn d s) → LeafPart d s c
+leaf-part {d} {s} c k = let (x, h) = leaf-at d s k in record { leaf = x; is = leaf-of c x h .0; head = h }
 
-kind-low : {d : List ℕ} {s e : ℕ} {c : Card} → Coded d s e c → pairKind And ≤ kindIn d s
-kind-low {d} {s} (coded-leaf {x = x} h p q) = let z = kind-leaf d s x h in omega arith
-kind-low {d} {s} (coded-pair {j = j} h p a b) = kind-pair d s j h .0
-kind-low {d} {s} (coded-row {q = q} {t = t} h p a) = let z = kind-row d s q t h in omega arith
+-- by the number of its kind
+abbrev SomeNumber : ℕ → Type 0
+SomeNumber n = InnerNumber n ⊎ LeafNumber n
 
-head-pair : (d : List ℕ) (s : ℕ) (j : Connective) → kindIn d s ≡ pairKind j → headIn d s ≡ some (PairHead j)
-head-pair d s And k = head-at d s (pairKind And) k
-head-pair d s Or k = head-at d s (pairKind Or) k
+kind-some : {d : List ℕ} {s e : ℕ} {c : Card} → Coded d s e c → SomeNumber (kindIn d s)
+kind-some {d} {s} (coded-leaf {x = x} h p q) = inr (kind-leaf d s x h)
+kind-some {d} {s} (coded-pair {j = j} h p a b) = inl (inl (kind-pair d s j h))
+kind-some {d} {s} (coded-row {q = q} {t = t} h p a) = inl (inr (kind-row d s q t h))
 
-head-row : (d : List ℕ) (s : ℕ) (q : Bool) → kindIn d s ≡ rowKindFor q → headIn d s ≡ some (RowHead (quantifierBy q) (tableIn d s))
-head-row d s false k = head-at d s (rowKind Some) k
-head-row d s true k = head-at d s (rowKind All) k
+module _ {n : ℕ} {r : Bool} where
+  told-leaf : SomeNumber n → TellsLeaf n r → r ≡ true → LeafNumber n
+  told-leaf (inl k) t e = absurd (true≢false (sym e ∙ t .1 k))
+  told-leaf (inr k) t e = k
+
+  told-inner : SomeNumber n → TellsLeaf n r → r ≡ false → InnerNumber n
+  told-inner (inl k) t e = k
+  told-inner (inr k) t e = absurd (true≢false (sym (t .0 k) ∙ e))
+
+  told-pair : SomeNumber n → TellsPair n r → r ≡ true → PairNumber n
+  told-pair (inl (inl k)) t e = k
+  told-pair (inl (inr k)) t e = absurd (true≢false (sym e ∙ t .1 (inl k)))
+  told-pair (inr k) t e = absurd (true≢false (sym e ∙ t .1 (inr k)))
+
+-- no kind of an entry with inner ones is left where the number is none of theirs
+pub inner-none : {n : ℕ} → InnerNumber n → (n ≡ pairKind And → ⊥) → (n ≡ pairKind Or → ⊥) → (n ≡ rowKind Some → ⊥) → (n ≡ rowKind All → ⊥) → ⊥
+inner-none (inl (And, e)) no-and no-or no-some no-all = no-and e
+inner-none (inl (Or, e)) no-and no-or no-some no-all = no-or e
+inner-none (inr (Some, e)) no-and no-or no-some no-all = no-some e
+inner-none (inr (All, e)) no-and no-or no-some no-all = no-all e
+
+-- what tells them
+pub leaf-told : (n : ℕ) → TellsLeaf n (ltb (rowKind All) n)
+leaf-told n = (
+  λ k. lt-ltb (rowKind All) n (omega (arith, leaf-bounds k)),
+  λ k. le-ltb (rowKind All) n (⊎-elim (λ p. omega (arith, pair-bounds p)) (λ p. omega (arith, row-bounds p)) k),
+)
+
+pub pair-told : (n : ℕ) → TellsPair n (ltb n (rowKind Some))
+pair-told n = (
+  λ k. lt-ltb n (rowKind Some) (omega (arith, pair-bounds k)),
+  λ k. le-ltb n (rowKind Some) (⊎-elim (λ p. omega (arith, row-bounds p)) (λ p. omega (arith, leaf-bounds p)) k),
+)
+
+head-row : (d : List ℕ) (s : ℕ) (q : Bool) → kindIn d s ≡ rowKindFor q → headAt d s ≡ some (RowHead (quantifierBy q) (tableIn d s))
+head-row d s q k = row-at d s (quantifierBy q, k)
 
 -- ---- the answers of two entries, and over rows
 
-pair-by : (k : ℕ) → pairKind And ≤ k → k < rowKind Some → k ≡ pairKindFor (eqb k (pairKind Or))
-pair-by zero l m = absurd (not-suc-le-zero l)
-pair-by (suc zero) l m = refl
-pair-by (suc (suc zero)) l m = refl
-pair-by (suc (suc (suc k))) l m = absurd (omega arith)
+pair-by : {n : ℕ} → PairNumber n → n ≡ pairKindFor (eqb n (pairKind Or))
+pair-by (And, e) = rw e refl
+pair-by (Or, e) = rw e refl
 
 -- no of the first entry decides an and, and yes an or; else the second entry decides; and so do no and yes of the second
 joined-stop : (o a b : Bool) → Bool·beq a o ≡ true → a ≡ joined (connectiveBy o) a b
@@ -192,15 +258,20 @@ pub record RowsPassed (d g file w : List ℕ) (s e depth : ℕ) (q : Bool) (plac
       → rowSays file (h .env) (h .card) (firstAt g (tableIn d s) + k * columnsAt g (tableIn d s)) (columnsAt g (tableIn d s)) ≡ q
 
 module _ {d g file w : List ℕ} {s e depth : ℕ} (h : Runnable d g file w s e depth) where
-  pub some-kind : pairKind And ≤ kindIn d s
-  some-kind = kind-low (h .coded)
+  -- by what tells its kind
+  module _ {r : Bool} where
+    pub leaf-kind-here : TellsLeaf (kindIn d s) r → r ≡ true → LeafNumber (kindIn d s)
+    leaf-kind-here t e = told-leaf (kind-some (h .coded)) t e
+
+    pub inner-kind-here : TellsLeaf (kindIn d s) r → r ≡ false → InnerNumber (kindIn d s)
+    inner-kind-here t e = told-inner (kind-some (h .coded)) t e
 
   -- the card fits, said of what it is known to be
   fits-as : (c : Card) → h .card ≡ c → T (cardFits (columnsOf file) (h .levels) c)
   fits-as c e = subst (λ c. T (cardFits (columnsOf file) (h .levels) c)) e (h .fits)
 
   -- an entry without inner ones
-  module _ (k : rowKind All < kindIn d s) where
+  module _ (k : LeafNumber (kindIn d s)) where
     pub leaf-here : LeafPart d s (h .card)
     leaf-here = leaf-part (h .coded) k
 
@@ -222,12 +293,9 @@ module _ {d g file w : List ℕ} {s e depth : ℕ} (h : Runnable d g file w s e 
   abbrev pub is-or : Bool
   is-or = eqb (kindIn d s) (pairKind Or)
 
-  pub is-pair : kindIn d s < rowKind Some → kindIn d s ≡ pairKindFor is-or
-  is-pair two = pair-by (kindIn d s) some-kind two
-
   module _ (o : Bool) (k : kindIn d s ≡ pairKindFor o) where
     pub pair-here : PairParts d s e (h .card) (connectiveBy o)
-    pair-here = pair-of (h .coded) (connectiveBy o) (head-pair d s (connectiveBy o) k)
+    pair-here = pair-of (h .coded) (connectiveBy o) (pair-at d s (connectiveBy o, k))
 
     middle-is : pair-here .middle ≡ nextEndIn d s
     middle-is =
@@ -317,6 +385,9 @@ module _ {d g file w : List ℕ} {s e depth : ℕ} (h : Runnable d g file w s e 
         let l = table-there .1 in
         record { whole = h; kind = k; table-high = t .1; shallow = omega arith; inner = coded-less (row-here .inner-coded) }
 
+    pub inner-leaf : {r : Bool} → TellsLeaf (kindIn d (s + 1)) r → r ≡ true → LeafNumber (kindIn d (s + 1))
+    inner-leaf t e = told-leaf (kind-some (row-here .inner-coded)) t e
+
     -- a row of the table, after those that have passed
     module _ {place : Place} {r first : ℕ} {v : List ℕ} (below : r < place .rows) (passed : RowsPassed d g file w s e depth q place r first v) where
       row-below : r < rowsAt g (tableIn d s)
@@ -377,28 +448,34 @@ module _ {d g file w : List ℕ} {s e depth : ℕ} (h : Runnable d g file w s e 
           let past = rw (passed .is) at end in
           over-end saysBy q (rowsAt g (tableIn d s)) rowBy (λ r m. inner-says _ ∙ passed .each h r (omega arith)) ∙ rows-answer
 
--- two inner entries, where the left one has none of its own
-module _ {d g file w : List ℕ} {s e depth : ℕ} (h : Runnable d g file w s e depth) (two : kindIn d s < rowKind Some) where
+-- two inner entries, where the left one has none of its own, by what tells their kinds
+module _ {d g file w : List ℕ} {s e depth : ℕ} (h : Runnable d g file w s e depth) {r : Bool} (tells : TellsPair (kindIn d s) r) (yes : r ≡ true) where
+  pub is-two : kindIn d s ≡ pairKindFor (is-or h)
+  is-two = pair-by (told-pair (kind-some (h .coded)) tells yes)
+
   abbrev pub right-here : Runnable d g file w (nextEndIn d s) e depth
-  right-here = right-run h (is-or h) (is-pair h two)
+  right-here = right-run h (is-or h) is-two
 
   pub middle-here : (s + 1 < nextEndIn d s) × (nextEndIn d s < e)
-  middle-here = middle h (is-or h) (is-pair h two)
+  middle-here = middle h (is-or h) is-two
 
-  module _ (k : rowKind All < kindIn d (s + 1)) where
+  module _ {l : Bool} (tells-left : TellsLeaf (kindIn d (s + 1)) l) (yes-left : l ≡ true) where
+    pub test-kind : LeafNumber (kindIn d (s + 1))
+    test-kind = leaf-kind-here (left-run h (is-or h) is-two) tells-left yes-left
+
     abbrev pub test-ready : LeafReady d g file w (s + 1)
-    test-ready = leaf-ready (left-run h (is-or h) (is-pair h two)) k
+    test-ready = leaf-ready (left-run h (is-or h) is-two) test-kind
 
     module _ (a : Bool) (says : a ≡ leafSays (test-ready .env) (test-ready .leaf)) where
-      test-answer : a ≡ answer (tablesOf file) (h .env) (pair-here h (is-or h) (is-pair h two) .left)
-      test-answer = leaf-answer (left-run h (is-or h) (is-pair h two)) k a says
+      test-answer : a ≡ answer (tablesOf file) (h .env) (pair-here h (is-or h) is-two .left)
+      test-answer = leaf-answer (left-run h (is-or h) is-two) test-kind a says
 
       pub test-decides : Bool·beq a (is-or h) ≡ true → a ≡ answer (tablesOf file) (h .env) (h .card)
-      test-decides p = left-decides h (is-or h) (is-pair h two) a test-answer p
+      test-decides p = left-decides h (is-or h) is-two a test-answer p
 
-      pub test-passes : Bool·beq a (is-or h) ≡ false → (r : Bool) → r ≡ answer (tablesOf file) (h .env) (pair-here h (is-or h) (is-pair h two) .right)
+      pub test-passes : Bool·beq a (is-or h) ≡ false → (r : Bool) → r ≡ answer (tablesOf file) (h .env) (pair-here h (is-or h) is-two .right)
           → r ≡ answer (tablesOf file) (h .env) (h .card)
-      test-passes p r right = right-decides h (is-or h) (is-pair h two) a test-answer p r right
+      test-passes p r right = right-decides h (is-or h) is-two a test-answer p r right
 
 -- ---- the loop over a table's rows
 

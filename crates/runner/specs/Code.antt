@@ -3,16 +3,41 @@
 use mathlib.Core.Path.{_≡_}
 use mathlib.Core.Bool.{Bool, true, false}
 use mathlib.Core.List.{List}
+use mathlib.Core.Logic.{_⊎_}
 use mathlib.Core.Option.{some}
 use Prim.Native.Nat.{ℕ, _+_, _*_, _<_, _≤_}
 use lib.Dec.{T}
 use lib.ListN.{length}
 use Rattle.tables.specs.Tables.{mostTables, columnsOf, tablesOf}
-use Rattle.tables.specs.Values.{mostLevels, Connective, And, Or, Quantifier, Some, All, Env}
+use Rattle.tables.specs.Values.{mostLevels, Connective, And, Or, Quantifier, Some, All, MarkTest, Null, NotNull, Env}
 use Rattle.values.specs.Code.{Readable}
-use Rattle.card.specs.Card.{Leaf, Card, leafFits, cardFits, leafSays, answer}
-use Rattle.card.specs.Layout.{LeafHead, pairKind, rowKind}
-use Rattle.decoder.specs.Code.{entrySize, kindIn, nextEndIn, tableIn, headIn, Coded}
+use Rattle.card.specs.Card.{Interpretation, unknownSays, Leaf, Card, leafFits, cardFits, leafSays, answer}
+use Rattle.card.specs.Layout.{pairKind, rowKind, comparisonKind, markKind, LeafHead}
+use Rattle.card.specs.Groups.{PairNumber, RowNumber, ComparisonNumber, MarkNumber, InnerNumber, LeafNumber}
+use Rattle.decoder.specs.Code.{entrySize, kindIn, nextEndIn, tableIn, headAt, Coded}
+
+-- ---- kinds by their numbers
+
+-- the answer whether an entry of this kind has no inner ones, where there is such a kind; and whether it has two
+abbrev pub TellsLeaf : ℕ → Bool → Type 0
+TellsLeaf kind r = (LeafNumber kind → r ≡ true) × (InnerNumber kind → r ≡ false)
+
+abbrev pub TellsPair : ℕ → Bool → Type 0
+TellsPair kind r = (PairNumber kind → r ≡ true) × (RowNumber kind ⊎ LeafNumber kind → r ≡ false)
+
+-- of an entry without inner ones: whether it is a comparison; what unknown counts as, and whether a blank cell is asked for
+abbrev pub TellsComparison : ℕ → Bool → Type 0
+TellsComparison kind r = (ComparisonNumber kind → r ≡ true) × (MarkNumber kind → r ≡ false)
+
+abbrev pub TellsUnknown : ℕ → Bool → Type 0
+TellsUnknown kind r = (u : Interpretation) → kind ≡ comparisonKind u → r ≡ unknownSays u
+
+abbrev pub asksBlank : MarkTest → Bool
+asksBlank Null = true
+asksBlank NotNull = false
+
+abbrev pub TellsBlank : ℕ → Bool → Type 0
+TellsBlank kind r = (m : MarkTest) → kind ≡ markKind m → r ≡ asksBlank m
 
 -- ---- what running asks, and answers: for whatever levels, rows and card the numbers stand for
 
@@ -21,7 +46,7 @@ pub record LeafReady (d g file w : List ℕ) (s : ℕ) : Type 0 where
   pub env : Env
   pub leaf : Leaf
   pub readable : Readable g file w levels env
-  pub head : headIn d s ≡ some (LeafHead leaf)
+  pub head : headAt d s ≡ some (LeafHead leaf)
   pub room : entrySize * (s + 1) ≤ length d
   pub fits : T (leafFits (columnsOf file) levels leaf)
 

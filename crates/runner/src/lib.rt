@@ -2,17 +2,18 @@
 // Short names: d, the decoded entries; g, where the tables stand; s and e, an entry and the number after its inner ones; w, for each level the number
 // of its row's first cell, and depth, how many levels there are; q, what row entries answer where no row decides.
 ghost use mathlib.Core.Path.{_≡_};
-ghost use mathlib.Core.Bool.{true, false};
-ghost use Prim.Native.Nat.{_+_, _*_, _<_, _≤_};
-ghost use Rattle.tables.specs.Values.{All, comparisonOf, holds, byNumbers};
+ghost use Prim.Native.Nat.{_+_};
+ghost use Rattle.tables.specs.Values.{comparisonOf, holds, byNumbers};
 ghost use Rattle.cells.specs.Code.{seenCell};
-ghost use Rattle.card.specs.Layout.{rowKind};
+ghost use Rattle.card.specs.Groups.{ComparisonNumber, MarkNumber, InnerNumber, LeafNumber};
 ghost use Rattle.decoder.specs.Code.{kindIn};
-ghost use Rattle.runner.specs.Code.{LeafReady, LeafAnswers, Runnable, PairRunnable, RowsRunnable, Answers};
+ghost use Rattle.runner.specs.Code.{TellsLeaf, TellsPair, TellsComparison, TellsUnknown, TellsBlank, LeafReady, LeafAnswers, Runnable, PairRunnable, RowsRunnable, Answers};
 use card::AND_ENTRY;
 use card::BLANK;
+use card::COMPARISON_OR_NO;
 use card::COMPARISON_OR_YES;
 use card::EVERY_ROW;
+use card::NOT_BLANK;
 use card::OR_ENTRY;
 use card::SOME_ROW;
 use cells::PLACES;
@@ -27,6 +28,57 @@ use decoder::RIGHT_TAG;
 use decoder::TABLE;
 use values::LEVELS;
 
+// Whether the number of a kind is that of an entry without inner entries.
+fn is_leaf(kind: usize) -> bool
+    ensures { λ r. ⌜ TellsLeaf kind r ⌝ }
+{
+    EVERY_ROW < kind
+}
+
+// Whether it is that of an entry with two inner entries.
+fn is_pair(kind: usize) -> bool
+    ensures { λ r. ⌜ TellsPair kind r ⌝ }
+{
+    kind < SOME_ROW
+}
+
+// Whether the number of the kind of an entry without inner entries is that of a comparison.
+fn is_comparison(kind: usize) -> bool
+    ensures { λ r. ⌜ TellsComparison kind r ⌝ }
+{
+    kind < BLANK
+}
+
+// What unknown counts as in a comparison of this kind.
+fn unknown_says(kind: usize) -> bool
+    requires { ⌜ ComparisonNumber kind ⌝ }
+    ensures { λ r. ⌜ TellsUnknown kind r ⌝ }
+{
+    match kind {
+        COMPARISON_OR_NO => false,
+        COMPARISON_OR_YES => true,
+        _ => {
+            cells::never();
+            false
+        }
+    }
+}
+
+// Whether a test by the mark asks for a blank cell.
+fn asks_blank(kind: usize) -> bool
+    requires { ⌜ MarkNumber kind ⌝ }
+    ensures { λ r. ⌜ TellsBlank kind r ⌝ }
+{
+    match kind {
+        BLANK => true,
+        NOT_BLANK => false,
+        _ => {
+            cells::never();
+            false
+        }
+    }
+}
+
 // Whether two cells compare so; unknown is the answer where one of them is blank. The numbers are compared first: one branch is left.
 fn cells_hold(unknown: bool, op: usize, x: Seen, y: Seen) -> bool
     ensures { λ r. ⌜ r ≡ byNumbers unknown (holds (comparisonOf op)) (seenCell x) (seenCell y) ⌝ }
@@ -38,7 +90,8 @@ fn cells_hold(unknown: bool, op: usize, x: Seen, y: Seen) -> bool
     h
 }
 
-// What an entry without inner entries answers.
+// What an entry without inner entries answers. It is short enough to be compiled into each of its callers; arms that tell the kinds apart here, with the cells at
+// hand, would make it too long for that. Those of `unknown_says` and `asks_blank` give constants, and become one comparison each.
 fn run_leaf(d: &[usize], g: &[usize; PLACES], file: &[u8], s: usize, w: &[usize; LEVELS]) -> bool
     requires { ⌜ LeafReady (now d) (now g) (now file) (now w) s ⌝ }
     ensures { λ r. ⌜ LeafAnswers (now (d .entry)) (now (g .entry)) (now (file .entry)) (now (w .entry)) s r ⌝ }
@@ -51,7 +104,8 @@ fn run_leaf(d: &[usize], g: &[usize; PLACES], file: &[u8], s: usize, w: &[usize;
         d[FIELDS * s + LEFT_TAG],
         d[FIELDS * s + LEFT_NUMBER],
     );
-    if k < BLANK {
+    let compares = is_comparison(k);
+    if compares {
         let y = values::look(
             g,
             file,
@@ -59,12 +113,11 @@ fn run_leaf(d: &[usize], g: &[usize; PLACES], file: &[u8], s: usize, w: &[usize;
             d[FIELDS * s + RIGHT_TAG],
             d[FIELDS * s + RIGHT_NUMBER],
         );
-        return cells_hold(k == COMPARISON_OR_YES, d[FIELDS * s + COMPARISON], x, y);
+        let unknown = unknown_says(k);
+        return cells_hold(unknown, d[FIELDS * s + COMPARISON], x, y);
     }
-    if k == BLANK {
-        return x.blank;
-    }
-    !x.blank
+    let blank = asks_blank(k);
+    x.blank == blank
 }
 
 // What the entry s answers, which asks for some row of its table, or for every row, where its inner entry has no inner entries of its own: no
@@ -79,7 +132,7 @@ fn run_leaf_rows(
     depth: usize,
     q: bool,
 ) -> bool
-    requires { ⌜ RowsRunnable (now d) (now g) (now file) (now w) s e depth q ⌝ ∗ ⌜ rowKind All < kindIn (now d) (s + 1) ⌝ }
+    requires { ⌜ RowsRunnable (now d) (now g) (now file) (now w) s e depth q ⌝ ∗ ⌜ LeafNumber (kindIn (now d) (s + 1)) ⌝ }
     ensures { λ r. ⌜ Answers (now (d .entry)) (now (g .entry)) (now (file .entry)) (now (w .entry)) s e depth r ⌝ }
 {
     let table = cells::table_place(g, d[FIELDS * s + TABLE]);
@@ -111,7 +164,8 @@ pub fn run_entry(
     requires { ⌜ Runnable (now d) (now g) (now file) (now w) s e depth ⌝ }
     ensures { λ r. ⌜ Answers (now (d .entry)) (now (g .entry)) (now (file .entry)) (now (w .entry)) s e depth r ⌝ }
 {
-    if EVERY_ROW < d[FIELDS * s] {
+    let leaf = is_leaf(d[FIELDS * s]);
+    if leaf {
         return run_leaf(d, g, file, s, w);
     }
     run_inner(d, g, file, s, e, w, depth)
@@ -127,7 +181,7 @@ fn run_inner(
     w: &[usize; LEVELS],
     depth: usize,
 ) -> bool
-    requires { ⌜ Runnable (now d) (now g) (now file) (now w) s e depth ⌝ ∗ ⌜ kindIn (now d) s ≤ rowKind All ⌝ }
+    requires { ⌜ Runnable (now d) (now g) (now file) (now w) s e depth ⌝ ∗ ⌜ InnerNumber (kindIn (now d) s) ⌝ }
     ensures { λ r. ⌜ Answers (now (d .entry)) (now (g .entry)) (now (file .entry)) (now (w .entry)) s e depth r ⌝ }
 {
     let k = d[FIELDS * s];
@@ -135,7 +189,11 @@ fn run_inner(
         AND_ENTRY => run_pair(d, g, file, s, e, w, depth, false),
         OR_ENTRY => run_pair(d, g, file, s, e, w, depth, true),
         SOME_ROW => run_rows(d, g, file, s, e, w, depth, false),
-        _ => run_rows(d, g, file, s, e, w, depth, true),
+        EVERY_ROW => run_rows(d, g, file, s, e, w, depth, true),
+        _ => {
+            cells::never();
+            false
+        }
     }
 }
 
@@ -177,8 +235,10 @@ fn run_row(
     ensures { λ r. ⌜ Answers (now (d .entry)) (now (g .entry)) (now (file .entry)) (now (w .entry)) s e depth r ⌝ }
 {
     let k = d[FIELDS * s];
-    if k < SOME_ROW {
-        if EVERY_ROW < d[FIELDS * (s + 1)] {
+    let pair = is_pair(k);
+    if pair {
+        let leaf = is_leaf(d[FIELDS * (s + 1)]);
+        if leaf {
             let left = run_leaf(d, g, file, s + 1, w);
             if left == (k == OR_ENTRY) {
                 return left;
@@ -203,7 +263,8 @@ fn run_rows(
     requires { ⌜ RowsRunnable (now d) (now g) (now file) (now w) s e depth q ⌝ }
     ensures { λ r. ⌜ Answers (now (d .entry)) (now (g .entry)) (now (file .entry)) (now (w .entry)) s e depth r ⌝ }
 {
-    if EVERY_ROW < d[FIELDS * (s + 1)] {
+    let leaf = is_leaf(d[FIELDS * (s + 1)]);
+    if leaf {
         return run_leaf_rows(d, g, file, s, e, w, depth, q);
     }
     let table = cells::table_place(g, d[FIELDS * s + TABLE]);

@@ -1,4 +1,5 @@
 pub mod Looking
 pub mod Resolving
 pub mod Comparing
+pub mod Owning
 pub mod Scopes

@@ -1,18 +1,19 @@
 -- What the functions of src/ promise one another and their callers, in the terms of the code: bound letters as numbers. The contract of a public call
 -- cites nothing of this file.
 use mathlib.Core.Path.{_≡_}
-use mathlib.Core.Bool.{_||_, cond}
+use mathlib.Core.Bool.{cond}
 use mathlib.Core.List.{List, [], _∷_, _++_}
-use mathlib.Core.Option.{Option, none, some, Option·map}
+use mathlib.Core.Option.{Option, none, some}
 use Prim.Native.Nat.{ℕ, zero, suc, _+_, _*_, _<_, _≤_}
 use lib.Dec.{eqb, ltb}
 use lib.ListN.{length, getD, set, replicate}
+use Rattle.tables.specs.Lists.{numbered, _>>=_}
 use Rattle.tables.specs.Tables.{tableCount}
-use Rattle.tables.specs.Values.{mostLevels, constantTag, Value}
+use Rattle.tables.specs.Values.{mostLevels, constantTag, Value, unusedValue}
 use Rattle.cells.specs.Code.{toExcess}
-use Rattle.rule.specs.Condition.{WrittenValue}
+use Rattle.rule.specs.Condition.{Not, WrittenValue}
 use Rattle.rule.specs.Names.{judgedTable, judgedLetter, Binding, Scope, nearest}
-use Rattle.rule.specs.Parts.{nullKind, notNullKind, existsKind, taggedOf, naturalOf}
+use Rattle.rule.specs.Parts.{UnaryKind, kinds, uses, taggedOf, naturalOf}
 use Rattle.rule.specs.declared.TaggedValue.{TaggedValue}
 use Rattle.phrases.specs.Code.{writtenOf}
 use Rattle.grammar.specs.Code.{noteLeftLetter, noteRightLetter}
@@ -99,19 +100,17 @@ rightWritten notes b = writtenAt notes (b + noteRightLetter)
 
 -- the numbers of a part with two values: its kind, comparison, table and end, and its values; or one of them means nothing
 abbrev pub comparedNumbers : ℕ → ℕ → ℕ → ℕ → Option Value → Option Value → Option (List ℕ)
-comparedNumbers kind op t e (some v) (some w) = some (kind ∷ op ∷ t ∷ e ∷ (valueNumbers v ++ valueNumbers w))
-comparedNumbers kind op t e (some v) none = none
-comparedNumbers kind op t e none w = none
+comparedNumbers kind op t e v w = v >>= (λ x. w >>= (λ y. some (kind ∷ op ∷ t ∷ e ∷ (valueNumbers x ++ valueNumbers y))))
 
 -- the same of IS NULL and IS NOT NULL, which have a left value alone
 abbrev pub nullNumbers : ℕ → ℕ → Option Value → Option (List ℕ)
-nullNumbers kind e v = Option·map (λ x. kind ∷ 0 ∷ 0 ∷ e ∷ (valueNumbers x ++ (0 ∷ 0 ∷ []))) v
+nullNumbers kind e v = v >>= (λ x. some (kind ∷ 0 ∷ 0 ∷ e ∷ (valueNumbers x ++ (0 ∷ 0 ∷ []))))
 
--- and of any part but AND, OR and NOT: EXISTS has no values
+-- and of any part: what its kind does not use is 0, and only a value that it uses has to mean something
 abbrev pub ownPartNumbers : ℕ → ℕ → ℕ → ℕ → Option Value → Option Value → Option (List ℕ)
 ownPartNumbers kind op t e v w =
-    cond (eqb kind existsKind) (some (kind ∷ 0 ∷ t ∷ e ∷ 0 ∷ 0 ∷ 0 ∷ 0 ∷ []))
-    (cond (eqb kind nullKind || eqb kind notNullKind) (nullNumbers kind e v) (comparedNumbers kind op t e v w))
+    let used = uses (numbered kinds kind (UnaryKind Not)) in
+    comparedNumbers kind (cond (used .comparison) op 0) (cond (used .table) t 0) e (cond (used .left) v (some unusedValue)) (cond (used .right) w (some unusedValue))
 
 -- what it came to
 abbrev pub comparedAs : Compared → Option (List ℕ)

@@ -8,18 +8,21 @@ ghost use Rattle.tables.specs.Tables.{columnsOf};
 ghost use Rattle.tables.specs.Values.{mostLevels};
 ghost use Rattle.cells.specs.Code.{fromExcess, Sized};
 ghost use Rattle.rule.specs.Names.{existing, valueIn};
+ghost use Rattle.rule.specs.Groups.{TestNumber, FromNumber};
 ghost use Rattle.phrases.specs.Code.{writtenOf};
 ghost use Rattle.grammar.specs.Code.{noteSize, noteComparison};
-ghost use Rattle.rule.specs.Parts.{notNullKind, existsKind};
 ghost use Rattle.scopes.specs.Code.{scopeSize, existingAs, scopeIn, binding, outerScope, NearestAt, ScopeFits, valueNumbers, resolvedAs, writtenAt, leftWritten, rightWritten, partFields, plainPartNumbers, comparedNumbers, nullNumbers, ownPartNumbers, comparedAs};
 use cells::EXCESS;
 use grammar::MOST_FROMS;
 use grammar::NOTE_COMPARISON;
 use grammar::NOTE_LEFT_LETTER;
 use grammar::NOTE_RIGHT_LETTER;
+use rule::ALL_PART;
+use rule::COMPARISON_PART;
 use rule::EXISTS_PART;
 use rule::NOT_NULL_PART;
 use rule::NULL_PART;
+use rule::SOME_PART;
 use values::CONSTANT;
 
 // The judged row's letter and those of the FROMs around a part: a letter and a table for each.
@@ -221,14 +224,18 @@ pub fn test_part(
     levels: usize,
     e: usize,
 ) -> Compared
-    requires { ⌜ Sized (now file) ⌝ ∗ ⌜ b + noteSize ≤ length (now notes) ⌝ ∗ ⌜ ScopeFits (now file) (now scope) levels ⌝ ∗ ⌜ getD (now notes) b 0 ≤ notNullKind ⌝ }
+    requires { ⌜ Sized (now file) ⌝ ∗ ⌜ b + noteSize ≤ length (now notes) ⌝ ∗ ⌜ ScopeFits (now file) (now scope) levels ⌝ ∗ ⌜ TestNumber (getD (now notes) b 0) ⌝ }
     ensures { λ r. ⌜ comparedAs r ≡ ownPartNumbers (getD (now (notes .entry)) b 0) (getD (now (notes .entry)) (b + noteComparison) 0) 0 e (valueIn (columnsOf (now (file .entry))) (scopeIn (now (scope .entry)) levels) (leftWritten (now (notes .entry)) b)) (valueIn (columnsOf (now (file .entry))) (scopeIn (now (scope .entry)) levels) (rightWritten (now (notes .entry)) b)) ⌝ }
 {
     let kind = notes[b];
-    if kind == NULL_PART || kind == NOT_NULL_PART {
-        return null_part(file, notes, b, scope, levels, e);
+    match kind {
+        COMPARISON_PART => compared_part(file, notes, b, scope, levels, levels, 0, e),
+        NULL_PART | NOT_NULL_PART => null_part(file, notes, b, scope, levels, e),
+        _ => {
+            cells::never();
+            Compared::NoValues
+        }
     }
-    compared_part(file, notes, b, scope, levels, levels, 0, e)
 }
 
 // The part with a FROM that is noted from element b on: that of EXISTS has no values.
@@ -242,24 +249,32 @@ pub fn from_part(
     table: usize,
     e: usize,
 ) -> Compared
-    requires { ⌜ Sized (now file) ⌝ ∗ ⌜ b + noteSize ≤ length (now notes) ⌝ ∗ ⌜ ScopeFits (now file) (now scope) «right_levels» ⌝ ∗ ⌜ «left_levels» ≤ «right_levels» ⌝ ∗ ⌜ existsKind ≤ getD (now notes) b 0 ⌝ }
+    requires { ⌜ Sized (now file) ⌝ ∗ ⌜ b + noteSize ≤ length (now notes) ⌝ ∗ ⌜ ScopeFits (now file) (now scope) «right_levels» ⌝ ∗ ⌜ «left_levels» ≤ «right_levels» ⌝ ∗ ⌜ FromNumber (getD (now notes) b 0) ⌝ }
     ensures { λ r. ⌜ comparedAs r ≡ ownPartNumbers (getD (now (notes .entry)) b 0) (getD (now (notes .entry)) (b + noteComparison) 0) table e (valueIn (columnsOf (now (file .entry))) (scopeIn (now (scope .entry)) «left_levels») (leftWritten (now (notes .entry)) b)) (valueIn (columnsOf (now (file .entry))) (scopeIn (now (scope .entry)) «right_levels») (rightWritten (now (notes .entry)) b)) ⌝ }
 {
     let kind = notes[b];
-    if kind != EXISTS_PART {
-        return compared_part(file, notes, b, scope, left_levels, right_levels, table, e);
+    match kind {
+        EXISTS_PART => {
+            let part = Fields {
+                kind,
+                comparison: 0,
+                table,
+                end: e,
+                left_tag: 0,
+                left_number: 0,
+                right_tag: 0,
+                right_number: 0,
+            };
+            Compared::Part(part)
+        }
+        SOME_PART | ALL_PART => {
+            compared_part(file, notes, b, scope, left_levels, right_levels, table, e)
+        }
+        _ => {
+            cells::never();
+            Compared::NoValues
+        }
     }
-    let part = Fields {
-        kind,
-        comparison: 0,
-        table,
-        end: e,
-        left_tag: 0,
-        left_number: 0,
-        right_tag: 0,
-        right_number: 0,
-    };
-    Compared::Part(part)
 }
 
 // A part that says no more than its kind.

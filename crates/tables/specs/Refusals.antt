@@ -1,7 +1,8 @@
 -- Document 01, 'Gate says why not', the sentences under the table: which of the refusals that apply is given, and what a buffer holds after a
 -- success. That a refusal leaves every buffer as it was is the product's first demand.
--- A call lists its refusals in the order in which they are tried, and the first that applies is given. The numbers of that list are the call's published order
--- (`readOrder` and the like, in Calls.antt of rule, translation and card). Where they rise, that is 'the lowest applying number' (LowestClaim).
+-- A call lists its refusals in the order in which they are tried, and the first that applies is given. The numbers of the list of each of the six calls
+-- are its published order (`readOrder` and the like, in Calls.antt of rule, translation and card). Where they rise, that is 'the lowest applying
+-- number' (LowestClaim).
 use mathlib.Core.Bool.{Bool, true, false, not}
 use mathlib.Core.List.{List, [], _∷_, _++_, map}
 use mathlib.Core.Option.{Option, none, some}

@@ -47,6 +47,21 @@ pub data Connective : Type 0 where
 pub data Quantifier : Type 0 where
   Some All : Quantifier
 
+-- what is asked of a cell's mark: IS NULL in a rule and blank in a card, IS NOT NULL and not blank
+pub data MarkTest : Type 0 where
+  Null NotNull : MarkTest
+
+-- which fields a kind uses, of those that a part and an entry both have besides kind and end; what it does not use is 0
+pub record Uses : Type 0 where
+  pub table : Bool
+  pub comparison : Bool
+  pub left : Bool
+  pub right : Bool
+
+-- a value that a kind does not use has the tag 0 and the number 0
+abbrev pub unusedValue : Value
+unusedValue = Column 0 0
+
 -- ---- comparing two numbers
 
 abbrev pub eqZ : ℤ → ℤ → Bool
@@ -97,6 +112,11 @@ byNumbers blank compare (Present x) (Present y) = compare x y
 abbrev pub isBlank : Cell → Bool
 isBlank Blank = true
 isBlank (Present x) = false
+
+-- whether a cell's mark is as it is asked for
+abbrev pub markPasses : MarkTest → Cell → Bool
+markPasses Null x = isBlank x
+markPasses NotNull x = not (isBlank x)
 
 -- ---- what a value names exists
 

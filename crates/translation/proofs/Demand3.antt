@@ -29,11 +29,12 @@ use Rattle.rule.specs.Meaning.{judged}
 use Rattle.rule.specs.Calls.{readingRefusals, Accepted, withRule, trueAt, trueRows}
 use Rattle.rule.specs.Claims.{AcceptedAs}
 use Rattle.rule.proofs.Accepted.{accepted-allowed, parts-claim}
+use Rattle.rule.proofs.Sum.{sum-few}
 use Rattle.translation.specs.Translation.{ruleCard}
 use Rattle.translation.specs.Calls.{ruleBytes, cardCall}
 use Rattle.translation.specs.Claims.{CardRefusedClaim, Demand3Claim}
 use Rattle.translation.specs.Demand3.{Later, publishedLength, SoundFor, CardClaim, RunClaim, ListClaim}
-use Rattle.translation.proofs.Sums.{few-lists, card-sum, sum-is, sum-claim}
+use Rattle.translation.proofs.Sums.{card-sum, sum-claim}
 use Rattle.translation.proofs.Says.{translation-claim}
 use Rattle.translation.proofs.Fits.{card-fits}
 
@@ -47,12 +48,12 @@ some-entries (RowEntry q t c) = omega arith
 few-entries : (r : Rule) → parts r ≤ mostParts → T (between 1 mostEntries (entries (ruleCard r)))
 few-entries r h =
     let n = entries (ruleCard r) in
-    let most : n ≤ mostEntries = omega (arith, card-sum AsNo r, few-lists r) in
+    let most : n ≤ mostEntries = omega (arith, card-sum AsNo r, sum-few r) in
     and-i (leb 1 n) (leb n mostEntries) (le→leb 1 n (some-entries (ruleCard r))) (le→leb n mostEntries most)
 
 -- no rule's card is longer than the longest
 pub card-bytes-few : (file : List ℕ) (r : Rule) → tableCount file ≤ mostTables → parts r ≤ mostParts → publishedLength file r ≤ mostCardBytes
-card-bytes-few file r tables few = omega (arith, few-lists r, sum-is r)
+card-bytes-few file r tables few = omega (arith, sum-few r)
 
 module _ (text file : List ℕ) (accepted : Accepted text file) where
   abbrev accepted-as : AcceptedAs text file

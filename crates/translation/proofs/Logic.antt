@@ -4,7 +4,6 @@ use mathlib.Core.Bool.{Bool, true, false, not, _&&_, _||_}
 use mathlib.Core.List.{List, [], _∷_, map}
 use lib.Dec.{T}
 use Rattle.tables.specs.Lists.{any, all, put, keep}
-use Rattle.tables.specs.Tables.{Row}
 use Rattle.tables.specs.Values.{Connective, And, Or, Quantifier, Some, All}
 use Rattle.card.specs.Card.{Interpretation, AsNo, AsYes, unknownSays, joined, overRows}
 use Rattle.rule.specs.Meaning.{Truth, False, Unknown, True, truth, isTrue, isFalse, not3, and3, or3, join3, over3}
@@ -85,7 +84,7 @@ pub not-joined : (j : Connective) (a b : Bool) → not (joined j a b) ≡ joined
 not-joined And a b = not-and a b
 not-joined Or a b = not-or a b
 
-pub not-over : (q : Quantifier) (p : Row → Bool) (rows : List Row) → not (overRows q p rows) ≡ overRows (otherQuantifier q) (λ row. not (p row)) rows
+pub not-over : {A : Type 0} (q : Quantifier) (p : A → Bool) (rows : List A) → not (overRows q p rows) ≡ overRows (otherQuantifier q) (λ row. not (p row)) rows
 not-over Some p rows = not-any p rows
 not-over All p rows = not-all p rows
 

@@ -1,22 +1,23 @@
 -- The translation theorem: the card of a rule says what the rule means, in both interpretations, for every rule, tables and rows.
-use mathlib.Core.Path.{_≡_, refl, sym, ap}
-use mathlib.Core.Bool.{not, Bool·not-not}
-use mathlib.Core.List.{[], _∷_}
-use Prim.Native.Nat.{ℕ, suc}
+use mathlib.Core.Path.{_≡_, refl, sym, ap, fun-ext, _∙_}
+use mathlib.Core.Bool.{Bool, not, _&&_, _||_, Bool·not-not}
+use mathlib.Core.List.{List, [], _∷_, map}
+use Prim.Native.Nat.{ℕ, _+_}
 use native.Mathlib.Omega.{arith}
 use lib.Arith.{le→nltb}
 use lib.Dec.{leb, ltb, leb→le, nltb→le, le→leb}
 use lib.IntN.{ℤ, pos, negsuc}
 use lib.ListN.{length, length-append, List·getD-append}
 use lib.Signed.{ltZ, leZ}
-use Rattle.tables.specs.Tables.{Cell, Blank, Present, Row, Tables}
+use Rattle.tables.specs.Lists.{any, all}
+use Rattle.tables.specs.Tables.{Cell, Blank, Present, Row, Tables, rowsOf}
 use Rattle.tables.proofs.Rows.{any-kept}
-use Rattle.tables.specs.Values.{Value, Constant, Column, Comparison, Eq, Ne, Lt, Le, Gt, Ge, holds, Quantifier, Some, All, Env, _▸_, cellOf}
-use Rattle.card.specs.Card.{Interpretation, AsNo, AsYes, unknownSays, Leaf, CompareLeaf, BlankLeaf, NotBlankLeaf, Card, LeafEntry, PairEntry, RowEntry, compares, leafSays, answer}
-use Rattle.rule.specs.Condition.{Test, Compare, IsNull, IsNotNull, Atom, Join, Not, Exists, Listed, Rule}
+use Rattle.tables.specs.Values.{Value, Constant, Column, Comparison, Eq, Ne, Lt, Le, Gt, Ge, holds, And, Or, Quantifier, Some, All, MarkTest, Null, NotNull, Env, _▸_, cellOf, markPasses}
+use Rattle.card.specs.Card.{Interpretation, AsNo, AsYes, unknownSays, Leaf, CompareLeaf, MarkLeaf, Card, LeafEntry, PairEntry, RowEntry, compares, leafSays, overRows, answer}
+use Rattle.rule.specs.Condition.{Test, Compare, Mark, Unary, Not, From, Single, Atom, Join, Apply, Exists, Listed, Rule, letters}
 use Rattle.rule.specs.Names.{ValueScoped, Scoped}
-use Rattle.rule.specs.Meaning.{compare3, test3, meaning}
-use Rattle.translation.specs.Translation.{other, otherComparison, otherLeaf, negated, leafOf, cardOf}
+use Rattle.rule.specs.Meaning.{Truth, isTrue, unary3, compare3, test3, ranged, meaning}
+use Rattle.translation.specs.Translation.{other, otherComparison, otherMark, otherLeaf, negated, leafOf, rowsCard, unaryCard, cardOf}
 use Rattle.translation.specs.Claims.{TranslationClaim}
 use Rattle.translation.proofs.Logic.{says, same-test, not-joined, not-over, says-join, says-not, says-truth, isTrue-says, isFalse-says, says-some, says-all}
 
@@ -56,10 +57,13 @@ compares-says i op (Present x) (Present y) = sym (says-truth i (holds op x y))
 
 -- ---- negating
 
+mark-other : (m : MarkTest) (x : Cell) → markPasses (otherMark m) x ≡ not (markPasses m x)
+mark-other Null x = refl
+mark-other NotNull x = simp Bool·not-not
+
 leaf-other : (env : Env) (x : Leaf) → leafSays env (otherLeaf x) ≡ not (leafSays env x)
 leaf-other env (CompareLeaf i op l r) = compares-other i op (cellOf env l) (cellOf env r)
-leaf-other env (BlankLeaf l) = refl
-leaf-other env (NotBlankLeaf l) = simp Bool·not-not
+leaf-other env (MarkLeaf m l) = mark-other m (cellOf env l)
 
 -- negating a card negates its answer
 pub negated-not : (ts : Tables) (c : Card) (env : Env) → answer ts env (negated c) ≡ not (answer ts env c)
@@ -72,40 +76,80 @@ negated-not ts (RowEntry q t c) env = simp (negated-not ts c, not-over)
 
 leaf-says : (env : Env) (i : Interpretation) (x : Test Value) → leafSays env (leafOf i x) ≡ says i (test3 env x)
 leaf-says env i (Compare op l r) = compares-says i op (cellOf env l) (cellOf env r)
-leaf-says env i (IsNull l) = simp says-truth
-leaf-says env i (IsNotNull l) = simp says-truth
+leaf-says env i (Mark m l) = simp says-truth
 
--- a value that belongs outside a row is the same inside
-outside : (v : Value) (env : Env) (row : Row) → ValueScoped (length env) v → cellOf (env ▸ row) v ≡ cellOf env v
-outside (Constant k) env row s = refl
-outside (Column l c) env row s = rw (List·getD-append env (row ∷ []) [] l s)
+-- what is said of one condition, whose card says what it means in both interpretations
+unary-says : (ts : Tables) (env : Env) (u : Unary) (i : Interpretation) (c : Interpretation → Card) (v : Truth)
+    → ((i : Interpretation) → answer ts env (c i) ≡ says i v) → answer ts env (unaryCard u i c) ≡ says i (unary3 u v)
+unary-says ts env Not i c v inner = simp (negated-not, says-not, inner (other i))
 
-deeper : (env : Env) (row : Row) → length (env ▸ row) ≡ suc (length env)
-deeper env row = simp length-append (omega arith)
+-- ---- what a FROM ranges over
+
+-- a row that a FROM puts at its levels: what belongs outside is the same inside
+record Inside (env : Env) (f : From ℕ) (row : Env) : Type 0 where
+  deeper : length row ≡ letters f + length env
+  outside : (v : Value) → ValueScoped (length env) v → cellOf row v ≡ cellOf env v
+
+one-inside : (env : Env) (t : ℕ) (row : Row) → Inside env (Single t) (env ▸ row)
+one-inside env t row = record { deeper = simp length-append (omega arith); outside = same }
+  where
+    same : (v : Value) → ValueScoped (length env) v → cellOf (env ▸ row) v ≡ cellOf env v
+    same (Constant k) s = refl
+    same (Column l c) s = rw (List·getD-append env (row ∷ []) [] l s)
+
+any-map : {A B : Type 0} (p : B → Bool) (g : A → B) (xs : List A) → any p (map g xs) ≡ any (λ x. p (g x)) xs
+any-map p g [] = refl
+any-map p g (x ∷ xs) = ap (p (g x) ||_) (any-map p g xs)
+
+all-map : {A B : Type 0} (p : B → Bool) (g : A → B) (xs : List A) → all p (map g xs) ≡ all (λ x. p (g x)) xs
+all-map p g [] = refl
+all-map p g (x ∷ xs) = ap (p (g x) &&_) (all-map p g xs)
+
+over-map : {A B : Type 0} (q : Quantifier) (p : B → Bool) (g : A → B) (xs : List A) → overRows q p (map g xs) ≡ overRows q (λ x. p (g x)) xs
+over-map Some p g xs = any-map p g xs
+over-map All p g xs = all-map p g xs
+
+module _ (ts : Tables) (env : Env) where
+  -- the row entries of a FROM ask over what it ranges over
+  rows-say : (q : Quantifier) (f : From ℕ) (c : Card) → answer ts env (rowsCard q f c) ≡ overRows q (λ row. answer ts row c) (ranged ts env f)
+  unfolding answer
+  rows-say q (Single t) c = sym (over-map q (λ row. answer ts row c) (λ row. env ▸ row) (rowsOf ts t))
+
+  -- two tests that agree on these rows
+  over-same : (q : Quantifier) (f : From ℕ) (p p′ : Env → Bool) → ((row : Env) → Inside env f row → p row ≡ p′ row)
+      → overRows q p (ranged ts env f) ≡ overRows q p′ (ranged ts env f)
+  over-same q (Single t) p p′ h =
+      over-map q p (λ row. env ▸ row) (rowsOf ts t)
+      ∙ ap (λ (g : Row → Bool). overRows q g (rowsOf ts t)) (fun-ext (λ row. h (env ▸ row) (one-inside env t row)))
+      ∙ sym (over-map q p′ (λ row. env ▸ row) (rowsOf ts t))
 
 -- theorems 1 and 2 of document 003, for a WHERE whose card says what it means
-listed-says : (ts : Tables) (q : Quantifier) (op : Comparison) (l s : Value) (t : ℕ) (w : Rule) (i : Interpretation) (env : Env)
+listed-says : (ts : Tables) (q : Quantifier) (op : Comparison) (l s : Value) (f : From ℕ) (w : Rule) (i : Interpretation) (env : Env)
     → ValueScoped (length env) l
-    → ((row : Row) → answer ts (env ▸ row) (cardOf AsNo w) ≡ says AsNo (meaning ts (env ▸ row) w))
-    → answer ts env (cardOf i (Listed q op l s t w)) ≡ says i (meaning ts env (Listed q op l s t w))
+    → ((row : Env) → Inside env f row → answer ts row (cardOf AsNo w) ≡ says AsNo (meaning ts row w))
+    → answer ts env (cardOf i (Listed q op l s f w)) ≡ says i (meaning ts env (Listed q op l s f w))
 unfolding answer meaning cardOf
-listed-says ts Some op l s t w i env scoped inner =
-    let left : (row : Row) → cellOf (env ▸ row) l ≡ cellOf env l = λ row. outside l env row scoped in
-    simp (says-some, isTrue-says, inner, compares-says, left)
-listed-says ts All op l s t w i env scoped inner =
-    let left : (row : Row) → cellOf (env ▸ row) l ≡ cellOf env l = λ row. outside l env row scoped in
-    simp (says-all, isTrue-says, negated-not, inner, compares-says, left)
+listed-says ts Some op l s f w i env scoped inner =
+    rows-say ts env Some f (PairEntry And (cardOf AsNo w) (LeafEntry (CompareLeaf i op l s)))
+    ∙ over-same ts env Some f _ (λ row. isTrue (meaning ts row w) && says i (compare3 op (cellOf env l) (cellOf row s))) (λ row h. simp (inner row h, isTrue-says, compares-says, h .outside l scoped))
+    ∙ sym (says-some i (λ row. isTrue (meaning ts row w)) (λ row. compare3 op (cellOf env l) (cellOf row s)) (ranged ts env f))
+listed-says ts All op l s f w i env scoped inner =
+    rows-say ts env All f (PairEntry Or (negated (cardOf AsNo w)) (LeafEntry (CompareLeaf i op l s)))
+    ∙ over-same ts env All f _ (λ row. not (isTrue (meaning ts row w)) || says i (compare3 op (cellOf env l) (cellOf row s))) (λ row h. simp (negated-not, inner row h, isTrue-says, compares-says, h .outside l scoped))
+    ∙ sym (says-all i (λ row. isTrue (meaning ts row w)) (λ row. compare3 op (cellOf env l) (cellOf row s)) (ranged ts env f))
 
 module _ (ts : Tables) where
   pub card-says : (r : Rule) (i : Interpretation) (env : Env) → Scoped (length env) r → answer ts env (cardOf i r) ≡ says i (meaning ts env r)
   unfolding answer cardOf meaning Scoped
   card-says (Atom x) i env s = leaf-says env i x
   card-says (Join j a b) i env s = simp (says-join, card-says a i env (s .0), card-says b i env (s .1))
-  card-says (Not a) i env s = simp (negated-not, says-not, card-says a (other i) env s)
-  card-says (Exists t w) i env s =
-      let inner : (row : Row) → answer ts (env ▸ row) (cardOf AsNo w) ≡ says AsNo (meaning ts (env ▸ row) w) = λ row. card-says w AsNo (env ▸ row) (rw deeper s) in
-      simp (says-truth, ← any-kept, isTrue-says, inner)
-  card-says (Listed q op l x t w) i env s = listed-says ts q op l x t w i env (s .0) (λ row. card-says w AsNo (env ▸ row) (rw deeper (s .2)))
+  card-says (Apply u a) i env s = unary-says ts env u i (λ i′. cardOf i′ a) (meaning ts env a) (λ i′. card-says a i′ env s)
+  card-says (Exists f w) i env s =
+      rows-say ts env Some f (cardOf AsNo w)
+      ∙ over-same ts env Some f _ (λ row. isTrue (meaning ts row w)) (λ row h. simp isTrue-says (card-says w AsNo row (rw (h .deeper) s)))
+      ∙ any-kept (λ row. isTrue (meaning ts row w)) (ranged ts env f)
+      ∙ sym (says-truth i _)
+  card-says (Listed q op l x f w) i env s = listed-says ts q op l x f w i env (s .0) (λ row h. card-says w AsNo row (rw (h .deeper) (s .2)))
 
 pub translation-claim : TranslationClaim
 translation-claim = record {

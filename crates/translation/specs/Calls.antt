@@ -16,7 +16,7 @@ ruleBytes file r = cardBytes (columnsOf file) (ruleCard r)
 unfoldable pub cardCall : List ℕ → List ℕ → List ℕ → Lent ℕ
 cardCall text file buffer = lend (readingRefusals text file) (withRule (ruleOf text (columnsOf file)) [] (ruleBytes file)) buffer
 
--- the published order of CARD's refusals: where several apply, the first in this list is given. Document 01 says 'the lowest applying number is given', and its
--- rows stand in the order of their numbers: the list rises
+-- the order of CARD's refusals, by their numbers: where several apply, the first in this list is given. By document 01 it is 'the lowest applying
+-- number', so the list rises
 abbrev pub cardOrder : List ℕ
 cardOrder = 1 ∷ 2 ∷ 3 ∷ 4 ∷ 5 ∷ 6 ∷ 7 ∷ 8 ∷ 12 ∷ []

@@ -7,10 +7,9 @@ use Rattle.tables.specs.Bytes.{bytes32}
 use Rattle.tables.specs.Refusals.{Answer, Refused, Given}
 use Rattle.card.specs.Calls.{checkCall, runCall}
 use Rattle.rule.specs.Tokens.{bytes}
-use Rattle.rule.specs.Parts.{partWith, unused}
 use Rattle.rule.specs.Calls.{readCall, judgeCall}
 use Rattle.card.specs.Cases.{workedCard}
-use Rattle.rule.specs.Cases.{caseTables, chained}
+use Rattle.rule.specs.Cases.{caseTables, chained, unused, partBy}
 use Rattle.translation.specs.Calls.{cardCall}
 
 -- ---- the text and the tables of the worked card
@@ -82,7 +81,7 @@ threeRows = (1 ∷ 2 ∷ 3 ∷ 0 ∷ []) ++ replicate 30 0
 
 -- READ with room for 64 parts
 unfoldable pub readRefusal : List ℕ → List ℕ → Option ℕ
-readRefusal text file = refusalOf (readCall text file (replicate 64 (partWith 0 0 0 0 unused unused)) .result)
+readRefusal text file = refusalOf (readCall text file (replicate 64 (partBy 0 0 0 0 unused unused)) .result)
 
 -- the examples of the table, in its order; 6 has two
 unfoldable pub refusalExamples : List (Option ℕ)

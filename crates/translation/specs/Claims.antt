@@ -18,9 +18,10 @@ use Rattle.rule.specs.Cases.{caseTables}
 use Rattle.rule.specs.Condition.{Rule}
 use Rattle.rule.specs.declared.Part.{Part}
 use Rattle.rule.specs.Names.{mostParts, Scoped}
+use Rattle.rule.specs.Sum.{entrySum}
 use Rattle.rule.specs.Calls.{readingRefusals, Accepted, readCall, judgeCall, readOrder, judgeOrder, admitCall}
 use Rattle.rule.specs.Meaning.{isTrue, isFalse, meaning}
-use Rattle.translation.specs.Translation.{negated, cardOf, ruleCard, entrySum}
+use Rattle.translation.specs.Translation.{negated, cardOf, ruleCard}
 use Rattle.translation.specs.Calls.{cardCall, cardOrder}
 use Rattle.translation.specs.Demand3.{Later, Demand3For}
 use Rattle.translation.specs.Cases.{workedText, workedTables, fullText, fullCard, laterTables, thirdCard, refusalExamples, refusalNumbers}
@@ -32,7 +33,7 @@ pub record TranslationClaim : Type 0 where
   pub no-is-false : (ts : Tables) (env : Env) (r : Rule) → Scoped (length env) r → not (answer ts env (cardOf AsYes r)) ≡ isFalse (meaning ts env r)
   pub negates : (ts : Tables) (env : Env) (c : Card) → answer ts env (negated c) ≡ not (answer ts env c)
 
--- the number of a card's entries is the sum that the section Card publishes
+-- the number of a card's entries is what the rule's own definitions count, which is the published sum (PublishedSumClaim of the crate rule)
 abbrev pub SumClaim : Type 0
 SumClaim = (r : Rule) → entries (ruleCard r) ≡ entrySum r
 

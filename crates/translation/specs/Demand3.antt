@@ -11,8 +11,8 @@ use Rattle.tables.specs.Refusals.{Refused, Given, firstApplying, tablesRefusals
 use Rattle.card.specs.Layout.{tablesIn, columnsIn, cardLength}
 use Rattle.card.specs.Calls.{checkCall, runCall, listCall}
 use Rattle.rule.specs.Condition.{Rule}
+use Rattle.rule.specs.Sum.{entrySum}
 use Rattle.rule.specs.Calls.{ruleOf, trueAt, trueRows}
-use Rattle.translation.specs.Translation.{entrySum}
 use Rattle.translation.specs.Calls.{ruleBytes, cardCall}
 
 -- tables that come later: no refusal 1 or 2, and the columns of the file that the rule was accepted with; rows, values and marks are free
@@ -20,7 +20,7 @@ pub record Later (file later : List ℕ) : Type 0 where
   pub no-refusal : firstApplying (tablesRefusals later) ≡ none
   pub same-columns : sameColumns file later ≡ true
 
--- how many bytes the rule's card takes: 3 + T + 15n
+-- how many bytes the rule's card takes: 3 + T + 15n, where n is the published sum (PublishedSumClaim of the crate rule)
 abbrev pub publishedLength : List ℕ → Rule → ℕ
 publishedLength file r = cardLength (tableCount file) (entrySum r)
 

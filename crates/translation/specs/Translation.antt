@@ -1,14 +1,8 @@
--- Document 01, Card: the card of a rule, in its two interpretations, and the length sum.
-use mathlib.Core.Bool.{cond}
-use mathlib.Core.List.{List, [], _∷_}
-use Prim.Native.Nat.{ℕ, _+_, _-_, _*_}
-use lib.Dec.{eqb}
-use lib.ListN.{length}
-use Rattle.tables.specs.Values.{Comparison, Eq, Ne, Lt, Le, Gt, Ge, Value, Connective, And, Or, Quantifier, Some, All}
-use Rattle.card.specs.Card.{Interpretation, AsNo, AsYes, Leaf, CompareLeaf, BlankLeaf, NotBlankLeaf, Card, LeafEntry, PairEntry, RowEntry}
-use Rattle.rule.specs.declared.Part.{Part}
-use Rattle.rule.specs.Condition.{Test, Compare, IsNull, IsNotNull, Atom, Join, Not, Exists, Listed, Rule}
-use Rattle.rule.specs.Parts.{notKind, listKind, partsOf}
+-- Document 01, Card: the card of a rule, in its two interpretations.
+use Prim.Native.Nat.{ℕ}
+use Rattle.tables.specs.Values.{Comparison, Eq, Ne, Lt, Le, Gt, Ge, Value, Connective, And, Or, Quantifier, Some, All, MarkTest, Null, NotNull}
+use Rattle.card.specs.Card.{Interpretation, AsNo, AsYes, Leaf, CompareLeaf, MarkLeaf, Card, LeafEntry, PairEntry, RowEntry}
+use Rattle.rule.specs.Condition.{Test, Compare, Mark, Unary, Not, From, Single, Atom, Join, Apply, Exists, Listed, Rule}
 
 -- ---- the two interpretations
 
@@ -35,11 +29,14 @@ otherComparison Le = Gt
 otherComparison Gt = Le
 otherComparison Ge = Lt
 
+abbrev pub otherMark : MarkTest → MarkTest
+otherMark Null = NotNull
+otherMark NotNull = Null
+
 -- kinds 5 and 6 with their comparisons, 7 and 8
 abbrev pub otherLeaf : Leaf → Leaf
 otherLeaf (CompareLeaf i op l r) = CompareLeaf (other i) (otherComparison op) l r
-otherLeaf (BlankLeaf l) = NotBlankLeaf l
-otherLeaf (NotBlankLeaf l) = BlankLeaf l
+otherLeaf (MarkLeaf m l) = MarkLeaf (otherMark m) l
 
 -- a whole card: and with or, some row with every row, and all the way in
 unfoldable pub negated : Card → Card
@@ -51,36 +48,29 @@ negated (RowEntry q t c) = RowEntry (otherQuantifier q) t (negated c)
 
 abbrev pub leafOf : Interpretation → Test Value → Leaf
 leafOf i (Compare op l r) = CompareLeaf i op l r
-leafOf i (IsNull l) = BlankLeaf l
-leafOf i (IsNotNull l) = NotBlankLeaf l
+leafOf i (Mark m l) = MarkLeaf m l
+
+-- the row entries of a FROM around what is asked of its rows
+abbrev pub rowsCard : Quantifier → From ℕ → Card → Card
+rowsCard q (Single t) c = RowEntry q t c
 
 -- a list: SOME asks for a row on which WHERE and comparison hold, ALL for every row that WHERE fails on or the comparison holds on
-abbrev pub listCard : Quantifier → ℕ → Card → Card → Card
-listCard Some t w c = RowEntry Some t (PairEntry And w c)
-listCard All t w c = RowEntry All t (PairEntry Or (negated w) c)
+abbrev pub listCard : Quantifier → From ℕ → Card → Card → Card
+listCard Some f w c = rowsCard Some f (PairEntry And w c)
+listCard All f w c = rowsCard All f (PairEntry Or (negated w) c)
 
--- NOT takes the other interpretation of what stands under it and negates that; EXISTS asks for a row of its WHERE. Every WHERE is
--- false-interpreted, whatever is around it, before any negating.
+-- the card around a condition, of which inner is the card in each interpretation: NOT takes the other interpretation, and negates that
+abbrev pub unaryCard : Unary → Interpretation → (Interpretation → Card) → Card
+unaryCard Not i inner = negated (inner (other i))
+
+-- EXISTS asks for a row of its WHERE. Every WHERE is false-interpreted, whatever is around it, before any negating.
 unfoldable pub cardOf : Interpretation → Rule → Card
 cardOf i (Atom x) = LeafEntry (leafOf i x)
 cardOf i (Join j a b) = PairEntry j (cardOf i a) (cardOf i b)
-cardOf i (Not a) = negated (cardOf (other i) a)
-cardOf i (Exists t w) = RowEntry Some t (cardOf AsNo w)
-cardOf i (Listed q op l s t w) = listCard q t (cardOf AsNo w) (LeafEntry (CompareLeaf i op l s))
+cardOf i (Apply u a) = unaryCard u i (λ i′. cardOf i′ a)
+cardOf i (Exists f w) = rowsCard Some f (cardOf AsNo w)
+cardOf i (Listed q op l s f w) = listCard q f (cardOf AsNo w) (LeafEntry (CompareLeaf i op l s))
 
 -- a whole rule is false-interpreted
 abbrev pub ruleCard : Rule → Card
 ruleCard r = cardOf AsNo r
-
--- ---- the published number of entries
-
--- how many records of a list of parts have a kind
-unfoldable pub ofKind : ℕ → List Part → ℕ
-ofKind kind [] = 0
-ofKind kind (p ∷ ps) = cond (eqb (p .kind) kind) 1 0 + ofKind kind ps
-
--- n = parts − (parts of kind 3) + 2 × (parts of kinds 8 and 9): a NOT has no entry, and a list has two more
-abbrev pub entrySum : Rule → ℕ
-entrySum r =
-    let ps = partsOf r in
-    length ps - ofKind notKind ps + 2 * (ofKind (listKind Some) ps + ofKind (listKind All) ps)

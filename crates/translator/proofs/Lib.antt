@@ -1,4 +1,3 @@
-pub mod Counting
 pub mod Sizes
 pub mod Writing
 pub mod Making

@@ -15,6 +15,7 @@ use Rattle.card.specs.Layout.{cardLength}
 use Rattle.card.specs.Sound.{mostEntries}
 use Rattle.rule.specs.Condition.{Rule}
 use Rattle.rule.specs.Calls.{ruleOf}
+use Rattle.rule.proofs.Sum.{sum-few}
 use Rattle.names.specs.Code.{partsSize}
 use Rattle.parser.specs.Code.{parsedAnswer, refusalIn, parseCall}
 use Rattle.parser.specs.declared.Parsed.{Parsed}
@@ -24,8 +25,11 @@ use Rattle.translation.specs.Calls.{ruleBytes, cardCall}
 use Rattle.translation.specs.Demand3.{publishedLength, CardClaim}
 use Rattle.translation.proofs.Sums.{sum-claim}
 use Rattle.translation.proofs.Demand3.{demand-3-claim, card-refused-claim}
-use Rattle.translator.specs.Code.{entriesIn, CardReady, CardWritten}
-use Rattle.translator.proofs.Counting.{entries-are}
+use Rattle.translator.specs.Code.{CardReady, CardWritten}
+
+-- a card has room for the entries of a rule that was read
+pub few-entries : {text file p : List ℕ} {m n : ℕ} → Read text file p m n → n ≤ mostEntries
+few-entries q = omega (arith, q .sum, sum-few (q .rule), q .count, q .few-parts)
 
 module _ (text file out : List ℕ) where
   abbrev pub Makes : Answer ℕ → List ℕ → Type 0
@@ -42,24 +46,24 @@ module _ (text file out : List ℕ) where
   same-rule x y e f = cc
 
   -- a rule was read
-  module _ {p : List ℕ} {m : ℕ} (q : Read text file p m) where
+  module _ {p : List ℕ} {m n : ℕ} (q : Read text file p m n) where
     claim : CardClaim text file (q .rule) out
     claim =
         let w = demand-3-claim text file (q .accepted) in
         subst (λ (x : Rule). CardClaim text file x out) (same-rule (w .rule) (q .rule) (w .is-rule) (q .is-rule)) (w .cards out)
 
-    -- so many entries and tables
-    module _ {n t : ℕ} (counted : n ≡ entriesIn p m) (tables : t ≡ tableCount file) where
-      count : n ≡ entries (ruleCard (q .rule))
-      count = counted ∙ ap (entriesIn p) (q .count) ∙ entries-are p (q .rule) (q .written)
+    count : n ≡ entries (ruleCard (q .rule))
+    count = q .sum ∙ sym (sum-claim (q .rule))
 
+    -- with so many tables
+    module _ {t : ℕ} (tables : t ≡ tableCount file) where
       long : cardLength t n ≡ publishedLength file (q .rule)
-      long = omega (arith, count, sum-claim (q .rule))
+      long = omega (arith, q .sum)
 
       pub card-short : length out < cardLength t n → Makes (Refused 12) out
       card-short h = lent _ (claim .short (omega (arith, long)))
 
-      module _ (size : length p ≡ partsSize) (most : n ≤ mostEntries) (room : cardLength t n ≤ length out) where
+      module _ (size : length p ≡ partsSize) (room : cardLength t n ≤ length out) where
         pub card-ready : CardReady p file n out
         card-ready =
             record {
@@ -71,7 +75,7 @@ module _ (text file out : List ℕ) where
               written = q .written;
               fits = q .fits;
               count = count;
-              most = most;
+              most = few-entries q;
               room = omega arith;
             }
 

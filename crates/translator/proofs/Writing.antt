@@ -16,12 +16,12 @@ use Rattle.card.specs.Layout.{recordSize, kindBytes, recordsFrom, cardBytes}
 use Rattle.card.specs.Sound.{mostEntries}
 use Rattle.card.proofs.Walk.{kinds-length, records-length}
 use Rattle.rule.specs.Condition.{parts}
-use Rattle.parser.specs.Parts.{SmallParts}
+use Rattle.parts.specs.Parts.{SmallParts}
 use Rattle.parser.proofs.Known.{rule-parts}
 use Rattle.translation.specs.Translation.{ruleCard}
 use Rattle.entries.specs.Code.{cardAs, Writable, Wrote, WroteTo}
 use Rattle.translator.specs.Code.{CardReady}
-use Rattle.parser.proofs.Parts.{rule-stands}
+use Rattle.parts.proofs.Parts.{rule-stands}
 
 -- what stands before the kinds of a card of n entries
 abbrev pub sizesOf : List ℕ → ℕ → List ℕ

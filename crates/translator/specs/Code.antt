@@ -1,8 +1,8 @@
 -- What the functions of src/ promise one another. The contract of a public call cites nothing of this file.
 use mathlib.Core.Path.{_≡_}
-use mathlib.Core.List.{List, [], _∷_}
-use Prim.Native.Nat.{ℕ, zero, suc, _+_, _*_, _≤_}
-use lib.ListN.{length, getD, take}
+use mathlib.Core.List.{List}
+use Prim.Native.Nat.{ℕ, _*_, _≤_}
+use lib.ListN.{length, take}
 use Rattle.tables.specs.Lists.{placed}
 use Rattle.tables.specs.Tables.{tableCount, columnsOf}
 use Rattle.tables.specs.Values.{judgedLevels}
@@ -15,15 +15,6 @@ use Rattle.rule.specs.Names.{mostParts, mostFroms, Fits}
 use Rattle.rule.specs.Parts.{partsOf}
 use Rattle.translation.specs.Translation.{ruleCard}
 use Rattle.names.specs.Code.{partSize, partsSize, partsNumbers}
-
--- how many entries a part of a kind makes up by itself
-abbrev pub entriesOfKind : ℕ → ℕ
-entriesOfKind kind = getD (1 ∷ 1 ∷ 1 ∷ 0 ∷ 1 ∷ 1 ∷ 1 ∷ 1 ∷ 3 ∷ 3 ∷ []) kind 1
-
--- and the first n parts of an array
-unfoldable pub entriesIn : List ℕ → ℕ → ℕ
-entriesIn p zero = 0
-entriesIn p (suc n) = entriesIn p n + entriesOfKind (getD p (partSize * n) 0)
 
 -- the parts are those of a rule that fits the tables, and there is room for its card
 pub record CardReady (p file : List ℕ) (n : ℕ) (out : List ℕ) : Type 0 where

@@ -2,54 +2,20 @@
 // Short names: p, the parts as numbers.
 ghost use mathlib.Core.Path.{_≡_};
 ghost use mathlib.Core.List.{_∷_, _++_};
-ghost use Prim.Native.Nat.{_+_, _*_, _<_, _≤_};
+ghost use Prim.Native.Nat.{_+_, _<_, _≤_};
 ghost use lib.ListN.{length};
 ghost use Rattle.tables.specs.Lists.{placed};
 ghost use Rattle.tables.specs.Bytes.{bytes16};
 ghost use Rattle.tables.specs.Tables.{tableCount, columnsOf};
 ghost use Rattle.cells.specs.Code.{Sized};
 ghost use Rattle.translation.specs.Calls.{cardCall};
-ghost use Rattle.card.specs.Sound.{mostEntries};
-ghost use Rattle.rule.specs.Names.{mostParts};
-ghost use Rattle.names.specs.Code.{partsSize};
 ghost use Rattle.translator.specs.Answers.{madeAnswer};
-ghost use Rattle.translator.specs.Code.{entriesOfKind, entriesIn, CardReady, CardWritten};
+ghost use Rattle.translator.specs.Code.{CardReady, CardWritten};
 use card::MOST_ENTRIES;
 use card::RECORD_SIZE;
 use cells::Reason;
-use names::PART_FIELDS;
 use names::PART_NUMBERS;
 use parser::Parsed;
-use rule::ALL_PART;
-use rule::NOT_PART;
-use rule::SOME_PART;
-
-// How many entries a part makes up by itself: NOT none, and a list its test of rows, its AND or OR, and its comparison.
-fn entries_of(kind: usize) -> usize
-    ensures is { λ r. ⌜ r ≡ entriesOfKind kind ⌝ }
-    ensures small { λ r. ⌜ r ≤ 3 ⌝ }
-{
-    match kind {
-        NOT_PART => 0,
-        SOME_PART | ALL_PART => 3,
-        _ => 1,
-    }
-}
-
-// How many entries n parts make up.
-fn count_entries(p: &[usize; PART_NUMBERS], n: usize) -> usize
-    requires { ⌜ length (now p) ≡ partsSize ⌝ ∗ ⌜ n ≤ mostParts ⌝ }
-    ensures is { λ r. ⌜ r ≡ entriesIn (now (p .entry)) n ⌝ }
-    ensures small { λ r. ⌜ r ≤ mostEntries ⌝ }
-{
-    let mut entries: usize = 0;
-    let mut i: usize = 0;
-    while i < n {
-        entries += entries_of(p[PART_FIELDS * i]);
-        i += 1;
-    }
-    entries
-}
 
 // The sizes of a card: its entries, its tables, and the columns of each.
 fn write_sizes(file: &[u8], entries: usize, out: &mut [u8])
@@ -93,10 +59,9 @@ pub fn make_card(text: &[u8], file: &[u8], out: &mut [u8]) -> Made
 {
     let mut p = [0usize; PART_NUMBERS];
     let parsed = parser::parse(text, file, &mut p);
-    let Parsed::Rule(n) = parsed else {
+    let Parsed::Rule(_, entries) = parsed else {
         return Made::NotMade(parser::refusal(parsed));
     };
-    let entries = count_entries(&p, n);
     let length = 3 + cells::byte(file, 0) + (1 + RECORD_SIZE) * entries;
     if out.len() < length {
         return Made::NotMade(Reason::Short);

@@ -5,7 +5,8 @@ use borrow.Author.Needs.{needs}
 use borrow.Author.Tests.{not-true, not-false}
 use borrow.Fn.Kinds.{In}
 use borrow.Fn.PlainCycle.{Measures, is, falls, and}
-use Rattle.checker.proofs.Checking.{wrong-end, wrong-kind, checkable-within, checkable-deeper, pair-short, pair-left-no, pair-last, rows-no, rows-short, rows-last}
+use Rattle.decoder.proofs.Grouped.{pair-number, row-number, leaf-number}
+use Rattle.checker.proofs.Checking.{wrong-end, kind-before, kind-behind, checkable-within, checkable-deeper, pair-short, pair-left-no, pair-last, rows-no, rows-short, rows-last}
 use Rattle.checker.proofs.check_entry.Reads as check-entry
 use Rattle.checker.proofs.check_entry.Kinds as check-entry-kinds
 use Rattle.checker.proofs.+check_entry+check_pair+check_rows.Lts-check_entry as check-entry-lts
@@ -68,24 +69,25 @@ check-entry-returns t c = wrong-end (c .if1 .taken)
 check-entry-check-pair-requires : (t : ℕ) → check-entry-lts.Need-check-pair-requires (check-entry-claims t) (check-entry-at t) check-entry.Post
 check-entry-check-pair-requires t c κs =
     let p = c .before .before .before .before .before .before .before .pre in
-    (omega (arith, p .0), (p .1, ((omega arith, omega arith), c .before .before .before .if1 .left)))
+    (omega (arith, p .0), (p .1, (pair-number _ (omega arith) (omega arith), c .before .before .before .if1 .left)))
 
 check-entry-check-rows-requires : (t : ℕ) → check-entry-lts.Need-check-rows-requires (check-entry-claims t) (check-entry-at t) check-entry.Post
 check-entry-check-rows-requires t c κs =
     let p = c .before .before .before .before .before .before .before .before .pre in
-    (omega (arith, p .0), (p .1, ((omega arith, omega arith), c .before .before .before .before .if1 .left)))
+    (omega (arith, p .0), (p .1, (row-number _ (omega arith) (omega arith), c .before .before .before .before .if1 .left)))
 
 check-entry-check-leaf-requires : (t : ℕ) → check-entry-lts.Need-check-leaf-requires (check-entry-claims t) (check-entry-at t) check-entry.Post
-check-entry-check-leaf-requires t c κs = (c .before .before .before .before .before .before .before .before .before .pre .1, ((omega arith, omega arith), c .before .before .before .before .before .if1 .left))
+check-entry-check-leaf-requires t c κs =
+    (c .before .before .before .before .before .before .before .before .before .pre .1, (leaf-number _ (omega arith) (omega arith), c .before .before .before .before .before .if1 .left))
 
 check-pair-returns : (t : ℕ) → check-pair-lts.Need-returns (check-pair-claims t) (check-pair-at t) check-pair.Post
-check-pair-returns t c = let p = c .before .before .before .pre .1 .1 .0 in pair-short _ _ _ _ _ (p .0) (p .1) (λ l r. omega arith)
+check-pair-returns t c = let p = c .before .before .before .pre .1 .1 .0 in pair-short _ _ _ _ _ p (λ l r. omega arith)
 
 check-pair-returns-2 : (t : ℕ) → check-pair-lts.Need-returns-2 (check-pair-claims t) (check-pair-at t) check-pair.Post
-check-pair-returns-2 t c = let p = c .before .before .before .before .before .pre .1 .1 .0 in pair-short _ _ _ _ _ (p .0) (p .1) (λ l r. omega arith)
+check-pair-returns-2 t c = let p = c .before .before .before .before .before .pre .1 .1 .0 in pair-short _ _ _ _ _ p (λ l r. omega arith)
 
 check-pair-returns-3 : (t : ℕ) → check-pair-lts.Need-returns-3 (check-pair-claims t) (check-pair-at t) check-pair.Post
-check-pair-returns-3 t c = let p = c .before .before .before .before .before .before .pre .1 .1 .0 in pair-short _ _ _ _ _ (p .0) (p .1) (λ l r. omega arith)
+check-pair-returns-3 t c = let p = c .before .before .before .before .before .before .pre .1 .1 .0 in pair-short _ _ _ _ _ p (λ l r. omega arith)
 
 check-pair-check-entry-requires : (t : ℕ) → check-pair-lts.Need-check-entry-requires (check-pair-claims t) (check-pair-at t) check-pair.Post
 check-pair-check-entry-requires t c κs =
@@ -95,7 +97,7 @@ check-pair-check-entry-requires t c κs =
 check-pair-returns-4 : (t : ℕ) → check-pair-lts.Need-returns-4 (check-pair-claims t) (check-pair-at t) check-pair.Post
 check-pair-returns-4 t c =
     let p = c .before .before .before .before .before .before .before .before .pre .1 .1 .0 in
-    pair-left-no _ _ _ _ _ (p .0) (p .1) (c .before .check-entry .ensures) (not-true _ (c .if4 .taken))
+    pair-left-no _ _ _ _ _ p (c .before .check-entry .ensures) (not-true _ (c .if4 .taken))
 
 check-pair-check-entry-requires-2 : (t : ℕ) → check-pair-lts.Need-check-entry-requires-2 (check-pair-claims t) (check-pair-at t) check-pair.Post
 check-pair-check-entry-requires-2 t c κs =
@@ -105,13 +107,13 @@ check-pair-check-entry-requires-2 t c κs =
 check-pair-returns-5 : (t : ℕ) → check-pair-lts.Need-returns-5 (check-pair-claims t) (check-pair-at t) check-pair.Post
 check-pair-returns-5 t c =
     let p = c .before .before .before .before .before .before .before .before .before .pre .1 .1 in
-    pair-last _ _ _ _ _ (p .0 .0) (p .0 .1) (c .before .before .check-entry .ensures) (not-false _ (c .before .if4 .left)) (p .1) (c .check-entry2 .ensures)
+    pair-last _ _ _ _ _ (p .0) (c .before .before .check-entry .ensures) (not-false _ (c .before .if4 .left)) (p .1) (c .check-entry2 .ensures)
 
 check-rows-returns : (t : ℕ) → check-rows-lts.Need-returns (check-rows-claims t) (check-rows-at t) check-rows.Post
-check-rows-returns t c = let p = c .before .before .before .pre .1 in rows-short _ _ _ _ _ _ (p .1 .0 .0) (p .1 .0 .1) (p .0 .levels) (omega arith)
+check-rows-returns t c = let p = c .before .before .before .pre .1 in rows-short _ _ _ _ _ _ (p .1 .0) (p .0 .levels) (omega arith)
 
 check-rows-returns-2 : (t : ℕ) → check-rows-lts.Need-returns-2 (check-rows-claims t) (check-rows-at t) check-rows.Post
-check-rows-returns-2 t c = let p = c .before .before .before .before .before .pre .1 in rows-no _ _ _ _ _ _ (p .1 .0 .0) (p .1 .0 .1) (p .0 .levels) (λ x. omega (arith, x .table-low))
+check-rows-returns-2 t c = let p = c .before .before .before .before .before .pre .1 in rows-no _ _ _ _ _ _ (p .1 .0) (p .0 .levels) (λ x. omega (arith, x .table-low))
 
 check-rows-byte-requires : (t : ℕ) → check-rows-lts.Need-byte-requires (check-rows-claims t) (check-rows-at t) check-rows.Post
 check-rows-byte-requires t c κs = omega (arith, c .before .before .before .before .before .pre .1 .0 .levels .laid-out .long)
@@ -119,10 +121,10 @@ check-rows-byte-requires t c κs = omega (arith, c .before .before .before .befo
 check-rows-returns-3 : (t : ℕ) → check-rows-lts.Need-returns-3 (check-rows-claims t) (check-rows-at t) check-rows.Post
 check-rows-returns-3 t c =
     let p = c .before .before .before .before .before .before .before .pre .1 in
-    rows-no _ _ _ _ _ _ (p .1 .0 .0) (p .1 .0 .1) (p .0 .levels) (λ x. omega (arith, x .table-high, c .before .byte .ensures .0))
+    rows-no _ _ _ _ _ _ (p .1 .0) (p .0 .levels) (λ x. omega (arith, x .table-high, c .before .byte .ensures .0))
 
 check-rows-returns-4 : (t : ℕ) → check-rows-lts.Need-returns-4 (check-rows-claims t) (check-rows-at t) check-rows.Post
-check-rows-returns-4 t c = let p = c .before .before .before .before .before .before .before .before .pre .1 in rows-no _ _ _ _ _ _ (p .1 .0 .0) (p .1 .0 .1) (p .0 .levels) (λ x. omega (arith, x .few))
+check-rows-returns-4 t c = let p = c .before .before .before .before .before .before .before .before .pre .1 in rows-no _ _ _ _ _ _ (p .1 .0) (p .0 .levels) (λ x. omega (arith, x .few))
 
 check-rows-check-entry-requires : (t : ℕ) → check-rows-lts.Need-check-entry-requires (check-rows-claims t) (check-rows-at t) check-rows.Post
 check-rows-check-entry-requires t c κs =
@@ -134,7 +136,7 @@ check-rows-returns-5 : (t : ℕ) → check-rows-lts.Need-returns-5 (check-rows-c
 check-rows-returns-5 t c =
     let p = c .before .before .before .before .before .before .before .before .before .before .before .pre .1 in
     let n = c .before .before .before .before .before .byte .ensures .0 in
-    rows-last _ _ _ _ _ _ (p .1 .0 .0) (p .1 .0 .1) (p .0 .levels) (omega arith) (omega arith) (omega arith) (p .1 .1) (c .check-entry .ensures)
+    rows-last _ _ _ _ _ _ (p .1 .0) (p .0 .levels) (omega arith) (omega arith) (omega arith) (p .1 .1) (c .check-entry .ensures)
 
 pub +check-entry+check-pair+check-rows-spec : {M : Type 1} → statement M
 +check-entry+check-pair+check-rows-spec =
@@ -156,8 +158,8 @@ pub +check-entry+check-pair+check-rows-spec : {M : Type 1} → statement M
     (λ c. c .check-pair .ensures)
     (λ c. c .check-rows .ensures)
     (λ c. c .check-leaf .ensures)
-    (λ c. wrong-kind (λ low high. omega arith))
-    (λ c. wrong-kind (λ low high. omega arith)))
+    (λ c. kind-before (omega arith))
+    (λ c. kind-behind (omega arith)))
     (λ t. check-pair-lts.spec
     (check-pair-claims t)
     (check-pair-at t)

@@ -1,7 +1,10 @@
 use mathlib.Core.Path.{_≡_, refl}
-use Prim.Native.Nat.{_*_, _-_, _≤_}
+use Prim.Native.Nat.{_+_, _*_, _-_, _<_, _≤_}
 use native.Mathlib.Omega.{arith}
 use lib.ListN.{length, length-set}
+use Rattle.tables.specs.Tables.{mostTables}
+use Rattle.card.specs.Layout.{recordSize}
+use Rattle.card.specs.Sound.{mostEntries}
 use Rattle.cells.specs.Code.{Holds}
 use Rattle.cells.proofs.Holding.{holds-none, holds-same}
 use Rattle.decoder.specs.Code.{entrySize, fieldOf}
@@ -20,6 +23,33 @@ loop-holds c =
     let start = c .before .before .before .before in
     let room = start .pre .1 (start .pre .0) in
     (omega arith, omega arith, refl, holds-none _ _)
+
+-- in the loop: entry i is one of the card's, its record stands in the card, and its numbers have room in d
+inside : (c : tie.In-loop Inv-loop μ-loop)
+    → let n = c .before .before .before .read16 .result in
+    let t = c .before .before .byte .result in
+    let i = c .before .loop .i in
+    (i < n) × (n ≤ mostEntries) × (t ≤ mostTables) × (3 + t + n + recordSize * (i + 1) ≤ length (c .before .before .before .before .before .before .args .card .now)) × (entrySize * (i + 1) ≤ length (c .before .loop .d))
+inside c = (omega arith, omega arith, omega arith, omega arith, omega arith)
+
+-- a write leaves d as long as it was, so there is room for the next one
+writes :
+    tie.Need-slice-write-d-2 Inv-loop μ-loop
+    × tie.Need-slice-write-d-3 Inv-loop μ-loop
+    × tie.Need-slice-write-d-4 Inv-loop μ-loop
+    × tie.Need-slice-write-d-5 Inv-loop μ-loop
+    × tie.Need-slice-write-d-6 Inv-loop μ-loop
+    × tie.Need-slice-write-d-7 Inv-loop μ-loop
+    × tie.Need-slice-write-d-8 Inv-loop μ-loop
+writes = (
+  λ c. simp length-set (omega (arith, inside (c .before .before .before))),
+  λ c. simp length-set (omega (arith, inside (c .before .before .before .before))),
+  λ c. simp length-set (omega (arith, inside (c .before .before .before .before .before))),
+  λ c. simp length-set (omega (arith, inside (c .before .before .before .before .before .before))),
+  λ c. simp length-set (omega (arith, inside (c .before .before .before .before .before .before .before))),
+  λ c. simp length-set (omega (arith, inside (c .before .before .before .before .before .before .before .before))),
+  λ c. simp length-set (omega (arith, inside (c .before .before .before .before .before .before .before .before .before))),
+)
 
 loop-again : tie.Need-loop-again Inv-loop μ-loop
 loop-again c =
@@ -59,48 +89,48 @@ decode-spec =
     (λ c. omega arith)
     (λ c. omega arith)
     loop-holds
-    (λ c. omega arith)
-    (λ c. omega arith)
-    (λ c. omega arith)
-    (λ c. omega arith)
+    (λ c. omega (arith, inside c))
+    (λ c. omega (arith, inside c))
+    (λ c. omega (arith, inside c))
+    (λ c. omega (arith, inside c))
+    (λ c κs. omega (arith, inside c))
     (λ c κs. omega arith)
-    (λ c κs. omega arith)
-    (λ c. omega arith)
-    (λ c. omega arith)
-    (λ c κs. omega arith)
-    (λ c. omega arith)
-    (λ c. omega arith)
-    (λ c. simp length-set (omega arith))
-    (λ c. omega arith)
-    (λ c κs. omega arith)
-    (λ c. omega arith)
-    (λ c. omega arith)
-    (λ c. simp length-set (omega arith))
-    (λ c. omega arith)
-    (λ c κs. omega arith)
-    (λ c. omega arith)
-    (λ c. omega arith)
-    (λ c. simp length-set (omega arith))
-    (λ c. omega arith)
-    (λ c κs. omega arith)
-    (λ c. omega arith)
-    (λ c. omega arith)
-    (λ c. simp length-set (omega arith))
-    (λ c κs. omega arith)
-    (λ c. omega arith)
-    (λ c. omega arith)
-    (λ c. simp length-set (omega arith))
-    (λ c. omega arith)
-    (λ c κs. omega arith)
-    (λ c. omega arith)
-    (λ c. omega arith)
-    (λ c. simp length-set (omega arith))
-    (λ c κs. omega arith)
-    (λ c. omega arith)
-    (λ c. omega arith)
-    (λ c. simp length-set (omega arith))
-    (λ c. omega arith)
-    (λ c. omega arith)
+    (λ c. omega (arith, inside (c .before .before)))
+    (λ c. omega (arith, inside (c .before .before)))
+    (λ c κs. omega (arith, inside (c .before .before)))
+    (λ c. omega (arith, inside (c .before .before .before)))
+    (λ c. omega (arith, inside (c .before .before .before)))
+    (writes .0)
+    (λ c. omega (arith, inside (c .before .before .before)))
+    (λ c κs. omega (arith, inside (c .before .before .before)))
+    (λ c. omega (arith, inside (c .before .before .before .before)))
+    (λ c. omega (arith, inside (c .before .before .before .before)))
+    (writes .1)
+    (λ c. omega (arith, inside (c .before .before .before .before)))
+    (λ c κs. omega (arith, inside (c .before .before .before .before)))
+    (λ c. omega (arith, inside (c .before .before .before .before .before)))
+    (λ c. omega (arith, inside (c .before .before .before .before .before)))
+    (writes .2)
+    (λ c. omega (arith, inside (c .before .before .before .before .before)))
+    (λ c κs. omega (arith, inside (c .before .before .before .before .before)))
+    (λ c. omega (arith, inside (c .before .before .before .before .before .before)))
+    (λ c. omega (arith, inside (c .before .before .before .before .before .before)))
+    (writes .3)
+    (λ c κs. omega (arith, inside (c .before .before .before .before .before .before)))
+    (λ c. omega (arith, inside (c .before .before .before .before .before .before .before)))
+    (λ c. omega (arith, inside (c .before .before .before .before .before .before .before)))
+    (writes .4)
+    (λ c. omega (arith, inside (c .before .before .before .before .before .before .before)))
+    (λ c κs. omega (arith, inside (c .before .before .before .before .before .before .before)))
+    (λ c. omega (arith, inside (c .before .before .before .before .before .before .before .before)))
+    (λ c. omega (arith, inside (c .before .before .before .before .before .before .before .before)))
+    (writes .5)
+    (λ c κs. omega (arith, inside (c .before .before .before .before .before .before .before .before)))
+    (λ c. omega (arith, inside (c .before .before .before .before .before .before .before .before .before)))
+    (λ c. omega (arith, inside (c .before .before .before .before .before .before .before .before .before)))
+    (writes .6)
+    (λ c. omega (arith, inside (c .before .before .before .before .before .before .before .before .before)))
+    (λ c. omega (arith, inside (c .before .before .before .before .before .before .before .before .before)))
     loop-again
     same-length
     returns)

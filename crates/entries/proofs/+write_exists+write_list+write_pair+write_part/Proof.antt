@@ -1,10 +1,13 @@
 -- Each member asks for the parts of a rule by its kind, and writes the entries of its card; the measure is twice what is left of the parts.
 use borrow.Author.Needs.{needs}
+use mathlib.Core.Path.{refl}
 use mathlib.Core.Logic.{⊎-elim}
 use native.Mathlib.Omega.{arith}
+use Rattle.tables.specs.Values.{And}
 use Rattle.rule.specs.Names.{mostParts}
-use Rattle.parser.proofs.Parts.{kind-low}
-use Rattle.entries.proofs.Writing.{compare-ready, compare-wrote, null-ready, null-wrote, not-ready, not-wrote, join-few, next-above, pair-plain-asked, left-ready, right-ready, pair-end-asked, pair-wrote, exists-plain-asked, exists-ready, exists-end-asked, exists-wrote, list-plain-asked, list-plain-asked-2, list-ready, list-compare-ready, list-end-asked, list-end-asked-2, list-wrote}
+use Rattle.rule.proofs.Groups.{join-number, mark-number, list-number}
+use Rattle.parts.proofs.Parts.{kind-low, kind-high}
+use Rattle.entries.proofs.Writing.{compare-ready, compare-wrote, mark-ready, mark-wrote, not-ready, not-wrote, join-few, next-above, pair-plain-asked, left-ready, right-ready, pair-end-asked, pair-wrote, exists-plain-asked, exists-ready, exists-end-asked, exists-wrote, list-plain-asked, list-plain-asked-2, list-ready, list-compare-ready, list-end-asked, list-end-asked-2, list-wrote}
 use Prim.Native.Nat.{ℕ, _+_, _*_, _-_, _<_}
 use borrow.Fn.Kinds.{In}
 use borrow.Fn.PlainCycle.{Measures, is, falls, and}
@@ -20,6 +23,7 @@ use Rattle.entries.proofs.+write_exists+write_list+write_pair+write_par
 use Rattle.entries.proofs.write_part.Reads as write-part
 use Rattle.entries.proofs.write_part.Kinds as write-part-kinds
 use Rattle.entries.proofs.+write_exists+write_list+write_pair+write_part.Lts-write_part as write-part-lts
+use Rattle.cells.proofs.never.Reads as never-reads
 use Rattle.records.proofs.pair_kind.Reads as pair-kind-reads
 use Rattle.records.proofs.put16.Reads as put16-reads
 use Rattle.records.proofs.put_plain.Reads as put-plain-reads
@@ -27,7 +31,7 @@ use Rattle.records.proofs.row_kind.Reads as row-kind-reads
 use Rattle.entries.proofs.field.Reads as field-reads
 use Rattle.entries.proofs.under_nots.Reads as under-nots-reads
 use Rattle.entries.proofs.write_comparison.Reads as write-comparison-reads
-use Rattle.entries.proofs.write_null.Reads as write-null-reads
+use Rattle.entries.proofs.write_mark.Reads as write-mark-reads
 use Rattle.entries.proofs.+write_exists+write_list+write_pair+write_part.{statement}
 use Rattle.entries.proofs.+write_exists+write_list+write_pair+write_part.Tie.{close}
 
@@ -89,7 +93,7 @@ abbrev write-pair-claims : ℕ → write-pair-lts.Claims
 write-pair-claims t = (pair-kind-reads.Asked, pair-kind-reads.Learnt, field-reads.Asked, field-reads.Learnt, put-plain-reads.Asked, put-plain-reads.Learnt, write-part-below t, write-part.Post, put16-reads.Asked, put16-reads.Learnt)
 
 abbrev write-part-claims : ℕ → write-part-lts.Claims
-write-part-claims t = (under-nots-reads.Asked, under-nots-reads.Learnt, write-part-below t, write-part.Post, write-comparison-reads.Asked, write-comparison-reads.Learnt, write-exists-below t, write-exists.Post, write-pair-below t, write-pair.Post, write-null-reads.Asked, write-null-reads.Learnt, write-list-below t, write-list.Post)
+write-part-claims t = (under-nots-reads.Asked, under-nots-reads.Learnt, write-part-below t, write-part.Post, write-comparison-reads.Asked, write-comparison-reads.Learnt, write-exists-below t, write-exists.Post, write-pair-below t, write-pair.Post, write-mark-reads.Asked, write-mark-reads.Learnt, write-list-below t, write-list.Post, never-reads.Asked, never-reads.Learnt)
 
 write-exists-put-plain-requires : (t : ℕ) → write-exists-lts.Need-put-plain-requires (write-exists-claims t) (write-exists-at t) write-exists.Post
 write-exists-put-plain-requires t c κs =
@@ -215,25 +219,33 @@ write-part-write-pair-requires : (t : ℕ) → write-part-lts.Need-write-pair-re
 write-part-write-pair-requires t c κs =
     let o = c .before .before .before .before .before .before .before in
     let m = o .pre .0 in
-    (omega arith, (o .pre .1, (c .before .before .before .if1 .left, omega (arith, c .before .before .if2 .taken))))
+    (omega arith, (o .pre .1, join-number _ (c .before .before .before .if1 .left) (omega (arith, c .before .before .if2 .taken))))
 
-write-part-write-null-requires : (t : ℕ) → write-part-lts.Need-write-null-requires (write-part-claims t) (write-part-at t) write-part.Post
-write-part-write-null-requires t c κs =
+write-part-write-mark-requires : (t : ℕ) → write-part-lts.Need-write-mark-requires (write-part-claims t) (write-part-at t) write-part.Post
+write-part-write-mark-requires t c κs =
     let o = c .before .before .before .before .before .before .before .before in
     let a = c .before .before .before .if2 .left in
     let b = c .before .before .if3 .taken in
     let r = c .before .before .before .before .before .match .rest in
     let n3 = r .0 .0 .1 in
     let n4 = r .0 .1 in
-    null-ready (o .pre .1) (omega arith) (omega arith)
+    mark-ready (o .pre .1) (mark-number _ (omega arith) (omega arith))
 
 write-part-write-list-requires : (t : ℕ) → write-part-lts.Need-write-list-requires (write-part-claims t) (write-part-at t) write-part.Post
 write-part-write-list-requires t c κs =
-    let o = c .before .before .before .before .before .before in
-    let m = o .pre .0 in (
-      omega arith,
-      (o .pre .1, ⊎-elim (λ w. absurd (omega (arith, w .taken, kind-low _ _ (o .pre .1 .rule) (o .pre .1 .stands)))) (λ w. let n7 = c .before .before .before .match .rest .1 in let l = w .2 .left in omega arith) (c .before .before .if1 .came)),
-    )
+    let o = c .before .before .before .before .before .before .before .before .before in
+    let m = o .pre .0 in
+    let a = c .before .before .before .if3 .left in
+    let b = c .before .before .if4 .taken in
+    let n7 = c .before .before .before .before .before .before .match .rest .1 in
+    (omega arith, (o .pre .1, list-number _ (omega arith) (omega arith)))
+
+write-part-never-requires : (t : ℕ) → write-part-lts.Need-never-requires (write-part-claims t) (write-part-at t) write-part.Post
+write-part-never-requires t c κs =
+    let o = c .before .before .before .before in
+    let low = kind-low _ _ (o .pre .1 .rule) (o .pre .1 .stands) in
+    let high = kind-high _ _ (o .pre .1 .rule) (o .pre .1 .stands) in
+    ⊎-elim (λ w. omega (arith, w .taken)) (λ w. omega (arith, w .3 .left)) (c .if1 .came)
 
 write-part-returns : (t : ℕ) → write-part-lts.Need-returns (write-part-claims t) (write-part-at t) write-part.Post
 write-part-returns t c =
@@ -257,7 +269,7 @@ write-part-returns-5 t c =
     let r = c .before .before .before .before .before .before .before .before .match .rest in
     let n3 = r .0 .0 .1 in
     let n4 = r .0 .1 in
-    λ h. null-wrote h (omega arith) (omega arith) (c .before .before .write-null .ensures)
+    λ h. mark-wrote h (mark-number _ (omega arith) (omega arith)) (c .before .before .write-mark .ensures)
 
 write-part-returns-6 : (t : ℕ) → write-part-lts.Need-returns-6 (write-part-claims t) (write-part-at t) write-part.Post
 write-part-returns-6 t c = c .before .before .write-list .ensures
@@ -284,7 +296,7 @@ pub +write-exists+write-list+write-pair+write-part-spec : {M : Type 1} → state
     (λ c κs. search needs)
     (write-list-put-plain-requires t)
     (λ c. search needs)
-    (λ c κs. search needs)
+    (λ c κs. (And, refl))
     (write-list-put-plain-requires-2 t)
     (λ c. search needs)
     (λ c. search needs)
@@ -323,8 +335,9 @@ pub +write-exists+write-list+write-pair+write-part-spec : {M : Type 1} → state
     (write-part-write-comparison-requires t)
     (write-part-write-exists-requires t)
     (write-part-write-pair-requires t)
-    (write-part-write-null-requires t)
+    (write-part-write-mark-requires t)
     (write-part-write-list-requires t)
+    (write-part-never-requires t)
     (λ c. search needs)
     (write-part-returns t)
     (λ c. search needs)
@@ -337,3 +350,4 @@ pub +write-exists+write-list+write-pair+write-part-spec : {M : Type 1} → state
     (write-part-returns-5 t)
     (λ c. search needs)
     (write-part-returns-6 t)
+    (λ c. search needs)

@@ -1,24 +1,26 @@
 -- The numbers of a part's comparison are those of its entry.
-use mathlib.Core.Path.{ap, _∙_}
+use mathlib.Core.Path.{_∙_}
 use borrow.Author.Needs.{needs}
-use Rattle.records.specs.Code.{comparisonAs}
 use Rattle.entries.proofs.Leaves.{compare-at, compare-written}
 use Rattle.entries.proofs.write_comparison.Statement.{statement}
 use Rattle.entries.proofs.write_comparison.Tie as tie
+
+comparison-as-requires : tie.Need-comparison-as-requires
+comparison-as-requires c κs = let o = c .before .before .before in (o .pre .comparison, c .field .ensures ∙ o .pre .comparison-is)
 
 put-leaf-requires : tie.Need-put-leaf-requires
 put-leaf-requires c κs =
     let o = c .before .before .before .before .before .before .before .before .before .before in
     rw (c .before .before .before .before .before .field2 .ensures, c .before .before .before .before .field3 .ensures, c .before .before .before .field4 .ensures, c .before .before .field5 .ensures)
     (compare-at (o .pre) (o .args .negate) (o .args .unknown) _ _ (c .before .before .before .before .before .before .before .before .compare-kind .ensures)
-    (c .before .before .before .before .before .before .comparison-as .ensures ∙ ap (comparisonAs (o .args .negate)) (c .before .before .before .before .before .before .before .field .ensures)))
+    (λ op e. c .before .before .before .before .before .before .comparison-as .ensures op (c .before .before .before .before .before .before .before .field .ensures ∙ e)))
 
 returns : tie.Need-returns
 returns c =
     let o = c .before .before .before .before .before .before .before .before .before .before .before .before .before in
     let put = rw (c .before .before .before .before .before .before .before .before .field2 .ensures, c .before .before .before .before .before .before .before .field3 .ensures, c .before .before .before .before .before .before .field4 .ensures, c .before .before .before .before .before .field5 .ensures) at (c .before .before .put-leaf .ensures) in
     λ h. compare-written h (o .args .negate) (o .args .unknown) _ _ (c .before .before .before .before .before .before .before .before .before .before .before .compare-kind .ensures)
-    (c .before .before .before .before .before .before .before .before .before .comparison-as .ensures ∙ ap (comparisonAs (o .args .negate)) (c .before .before .before .before .before .before .before .before .before .before .field .ensures)) put
+    (λ op e. c .before .before .before .before .before .before .before .before .before .comparison-as .ensures op (c .before .before .before .before .before .before .before .before .before .before .field .ensures ∙ e)) put
 
 pub write-comparison-spec : {M : Type 1} → statement M
 write-comparison-spec =
@@ -26,7 +28,7 @@ write-comparison-spec =
     (tie.spec
     (λ c κs. search needs)
     (λ c κs. search needs)
-    (λ c κs. search needs)
+    comparison-as-requires
     (λ c κs. search needs)
     (λ c κs. search needs)
     (λ c κs. search needs)

@@ -1,6 +1,7 @@
 -- The functions that evaluate a part with its inner parts meet their contracts. Every inner part has a larger number, so the most parts less the number falls.
 use mathlib.Core.Path.{refl, sym, _∙_}
 use mathlib.Core.List.{List}
+use mathlib.Core.Logic.{⊎-elim}
 use Prim.Native.Nat.{ℕ, _+_, _-_, _*_, _<_}
 use native.Mathlib.Omega.{arith}
 use lib.ListN.{getD}
@@ -8,11 +9,12 @@ use borrow.Author.Needs.{needs}
 use borrow.Author.Tests.{eq-eqb, ne-eqb}
 use Rattle.tables.specs.Values.{And, Or, Some, All}
 use Rattle.rule.specs.Names.{mostParts}
-use Rattle.rule.specs.Meaning.{False, truthNumber}
+use Rattle.rule.specs.Condition.{Not}
+use Rattle.rule.specs.Meaning.{False, True, truthNumber}
+use Rattle.rule.proofs.Groups.{test-number}
 use Rattle.names.specs.Code.{partSize}
-use Rattle.evaluator.specs.Code.{quantifierOf}
-use Rattle.evaluator.proofs.Truths.{over-none-by, none-high, none-decides}
-use Rattle.evaluator.proofs.Evaluating.{RowsPassed, passed-none, passed-more, start, test-kinds, test-ready, test-evaluated, not-inner, not-room, not-evaluated, next-bounds, left-inner, right-inner, decides-join, join-stops, join-evaluated, range-bounds, row-room, exists-ranging, exists-inner, exists-true, exists-lost, exists-false, listed-ranging, outer-ready, row-ready, row-valued, listed-decides, listed-ends, row-start, selected-ready, row-lost, row-compared}
+use Rattle.evaluator.proofs.Truths.{not-rank, over-none-by, quantifierOf, none-is, none-high, none-decides}
+use Rattle.evaluator.proofs.Evaluating.{RowsPassed, passed-none, passed-more, start, kind-bounds, test-left, test-ready, test-evaluated, unary-inner, unary-room, unary-evaluated, next-bounds, left-inner, right-inner, decides-join, join-stops, join-evaluated, range-bounds, row-room, exists-ranging, exists-inner, exists-true, exists-lost, exists-false, listed-ranging, outer-ready, row-ready, row-valued, listed-decides, listed-ends, row-start, selected-ready, row-lost, row-compared}
 use borrow.Fn.Kinds.{PK, In}
 use borrow.Fn.PlainCycle.{Measures, is, falls, and}
 use Rattle.evaluator.proofs.evaluate_exists.Reads as evaluate-exists
@@ -33,6 +35,7 @@ use Rattle.evaluator.proofs.+evaluate_exists+evaluate_list+evaluate_pai
 use Rattle.evaluator.proofs.evaluate_where.Reads as evaluate-where
 use Rattle.evaluator.proofs.evaluate_where.Kinds as evaluate-where-kinds
 use Rattle.evaluator.proofs.+evaluate_exists+evaluate_list+evaluate_pair+evaluate_part+evaluate_row+evaluate_where.Lts-evaluate_where as evaluate-where-lts
+use Rattle.cells.proofs.never.Reads as never-reads
 use Rattle.cells.proofs.table_place.Reads as table-place-reads
 use Rattle.evaluator.proofs.after.Reads as after-reads
 use Rattle.evaluator.proofs.compare.Reads as compare-reads
@@ -122,7 +125,7 @@ abbrev evaluate-pair-claims : ℕ → evaluate-pair-lts.Claims
 evaluate-pair-claims t = (evaluate-part-below t, evaluate-part.Post, lesser-reads.Asked, lesser-reads.Learnt, greater-reads.Asked, greater-reads.Learnt)
 
 abbrev evaluate-part-claims : ℕ → evaluate-part-lts.Claims
-evaluate-part-claims t = (evaluate-pair-below t, evaluate-pair.Post, evaluate-part-below t, evaluate-part.Post, evaluate-exists-below t, evaluate-exists.Post, evaluate-list-below t, evaluate-list.Post, evaluate-test-reads.Asked, evaluate-test-reads.Learnt)
+evaluate-part-claims t = (evaluate-pair-below t, evaluate-pair.Post, evaluate-part-below t, evaluate-part.Post, evaluate-exists-below t, evaluate-exists.Post, evaluate-list-below t, evaluate-list.Post, evaluate-test-reads.Asked, evaluate-test-reads.Learnt, never-reads.Asked, never-reads.Learnt)
 
 abbrev evaluate-row-claims : ℕ → evaluate-row-lts.Claims
 evaluate-row-claims t = (evaluate-where-below t, evaluate-where.Post, look-reads.Asked, look-reads.Learnt, compare-reads.Asked, compare-reads.Learnt)
@@ -248,7 +251,7 @@ evaluate-list-look-requires : (t : ℕ) → evaluate-list-lts.Need-look-requires
 evaluate-list-look-requires t c κs = outer-ready (c .before .before .before .before .before .pre .1 .0) (c .before .before .before .before .before .pre .1 .1)
 
 evaluate-list-loop-holds : (t : ℕ) → evaluate-list-lts.Need-loop-holds (evaluate-list-claims t) (evaluate-list-at t) evaluate-list.Post evaluate-list-Inv-loop evaluate-list-μ-loop
-evaluate-list-loop-holds t c = passed-none _ _ _ _ _ _ _ _ (c .before .before .before .before .before .before .before .pre .1 .1 .empty-is) (c .before .before .before .before .before .before .before .pre .1 .0 .readable .standing .size)
+evaluate-list-loop-holds t c = passed-none _ _ _ _ _ _ _ _ (none-is (c .before .before .before .before .before .before .before .pre .1 .1)) (c .before .before .before .before .before .before .before .pre .1 .0 .readable .standing .size)
 
 evaluate-list-mul-v : (t : ℕ) → evaluate-list-lts.Need-mul-v (evaluate-list-claims t) (evaluate-list-at t) evaluate-list.Post evaluate-list-Inv-loop evaluate-list-μ-loop
 evaluate-list-mul-v t c = let k = c .before .before .before .before .before .before .before .before .before .before .pre .1 in let z = range-bounds (k .0) (listed-ranging (k .0) (k .1)) in omega arith
@@ -364,10 +367,10 @@ evaluate-part-add-evaluate-part : (t : ℕ) → evaluate-part-lts.Need-add-evalu
 evaluate-part-add-evaluate-part t c = let z = start (c .before .before .before .pre .1) in omega arith
 
 evaluate-part-evaluate-part-requires : (t : ℕ) → evaluate-part-lts.Need-evaluate-part-requires (evaluate-part-claims t) (evaluate-part-at t) evaluate-part.Post
-evaluate-part-evaluate-part-requires t c κs = let m = c .before .before .before .pre .0 in let z = start (c .before .before .before .pre .1) in (omega arith, not-inner (c .before .before .before .pre .1) (c .match .keys3))
+evaluate-part-evaluate-part-requires t c κs = let m = c .before .before .before .pre .0 in let z = start (c .before .before .before .pre .1) in (omega arith, unary-inner (c .before .before .before .pre .1) Not (c .match .keys3))
 
 evaluate-part-sub-result : (t : ℕ) → evaluate-part-lts.Need-sub-result (evaluate-part-claims t) (evaluate-part-at t) evaluate-part.Post
-evaluate-part-sub-result t c = let z = not-room (c .before .before .before .before .pre .1) (c .before .match .keys3) (c .evaluate-part .result) (c .evaluate-part .ensures) in omega arith
+evaluate-part-sub-result t c = let z = unary-room (c .before .before .before .before .pre .1) Not (c .before .match .keys3) (c .evaluate-part .result) (c .evaluate-part .ensures) in omega arith
 
 evaluate-part-evaluate-exists-requires : (t : ℕ) → evaluate-part-lts.Need-evaluate-exists-requires (evaluate-part-claims t) (evaluate-part-at t) evaluate-part.Post
 evaluate-part-evaluate-exists-requires t c κs = let m = c .before .before .before .pre .0 in (omega arith, (c .before .before .before .pre .1, c .match .keys4))
@@ -380,8 +383,14 @@ evaluate-part-evaluate-list-requires-2 t c κs = let m = c .before .before .befo
 
 evaluate-part-evaluate-test-requires : (t : ℕ) → evaluate-part-lts.Need-evaluate-test-requires (evaluate-part-claims t) (evaluate-part-at t) evaluate-part.Post
 evaluate-part-evaluate-test-requires t c κs =
-    let (low, high) = test-kinds (c .before .before .before .pre .1) (c .match .rest) in
-    test-ready (c .before .before .before .pre .1) low high
+    let o = c .before .before .before .before .before .pre .1 in
+    test-ready o (test-left o (c .before .before .match .rest .0 .0 .0) (c .if2 .taken))
+
+evaluate-part-never-requires : (t : ℕ) → evaluate-part-lts.Need-never-requires (evaluate-part-claims t) (evaluate-part-at t) evaluate-part.Post
+evaluate-part-never-requires t c κs =
+    let (low, high) = kind-bounds (c .before .before .before .before .pre .1) in
+    let other = c .before .match .rest in
+    ⊎-elim (λ w. omega (arith, w .taken, low)) (λ w. omega (arith, w .1 .left, high, other .1, other .0 .1, other .0 .0 .1)) (c .if1 .came)
 
 evaluate-part-returns : (t : ℕ) → evaluate-part-lts.Need-returns (evaluate-part-claims t) (evaluate-part-at t) evaluate-part.Post
 evaluate-part-returns t c = c .evaluate-pair .ensures
@@ -390,7 +399,7 @@ evaluate-part-returns-2 : (t : ℕ) → evaluate-part-lts.Need-returns-2 (evalua
 evaluate-part-returns-2 t c = c .evaluate-pair2 .ensures
 
 evaluate-part-returns-3 : (t : ℕ) → evaluate-part-lts.Need-returns-3 (evaluate-part-claims t) (evaluate-part-at t) evaluate-part.Post
-evaluate-part-returns-3 t c = λ h. not-evaluated h (c .before .match .keys3) (c .evaluate-part .result) (c .evaluate-part .ensures)
+evaluate-part-returns-3 t c = λ h. unary-evaluated h Not (c .before .match .keys3) (c .evaluate-part .result) (c .evaluate-part .ensures) (truthNumber True -_) not-rank
 
 evaluate-part-returns-4 : (t : ℕ) → evaluate-part-lts.Need-returns-4 (evaluate-part-claims t) (evaluate-part-at t) evaluate-part.Post
 evaluate-part-returns-4 t c = c .evaluate-exists .ensures
@@ -402,7 +411,11 @@ evaluate-part-returns-6 : (t : ℕ) → evaluate-part-lts.Need-returns-6 (evalua
 evaluate-part-returns-6 t c = c .evaluate-list2 .ensures
 
 evaluate-part-returns-7 : (t : ℕ) → evaluate-part-lts.Need-returns-7 (evaluate-part-claims t) (evaluate-part-at t) evaluate-part.Post
-evaluate-part-returns-7 t c = λ h. let (low, high) = test-kinds h (c .before .match .rest) in test-evaluated h low high (c .evaluate-test .result) (c .evaluate-test .ensures)
+evaluate-part-returns-7 t c = λ h.
+    test-evaluated h (test-left h (c .before .before .before .match .rest .0 .0 .0) (c .before .if2 .taken)) (c .evaluate-test .result) (c .evaluate-test .ensures)
+
+evaluate-part-returns-8 : (t : ℕ) → evaluate-part-lts.Need-returns-8 (evaluate-part-claims t) (evaluate-part-at t) evaluate-part.Post
+evaluate-part-returns-8 t c = absurd (c .never .ensures)
 
 evaluate-row-add-evaluate-where : (t : ℕ) → evaluate-row-lts.Need-add-evaluate-where (evaluate-row-claims t) (evaluate-row-at t) evaluate-row.Post
 evaluate-row-add-evaluate-where t c = let z = row-start (c .before .pre .1) in omega arith
@@ -468,13 +481,13 @@ evaluate-where-element-copy-out-kind : (t : ℕ) → evaluate-where-lts.Need-ele
 evaluate-where-element-copy-out-kind t c = let z = start (c .before .pre .1) in omega arith
 
 evaluate-where-evaluate-test-requires : (t : ℕ) → evaluate-where-lts.Need-evaluate-test-requires (evaluate-where-claims t) (evaluate-where-at t) evaluate-where.Post
-evaluate-where-evaluate-test-requires t c κs = test-ready (c .before .before .before .before .pre .1) (c .before .if1 .left) (omega (arith, c .if2 .taken))
+evaluate-where-evaluate-test-requires t c κs = test-ready (c .before .before .before .before .pre .1) (test-number _ (c .before .if1 .left) (omega (arith, c .if2 .taken)))
 
 evaluate-where-evaluate-part-requires : (t : ℕ) → evaluate-where-lts.Need-evaluate-part-requires (evaluate-where-claims t) (evaluate-where-at t) evaluate-where.Post
 evaluate-where-evaluate-part-requires t c κs = let m = c .before .before .before .pre .0 in let z = start (c .before .before .before .pre .1) in (omega arith, c .before .before .before .pre .1)
 
 evaluate-where-returns : (t : ℕ) → evaluate-where-lts.Need-returns (evaluate-where-claims t) (evaluate-where-at t) evaluate-where.Post
-evaluate-where-returns t c = λ h. test-evaluated h (c .before .before .if1 .left) (omega (arith, c .before .if2 .taken)) (c .evaluate-test .result) (c .evaluate-test .ensures)
+evaluate-where-returns t c = λ h. test-evaluated h (test-number _ (c .before .before .if1 .left) (omega (arith, c .before .if2 .taken))) (c .evaluate-test .result) (c .evaluate-test .ensures)
 
 evaluate-where-returns-2 : (t : ℕ) → evaluate-where-lts.Need-returns-2 (evaluate-where-claims t) (evaluate-where-at t) evaluate-where.Post
 evaluate-where-returns-2 t c = c .evaluate-part .ensures
@@ -574,13 +587,15 @@ pub +evaluate-exists+evaluate-list+evaluate-pair+evaluate-part+evaluate-row+eval
     (evaluate-part-evaluate-list-requires t)
     (evaluate-part-evaluate-list-requires-2 t)
     (evaluate-part-evaluate-test-requires t)
+    (evaluate-part-never-requires t)
     (evaluate-part-returns t)
     (evaluate-part-returns-2 t)
     (evaluate-part-returns-3 t)
     (evaluate-part-returns-4 t)
     (evaluate-part-returns-5 t)
     (evaluate-part-returns-6 t)
-    (evaluate-part-returns-7 t))
+    (evaluate-part-returns-7 t)
+    (evaluate-part-returns-8 t))
     (λ t. evaluate-row-lts.spec (evaluate-row-claims t)
     (evaluate-row-at t)
     evaluate-row.Post

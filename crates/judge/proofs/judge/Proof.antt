@@ -26,7 +26,7 @@ places-requires c κs =
     let parse = c .before .before .before .parse in
     let told = parse .ensures .1 .0 in
     let is = c .before .enum-told .given .1 in
-    (file-sized (c .before .before .before .before .before .before .before .args .text .now) _ (c .before .before .before .before .before .before .before .args .row) (parse .result) (parse .last .1 .1 .0) _ told is, refl)
+    (file-sized (c .before .before .before .before .before .before .before .args .text .now) _ (c .before .before .before .before .before .before .before .args .row) (parse .result) (parse .last .1 .1 .0) _ _ told is, refl)
 
 table-place-requires : tie.Need-table-place-requires
 table-place-requires c κs = search needs
@@ -36,7 +36,7 @@ returns-2 c =
     let parse = c .before .before .before .before .before .before .before .before .parse in
     let told = parse .ensures .1 .0 in
     let is = c .before .before .before .before .before .before .enum-told .given .1 in
-    judge-no-row _ _ _ (parse .result) (parse .last .1 .1 .0) _ told is _ (c .before .before .before .before .places .ensures) (c .before .before .table-place .ensures) (c .if1 .taken)
+    judge-no-row _ _ _ (parse .result) (parse .last .1 .1 .0) _ _ told is _ (c .before .before .before .before .places .ensures) (c .before .before .table-place .ensures) (c .if1 .taken)
 
 mul-t17 : tie.Need-mul-t17
 mul-t17 c =
@@ -44,14 +44,14 @@ mul-t17 c =
     let told = parse .ensures .1 .0 in
     let is = c .before .before .before .before .before .before .before .enum-told .given .1 in
     let args = c .before .before .before .before .before .before .before .before .before .before .before .before .before .args in
-    omega (arith, judge-room (args .text .now) (args .file .now) (args .row) (parse .result) (parse .last .1 .1 .0) _ told is _ (c .before .before .before .before .before .places .ensures) (c .before .before .before .table-place .ensures) (c .before .if1 .left))
+    omega (arith, judge-room (args .text .now) (args .file .now) (args .row) (parse .result) (parse .last .1 .1 .0) _ _ told is _ (c .before .before .before .before .before .places .ensures) (c .before .before .before .table-place .ensures) (c .before .if1 .left))
 
 evaluate-part-requires : tie.Need-evaluate-part-requires
 evaluate-part-requires c κs =
     let parse = c .before .before .before .before .before .before .before .before .before .before .before .before .parse in
     let told = parse .ensures .1 .0 in
     let is = c .before .before .before .before .before .before .before .before .before .before .enum-told .given .1 in
-    whole-rule _ _ _ (parse .result) (parse .last .1 .1 .0) _ told is _ (c .before .before .before .before .before .before .before .before .places .ensures) (c .before .before .before .before .before .before .table-place .ensures) (c .before .before .before .before .if1 .left) (parse .ensures .1 .1)
+    whole-rule _ _ _ (parse .result) (parse .last .1 .1 .0) _ _ told is _ (c .before .before .before .before .before .before .before .before .places .ensures) (c .before .before .before .before .before .before .table-place .ensures) (c .before .before .before .before .if1 .left) (parse .ensures .1 .1)
 
 judged-by-requires : tie.Need-judged-by-requires
 judged-by-requires c κs = search needs
@@ -61,7 +61,7 @@ returns-3 c =
     let parse = c .before .before .before .before .before .before .before .before .before .before .before .before .before .before .parse in
     let told = parse .ensures .1 .0 in
     let is = c .before .before .before .before .before .before .before .before .before .before .before .before .enum-told .given .1 in
-    judge-given _ _ _ (parse .result) (parse .last .1 .1 .0) _ told is _ (c .before .before .before .before .before .before .before .before .before .before .places .ensures) (c .before .before .before .before .before .before .before .before .table-place .ensures) (c .before .before .before .before .before .before .if1 .left) (parse .ensures .1 .1) (c .before .evaluate-part .result) (c .before .evaluate-part .ensures) _ (c .judged-by .ensures)
+    judge-given _ _ _ (parse .result) (parse .last .1 .1 .0) _ _ told is _ (c .before .before .before .before .before .before .before .before .before .before .places .ensures) (c .before .before .before .before .before .before .before .before .table-place .ensures) (c .before .before .before .before .before .before .if1 .left) (parse .ensures .1 .1) (c .before .evaluate-part .result) (c .before .evaluate-part .ensures) _ (c .judged-by .ensures)
 
 pub judge-spec : {M : Type 1} → statement M
 judge-spec =

@@ -13,7 +13,7 @@ mul-b c = search needs
 test-part-requires : tie.Need-test-part-requires
 test-part-requires c κs =
     let o = c .before .before .pre in
-    (o .0 .sized, (note-room (o .0), (o .0 .scope-fits, o .1 .1)))
+    (o .0 .sized, (note-room (o .0), (o .0 .scope-fits, o .1)))
 
 enum-known-part : tie.Need-enum-known-part
 enum-known-part c = search needs

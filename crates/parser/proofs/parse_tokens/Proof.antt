@@ -7,6 +7,8 @@ use lib.ListN.{length}
 use Rattle.rule.specs.Tokens.{opensFit}
 use Rattle.lexer.specs.Code.{tokensIn}
 use Rattle.grammar.specs.Code.{notesSize, WholeReading}
+use Rattle.parts.specs.Code.{Countable, CountedTo}
+use Rattle.parser.specs.Code.{TokensParsing}
 use borrow.Author.Tests.{not-true, not-false}
 use Rattle.parser.proofs.Groups.{unfit-brackets, unread, read-whole, ungrammatical, too-many, too-deep, nameable, unnamed, parsed-tokens}
 use borrow.Author.Needs.{needs}
@@ -82,13 +84,24 @@ returns-5 c =
       named .ensures .1,
     )
 
+-- once the names are found
+module _ (g : tie.Else4) where
+  abbrev read : tie.After-count
+  read = g .before .before .before .before .before .before
+
+  abbrev new : List ℕ
+  new = g .before .name-noted .last .1 .1 .0
+
+  found : let n = read .count .given .0 .1 .0 in Countable new n × ((m : ℕ) → CountedTo new n m → TokensParsing (tokens read) (file read) new n m)
+  found =
+      let named = g .before .name-noted in
+      parsed-tokens (tokens read) (file read) (fits read) _ _ _ (whole read) (start read .pre .1 .0) (size read) (g .before .before .before .before .if2 .left) (g .before .before .before .if3 .left) new (named .result) (not-false (named .result) (g .if4 .left)) (named .ensures .1) (named .ensures .0)
+
+count-entries-requires : tie.Need-count-entries-requires
+count-entries-requires c κs = found (c .before) .0
+
 returns-6 : tie.Need-returns-6
-returns-6 c =
-    let f = c .before .before .before .before .before .before in
-    let named = c .before .name-noted in (
-      parsed-tokens (tokens f) (file f) (fits f) _ _ _ (whole f) (start f .pre .1 .0) (size f) (c .before .before .before .before .if2 .left) (c .before .before .before .if3 .left) (named .last .1 .1 .0) (named .result) (not-false (named .result) (c .if4 .left)) (named .ensures .1) (named .ensures .0),
-      named .ensures .1,
-    )
+returns-6 c = let g = c .before .before in (found g .1 (c .count-entries .result) (c .count-entries .ensures), g .before .name-noted .ensures .1)
 
 pub parse-tokens-spec : {M : Type 1} → statement M
 parse-tokens-spec =
@@ -104,4 +117,5 @@ parse-tokens-spec =
     returns-4
     name-noted-requires
     returns-5
+    count-entries-requires
     returns-6)

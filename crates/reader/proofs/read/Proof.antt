@@ -51,7 +51,7 @@ use Rattle.rule.specs.declared.Part.{Part}
 use Rattle.rule.specs.Calls.{readCall}
 use Rattle.rule.proofs.Part as T
 use Rattle.names.specs.Code.{partSize, partsSize}
-use Rattle.parser.specs.Parts.{partsIn, SmallParts}
+use Rattle.parts.specs.Parts.{partsIn, SmallParts}
 use Rattle.reader.specs.Answers.{readAnswer}
 use Rattle.reader.specs.Code.{storedBy, ReadTo}
 use Rattle.reader.specs.declared.Reading.{Reading}

@@ -56,7 +56,7 @@ use Rattle.rule.specs.declared.Part.{Part}
 use Rattle.rule.proofs.Part as T
 use Rattle.rule.proofs.Part.Laws as T′
 use Rattle.names.specs.Code.{partSize}
-use Rattle.parser.specs.Parts.{partIn, partsIn, SmallPart, SmallParts}
+use Rattle.parts.specs.Parts.{partIn, partsIn, SmallPart, SmallParts}
 use Rattle.reader.proofs.Storing.{stored-list, stored-length, stored-next}
 use Rattle.reader.proofs.part_at as part-at
 use Rattle.reader.proofs.part_at.Symbol as part-at-def

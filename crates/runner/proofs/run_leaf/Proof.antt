@@ -1,6 +1,6 @@
 -- `runner::run_leaf` meets its contract: it looks at one value or two, and answers by the kind.
 use borrow.Author.Needs.{needs}
-use Rattle.runner.proofs.Running.{left-ready, right-ready, compare-answer, blank-answer, not-blank-answer}
+use Rattle.runner.proofs.Running.{comparison-here, mark-here, left-ready, right-ready, compare-answer, mark-answer}
 use Rattle.runner.proofs.run_leaf.Statement.{statement}
 use Rattle.runner.proofs.run_leaf.Tie as tie
 
@@ -8,23 +8,25 @@ look-requires : tie.Need-look-requires
 look-requires c κs = left-ready (c .before .before .before .before .before .pre)
 
 look-requires-2 : tie.Need-look-requires-2
-look-requires-2 c κs = right-ready (c .before .before .before .before .before .before .before .before .before .pre) (c .before .before .if1 .taken)
+look-requires-2 c κs = let p = c .before .before .before .before .before .before .before .before .before .before .pre in right-ready p (comparison-here p (c .before .before .before .is-comparison .ensures) (c .before .before .if1 .taken))
+
+unknown-says-requires : tie.Need-unknown-says-requires
+unknown-says-requires c κs = comparison-here (c .before .before .before .before .before .before .before .before .before .before .before .pre) (c .before .before .before .before .is-comparison .ensures) (c .before .before .before .if1 .taken)
 
 returns : tie.Need-returns
 returns c = λ h.
-    let k = c .before .before .before .before .before .if1 .taken in
-    compare-answer h (c .before .before .before .before .before .before .look .result)
-    (c .before .before .before .before .before .before .look .ensures (left-ready h)) k (c .before .before .look2 .result) _
-    (c .before .before .look2 .ensures (right-ready h k)) (c .cells-hold .ensures)
+    let l = c .before .before .before .before .before .before .before .before .look in
+    let k = comparison-here h (c .before .before .before .before .before .before .before .is-comparison .ensures) (c .before .before .before .before .before .before .if1 .taken) in
+    let r = c .before .before .before .look2 in
+    compare-answer h (l .result) (l .ensures (left-ready h)) k (r .result) _ _ (r .ensures (right-ready h k)) (c .before .before .unknown-says .ensures) (c .cells-hold .ensures)
+
+asks-blank-requires : tie.Need-asks-blank-requires
+asks-blank-requires c κs = mark-here (c .before .before .before .before .before .before .before .before .pre) (c .before .is-comparison .ensures) (c .if1 .left)
 
 returns-2 : tie.Need-returns-2
 returns-2 c = λ h.
-    blank-answer h (c .before .before .look .result) (c .before .before .look .ensures (left-ready h)) (c .if2 .taken)
-
-returns-3 : tie.Need-returns-3
-returns-3 c = λ h.
-    not-blank-answer h (c .before .before .before .look .result) (c .before .before .before .look .ensures (left-ready h))
-    (c .before .before .if1 .left) (c .before .if2 .left)
+    let l = c .before .before .before .before .look in
+    mark-answer h (l .result) (l .ensures (left-ready h)) (mark-here h (c .before .before .before .is-comparison .ensures) (c .before .before .if1 .left)) _ (c .before .asks-blank .ensures)
 
 pub run-leaf-spec : {M : Type 1} → statement M
 run-leaf-spec =
@@ -42,6 +44,7 @@ run-leaf-spec =
     (λ c. search needs)
     (λ c. search needs)
     look-requires
+    (λ c κs. search needs)
     (λ c. search needs)
     (λ c. search needs)
     (λ c. search needs)
@@ -51,11 +54,12 @@ run-leaf-spec =
     (λ c. search needs)
     (λ c. search needs)
     look-requires-2
+    unknown-says-requires
     (λ c. search needs)
     (λ c. search needs)
     (λ c. search needs)
     (λ c. search needs)
     (λ c κs. search needs)
     returns
-    returns-2
-    returns-3)
+    asks-blank-requires
+    returns-2)

@@ -1,6 +1,6 @@
 -- The parts of a rule that fits its tables have small numbers; and numbers that are noted as naturals come back as they are published.
 use mathlib.Core.Path.{_≡_, refl, sym, ap, ap₂, subst, _∙_}
-use mathlib.Core.Bool.{Bool, true, false}
+use mathlib.Core.Bool.{Bool, true, false, cond}
 use mathlib.Core.List.{List, [], _∷_, _++_, append-assoc, append-nil}
 use mathlib.Core.Logic.{⊎-elim}
 use Prim.Native.Nat.{ℕ, zero, suc, _+_, _*_, _<_, _≤_}
@@ -9,21 +9,23 @@ use native.Mathlib.Omega.{arith}
 use borrow.Author.Tests.{ne-eqb, ltb-true, ltb-false}
 use lib.Dec.{eqb, ltb}
 use lib.IntN.{ℤ}
-use lib.ListN.{length, getD, take, drop, length-append, List·getD-eq-default}
+use lib.ListN.{length, getD, take, drop, List·getD-eq-default}
 use Rattle.tables.specs.Lists.{numbered}
 use Rattle.tables.specs.Tables.{tableCount, columnsOf}
-use Rattle.tables.specs.Values.{constantTag, Value, Constant, Column, Comparison, Eq, Ne, Lt, Le, Gt, Ge, comparisonNumber}
+use Rattle.tables.specs.Values.{constantTag, Value, Constant, Column, unusedValue, Comparison, Eq, Ne, Lt, Le, Gt, Ge, comparisonNumber}
 use Rattle.tables.proofs.Tests.{bounds}
 use Rattle.tables.proofs.Sizes.{columns-count, column-at}
 use Rattle.cells.specs.Code.{Sized}
-use Rattle.rule.specs.Condition.{Compare, IsNull, IsNotNull, Atom, Join, Not, Exists, Listed, Rule, parts, fromsDeep}
-use Rattle.rule.specs.Names.{ValueFits, Fits}
-use Rattle.rule.specs.Parts.{taggedOf, unused, Head, JoinHead, NotHead, ExistsHead, ListedHead, compareKind, nullKind, notNullKind, kindOf, partWith, partsFrom}
+use Rattle.rule.specs.Condition.{Compare, Mark, From, Single, Atom, Join, Apply, Exists, Listed, Rule, parts, fromsDeep}
+use Rattle.rule.specs.Names.{within, ValueFits, FromFits, Fits}
+use Rattle.rule.specs.Parts.{taggedOf, Kind, JoinKind, UnaryKind, CompareKind, MarkKind, ExistsKind, ListKind, uses, tableOf, partWith, anyFrom, anyValue, partsFrom}
+use Rattle.rule.proofs.Fits.{within-length}
+use Rattle.rule.proofs.Groups.{kind-bounds}
 use Rattle.rule.specs.declared.TaggedValue.{TaggedValue}
 use Rattle.rule.specs.declared.Part.{Part}
 use Rattle.names.specs.Code.{partSize, partsNumbers}
-use Rattle.parser.specs.Parts.{PartAt, signedOf, taggedFrom, partIn, partsIn, Signable, SmallPart}
-use Rattle.parser.proofs.Parts.{heldNumber, one-from, kind-bounds, part-kind, part-comparison, part-table, part-end, part-left-tag, part-left-number, part-right-tag, part-right-number}
+use Rattle.parts.specs.Parts.{PartAt, signedOf, taggedFrom, partIn, partsIn, Signable, SmallPart}
+use Rattle.parts.proofs.Parts.{heldNumber, one-from, part-kind, part-comparison, part-table, part-end, part-left-tag, part-left-number, part-right-tag, part-right-number}
 use Rattle.cells.proofs.Signed.{from-to, excess-small}
 
 pub record SmallValue (v : TaggedValue) : Type 0 where
@@ -49,13 +51,6 @@ each-append (p ∷ ps) qs f g = (f .0, each-append ps qs (f .1) g)
 
 -- ---- the parts of a rule
 
-unused-small : SmallValue unused
-unused-small =
-    record { tag-small = omega arith; signable = record { whole = omega arith; column = λ f. omega arith }; back = refl }
-
-kind-small : (x : Head) → kindOf x < 256
-kind-small x = omega (arith, kind-bounds x)
-
 pub comparison-small : (op : Comparison) → comparisonNumber op < 256
 comparison-small Eq = omega arith
 comparison-small Ne = omega arith
@@ -64,13 +59,36 @@ comparison-small Le = omega arith
 comparison-small Gt = omega arith
 comparison-small Ge = omega arith
 
-with-small : (k e op t : ℕ) (l r : TaggedValue) → k < 256 → e < 256 → op < 256 → t < 256 → SmallValue l → SmallValue r → SmallFields (partWith k op t e l r)
-with-small k e op t l r hk he ho ht hl hr =
-    record { kind-small = hk; comparison-small = ho; table-small = ht; end-small = he; left-small = hl; right-small = hr }
+-- what a kind does not use is 0
+used-small : (b : Bool) (n : ℕ) → n < 256 → cond b n 0 < 256
+used-small true n h = h
+used-small false n h = omega arith
 
--- a part without values
-plain-small : (x : Head) (e t : ℕ) → e < 256 → t < 256 → SmallFields (partWith (kindOf x) 0 t e unused unused)
-plain-small x e t h g = with-small (kindOf x) e 0 t unused unused (kind-small x) h (omega arith) g unused-small unused-small
+unused-small : SmallValue (taggedOf unusedValue)
+unused-small = record { tag-small = omega arith; signable = record { whole = omega arith; column = λ f. omega arith }; back = refl }
+
+any-small : SmallValue (taggedOf anyValue)
+any-small = record { tag-small = omega arith; signable = record { whole = omega arith; column = λ f. absurd (f refl) }; back = refl }
+
+used-value-small : (b : Bool) (v : Value) → SmallValue (taggedOf v) → SmallValue (taggedOf (cond b v unusedValue))
+used-value-small true v h = h
+used-value-small false v h = unused-small
+
+with-small : (k : Kind) (e : ℕ) (op : Comparison) (f : From ℕ) (l r : Value) → e < 256 → tableOf f < 256 → SmallValue (taggedOf l) → SmallValue (taggedOf r)
+    → SmallFields (partWith k e op f l r)
+with-small k e op f l r he hf hl hr =
+    record {
+      kind-small = omega (arith, kind-bounds k);
+      comparison-small = used-small (uses k .comparison) (comparisonNumber op) (comparison-small op);
+      table-small = used-small (uses k .table) (tableOf f) hf;
+      end-small = he;
+      left-small = used-value-small (uses k .left) l hl;
+      right-small = used-value-small (uses k .right) r hr;
+    }
+
+-- a part that says no more than its kind
+plain-small : (k : Kind) (e : ℕ) → e < 256 → SmallFields (partWith k e Eq anyFrom anyValue anyValue)
+plain-small k e h = with-small k e Eq anyFrom anyValue anyValue h (omega arith) any-small any-small
 
 module _ (columns : List ℕ) (few : length columns < 256) (narrow : (t : ℕ) → numbered columns t 0 < 256) where
   value-small : (levels : List ℕ) (v : Value) → length levels < constantTag → ValueFits columns levels v → SmallValue (taggedOf v)
@@ -91,36 +109,36 @@ module _ (columns : List ℕ) (few : length columns < 256) (narrow : (t : ℕ) �
         back = rw other;
       }
 
+  table-small : (f : From ℕ) → FromFits columns f → tableOf f < 256
+  table-small (Single t) h = omega (arith, bounds 1 (length columns) t h)
+
   -- with so many levels around it, from part k on
   pub rule-small : (r : Rule) (k : ℕ) (levels : List ℕ) → k + parts r < 256 → length levels + fromsDeep r < constantTag → Fits columns levels r → EachSmall (partsFrom k r)
   unfolding partsFrom parts fromsDeep Fits
-  rule-small (Atom (Compare op x y)) k levels h d f =
-      let l = value-small levels x (omega arith) (f .0) in
-      let r = value-small levels y (omega arith) (f .1) in
-      (with-small compareKind (k + 1) (comparisonNumber op) 0 _ _ (omega arith) (omega arith) (comparison-small op) (omega arith) l r, tt)
-  rule-small (Atom (IsNull x)) k levels h d f =
-      let l = value-small levels x (omega arith) f in
-      (with-small nullKind (k + 1) 0 0 _ _ (omega arith) (omega arith) (omega arith) (omega arith) l unused-small, tt)
-  rule-small (Atom (IsNotNull x)) k levels h d f =
-      let l = value-small levels x (omega arith) f in
-      (with-small notNullKind (k + 1) 0 0 _ _ (omega arith) (omega arith) (omega arith) (omega arith) l unused-small, tt)
-  rule-small (Join j a b) k levels h d f = (
-    plain-small (JoinHead j) _ 0 (omega arith) (omega arith),
-    each-append (partsFrom (k + 1) a) _ (rule-small a (k + 1) levels (omega arith) (omega arith) (f .0))
-        (rule-small b (k + 1 + parts a) levels (omega arith) (omega arith) (f .1)),
+  rule-small (Atom (Compare op x y)) k levels h d c =
+      let l = value-small levels x (omega arith) (c .0) in
+      let r = value-small levels y (omega arith) (c .1) in
+      (with-small CompareKind (k + 1) op anyFrom x y (omega arith) (omega arith) l r, tt)
+  rule-small (Atom (Mark m x)) k levels h d c =
+      let l = value-small levels x (omega arith) c in
+      (with-small (MarkKind m) (k + 1) Eq anyFrom x anyValue (omega arith) (omega arith) l any-small, tt)
+  rule-small (Join j a b) k levels h d c = (
+    plain-small (JoinKind j) _ (omega arith),
+    each-append (partsFrom (k + 1) a) _ (rule-small a (k + 1) levels (omega arith) (omega arith) (c .0))
+        (rule-small b (k + 1 + parts a) levels (omega arith) (omega arith) (c .1)),
   )
-  rule-small (Not a) k levels h d f = (plain-small NotHead _ 0 (omega arith) (omega arith), rule-small a (k + 1) levels (omega arith) (omega arith) f)
-  rule-small (Exists t w) k levels h d f =
-      let table = bounds 1 (length columns) t (f .0) .1 in
-      let deeper = length-append levels (t ∷ []) in
-      (plain-small (ExistsHead t) _ t (omega arith) (omega arith), rule-small w (k + 1) (levels ++ (t ∷ [])) (omega arith) (omega arith) (f .1))
-  rule-small (Listed q op x y t w) k levels h d f =
-      let table = bounds 1 (length columns) t (f .0) .1 in
-      let deeper = length-append levels (t ∷ []) in
-      let l = value-small levels x (omega arith) (f .1) in
-      let r = value-small (levels ++ (t ∷ [])) y (omega arith) (f .2) in (
-        with-small (kindOf (ListedHead q op x y t)) _ _ t _ _ (kind-small (ListedHead q op x y t)) (omega arith) (comparison-small op) (omega arith) l r,
-        rule-small w (k + 1) (levels ++ (t ∷ [])) (omega arith) (omega arith) (f .3),
+  rule-small (Apply u a) k levels h d c = (plain-small (UnaryKind u) _ (omega arith), rule-small a (k + 1) levels (omega arith) (omega arith) c)
+  rule-small (Exists f w) k levels h d c =
+      let deeper = within-length levels (length levels) f refl in (
+        with-small ExistsKind _ Eq f anyValue anyValue (omega arith) (table-small f (c .0)) any-small any-small,
+        rule-small w (k + 1) (within levels f) (omega arith) (omega arith) (c .1),
+      )
+  rule-small (Listed q op x y f w) k levels h d c =
+      let deeper = within-length levels (length levels) f refl in
+      let l = value-small levels x (omega arith) (c .1) in
+      let r = value-small (within levels f) y (omega arith) (c .2) in (
+        with-small (ListKind q) _ op f x y (omega arith) (table-small f (c .0)) l r,
+        rule-small w (k + 1) (within levels f) (omega arith) (omega arith) (c .3),
       )
 
 -- a valid file's tables are few and narrow
@@ -141,8 +159,10 @@ module _ (file : List ℕ) (sized : Sized file) where
 
 -- ---- parts in an array
 
-same-part : {k c t e k′ c′ t′ e′ : ℕ} {l r l′ r′ : TaggedValue} → k ≡ k′ → c ≡ c′ → t ≡ t′ → e ≡ e′ → l ≡ l′ → r ≡ r′
-    → partWith k c t e l r ≡ partWith k′ c′ t′ e′ l′ r′
+abbrev made : (k c t e : ℕ) (l r : TaggedValue) → Part
+made k c t e l r = record { kind = k; comparison = c; table = t; end = e; left = l; right = r }
+
+same-part : {k c t e k′ c′ t′ e′ : ℕ} {l r l′ r′ : TaggedValue} → k ≡ k′ → c ≡ c′ → t ≡ t′ → e ≡ e′ → l ≡ l′ → r ≡ r′ → made k c t e l r ≡ made k′ c′ t′ e′ l′ r′
 same-part a b c d e f = cc
 
 -- a value from its two numbers

@@ -1,33 +1,34 @@
 -- The parts of a rule that stand in an array: from a list of their numbers, what each number is, and which rule it is by its kind.
 use mathlib.Core.Path.{_≡_, refl, sym, ap, subst, _∙_}
 use mathlib.Core.Bool.{cond}
-use mathlib.Core.List.{List, [], _∷_, _++_}
+use mathlib.Core.List.{List, [], _++_}
 use mathlib.Core.Logic.{⊎-elim}
 use Prim.Native.Nat.{ℕ, _+_, _*_, _≤_}
-use native.Mathlib.Nat.{eq-or-lt-of-le}
 use native.Mathlib.Omega.{arith}
 use lib.Dec.{eqb}
 use lib.ListN.{length, getD, take, drop, length-append, length-take}
 use lib.Seq.{take-take, take-at, drop-at, take-add, drop-drop, getD-take, getD-drop, length-take-le}
-use Rattle.tables.specs.Values.{constantTag, Value, Comparison, Connective, And, Or, Quantifier, Some, All}
+use Rattle.tables.specs.Values.{constantTag, Value, Comparison, Connective, And, Quantifier, MarkTest}
 use Rattle.cells.specs.Code.{toExcess}
-use Rattle.rule.specs.Condition.{Test, Compare, IsNull, IsNotNull, Atom, Join, Not, Exists, Listed, Rule, parts}
-use Rattle.rule.specs.Parts.{Head, AtomHead, JoinHead, NotHead, ExistsHead, ListedHead, joinKind, notKind, compareKind, nullKind, notNullKind, existsKind, listKind, kindOf, partOf, naturalOf, partsFrom, partsOf}
+use Rattle.rule.specs.Condition.{Test, Compare, Mark, Unary, From, Atom, Join, Apply, Exists, Listed, Rule, parts}
+use Rattle.rule.specs.Parts.{Kind, JoinKind, UnaryKind, CompareKind, MarkKind, ExistsKind, ListKind, joinKind, compareKind, existsKind, kindNumber, Head, AtomHead, JoinHead, UnaryHead, ExistsHead, ListedHead, kindOf, partOf, naturalOf, partsFrom, partsOf}
+use Rattle.rule.specs.Groups.{lastKind, JoinNumber, UnaryNumber, MarkNumber, TestNumber, ListNumber}
 use Rattle.rule.specs.declared.TaggedValue.{TaggedValue}
 use Rattle.rule.specs.declared.Part.{Part}
 use Rattle.rule.proofs.Parts.{parts-length}
+use Rattle.rule.proofs.Groups.{same-kind, kind-bounds}
 use Rattle.names.specs.Code.{partSize, partComparison, partTable, partEnd, partLeftTag, partLeftNumber, partRightTag, partRightNumber, partNumbers, partsNumbers}
 use Rattle.names.proofs.Placing.{numbers-both, parts-numbers-length}
-use Rattle.parser.specs.Parts.{PartAt, Stands}
+use Rattle.parts.specs.Parts.{PartAt, Stands}
 
 -- a rule has a part
 pub parts-low : (r : Rule) → 1 ≤ parts r
 unfolding parts
 parts-low (Atom x) = omega arith
 parts-low (Join j a b) = omega arith
-parts-low (Not a) = omega arith
-parts-low (Exists t w) = omega arith
-parts-low (Listed q op l s t w) = omega arith
+parts-low (Apply u a) = omega arith
+parts-low (Exists f w) = omega arith
+parts-low (Listed q op l s f w) = omega arith
 
 -- a value's number as it is noted
 abbrev pub heldNumber : TaggedValue → ℕ
@@ -87,9 +88,9 @@ module _ (p : List ℕ) where
       one-from s (parts a + parts b) _ (partsFrom (s + 1) a ++ partsFrom (s + 1 + parts a) b) (ap (λ (m : ℕ). take (partSize * m) (drop (partSize * s) p)) z ∙ e) in
       let (left, right) = two-from (s + 1) a b inner in
       (here, stands-from a (s + 1) left, stands-from b (s + 1 + parts a) right)
-  stands-from (Not a) s e = let (here, inner) = one-from s (parts a) _ (partsFrom (s + 1) a) e in (here, stands-from a (s + 1) inner)
-  stands-from (Exists t w) s e = let (here, inner) = one-from s (parts w) _ (partsFrom (s + 1) w) e in (here, stands-from w (s + 1) inner)
-  stands-from (Listed q op l r t w) s e = let (here, inner) = one-from s (parts w) _ (partsFrom (s + 1) w) e in (here, stands-from w (s + 1) inner)
+  stands-from (Apply u a) s e = let (here, inner) = one-from s (parts a) _ (partsFrom (s + 1) a) e in (here, stands-from a (s + 1) inner)
+  stands-from (Exists f w) s e = let (here, inner) = one-from s (parts w) _ (partsFrom (s + 1) w) e in (here, stands-from w (s + 1) inner)
+  stands-from (Listed q op l r f w) s e = let (here, inner) = one-from s (parts w) _ (partsFrom (s + 1) w) e in (here, stands-from w (s + 1) inner)
 
   -- a whole rule
   pub rule-stands : (r : Rule) → take (partSize * parts r) p ≡ partsNumbers (partsOf r) → Stands p 0 r
@@ -101,29 +102,17 @@ module _ (p : List ℕ) where
 abbrev pub headOf : Rule → Head
 headOf (Atom x) = AtomHead x
 headOf (Join j a b) = JoinHead j
-headOf (Not a) = NotHead
-headOf (Exists t w) = ExistsHead t
-headOf (Listed q op l s t w) = ListedHead q op l s t
+headOf (Apply u a) = UnaryHead u
+headOf (Exists f w) = ExistsHead f
+headOf (Listed q op l s f w) = ListedHead q op l s f
 
-part-of : (e : ℕ) (x : Head) → (partOf e x .kind ≡ kindOf x) × (partOf e x .end ≡ e)
+part-of : (e : ℕ) (x : Head) → (partOf e x .kind ≡ kindNumber (kindOf x)) × (partOf e x .end ≡ e)
 part-of e (AtomHead (Compare op l r)) = (refl, refl)
-part-of e (AtomHead (IsNull l)) = (refl, refl)
-part-of e (AtomHead (IsNotNull l)) = (refl, refl)
+part-of e (AtomHead (Mark m l)) = (refl, refl)
 part-of e (JoinHead j) = (refl, refl)
-part-of e NotHead = (refl, refl)
-part-of e (ExistsHead t) = (refl, refl)
-part-of e (ListedHead q op l s t) = (refl, refl)
-
-pub kind-bounds : (x : Head) → (joinKind And ≤ kindOf x) × (kindOf x ≤ listKind All)
-kind-bounds (JoinHead And) = (omega arith, omega arith)
-kind-bounds (JoinHead Or) = (omega arith, omega arith)
-kind-bounds NotHead = (omega arith, omega arith)
-kind-bounds (AtomHead (Compare op l r)) = (omega arith, omega arith)
-kind-bounds (AtomHead (IsNull l)) = (omega arith, omega arith)
-kind-bounds (AtomHead (IsNotNull l)) = (omega arith, omega arith)
-kind-bounds (ExistsHead t) = (omega arith, omega arith)
-kind-bounds (ListedHead Some op l s t) = (omega arith, omega arith)
-kind-bounds (ListedHead All op l s t) = (omega arith, omega arith)
+part-of e (UnaryHead u) = (refl, refl)
+part-of e (ExistsHead f) = (refl, refl)
+part-of e (ListedHead q op l s f) = (refl, refl)
 
 module _ {p : List ℕ} {s : ℕ} {x : Part} (at : PartAt p s x) where
   pub part-kind : getD p (partSize * s) 0 ≡ x .kind
@@ -155,11 +144,11 @@ module _ (p : List ℕ) (s : ℕ) where
   unfolding Stands parts
   first-part (Atom x) h = h
   first-part (Join j a b) h = h .0
-  first-part (Not a) h = h .0
-  first-part (Exists t w) h = h .0
-  first-part (Listed q op l r t w) h = h .0
+  first-part (Apply u a) h = h .0
+  first-part (Exists f w) h = h .0
+  first-part (Listed q op l r f w) h = h .0
 
-  pub kind-stands : (r : Rule) → Stands p s r → getD p (partSize * s) 0 ≡ kindOf (headOf r)
+  pub kind-stands : (r : Rule) → Stands p s r → getD p (partSize * s) 0 ≡ kindNumber (kindOf (headOf r))
   kind-stands r h = part-kind (first-part r h) ∙ part-of (s + parts r) (headOf r) .0
 
   pub end-stands : (r : Rule) → Stands p s r → getD p (partSize * s + partEnd) 0 ≡ s + parts r
@@ -180,138 +169,99 @@ module _ (p : List ℕ) (s : ℕ) where
     pub is : r ≡ Atom (Compare op left right)
     pub here : PartAt p s (partOf (s + 1) (AtomHead (Compare op left right)))
 
-  pub record IsBlankTest (r : Rule) : Type 0 where
+  pub record IsMark (m : MarkTest) (r : Rule) : Type 0 where
     pub left : Value
-    pub is : r ≡ Atom (IsNull left)
-    pub here : PartAt p s (partOf (s + 1) (AtomHead (IsNull left)))
-
-  pub record IsPresentTest (r : Rule) : Type 0 where
-    pub left : Value
-    pub is : r ≡ Atom (IsNotNull left)
-    pub here : PartAt p s (partOf (s + 1) (AtomHead (IsNotNull left)))
+    pub is : r ≡ Atom (Mark m left)
+    pub here : PartAt p s (partOf (s + 1) (AtomHead (Mark m left)))
 
   -- the right rule starts where the left one ends
-  pub record IsJoin (r : Rule) : Type 0 where
-    pub connective : Connective
+  pub record IsJoin (j : Connective) (r : Rule) : Type 0 where
     pub left : Rule
     pub right : Rule
-    pub is : r ≡ Join connective left right
-    pub here : PartAt p s (partOf (s + (1 + parts left + parts right)) (JoinHead connective))
-    pub kind-is : getD p (partSize * s) 0 ≡ joinKind connective
+    pub is : r ≡ Join j left right
+    pub here : PartAt p s (partOf (s + (1 + parts left + parts right)) (JoinHead j))
     pub left-stands : Stands p (s + 1) left
     pub next : getD p (partSize * (s + 1) + partEnd) 0 ≡ s + 1 + parts left
     pub right-stands : Stands p (s + 1 + parts left) right
 
-  pub record IsNot (r : Rule) : Type 0 where
+  pub record IsUnary (u : Unary) (r : Rule) : Type 0 where
     pub inner : Rule
-    pub is : r ≡ Not inner
-    pub here : PartAt p s (partOf (s + (1 + parts inner)) NotHead)
+    pub is : r ≡ Apply u inner
+    pub here : PartAt p s (partOf (s + (1 + parts inner)) (UnaryHead u))
     pub inner-stands : Stands p (s + 1) inner
 
   pub record IsExists (r : Rule) : Type 0 where
-    pub table : ℕ
+    pub from : From ℕ
     pub inner : Rule
-    pub is : r ≡ Exists table inner
-    pub here : PartAt p s (partOf (s + (1 + parts inner)) (ExistsHead table))
+    pub is : r ≡ Exists from inner
+    pub here : PartAt p s (partOf (s + (1 + parts inner)) (ExistsHead from))
     pub inner-stands : Stands p (s + 1) inner
 
-  pub record IsListed (r : Rule) : Type 0 where
-    pub quantifier : Quantifier
+  pub record IsListed (q : Quantifier) (r : Rule) : Type 0 where
     pub op : Comparison
     pub left : Value
     pub selected : Value
-    pub table : ℕ
+    pub from : From ℕ
     pub inner : Rule
-    pub is : r ≡ Listed quantifier op left selected table inner
-    pub here : PartAt p s (partOf (s + (1 + parts inner)) (ListedHead quantifier op left selected table))
-    pub kind-is : getD p (partSize * s) 0 ≡ listKind quantifier
+    pub is : r ≡ Listed q op left selected from inner
+    pub here : PartAt p s (partOf (s + (1 + parts inner)) (ListedHead q op left selected from))
     pub inner-stands : Stands p (s + 1) inner
 
-  -- what the rule is, by the kind of its first part, in the order of the kinds
-  abbrev Form : Rule → ℕ → Type 0
-  Form r kind = getD (⊥ ∷ IsJoin r ∷ IsJoin r ∷ IsNot r ∷ IsCompare r ∷ IsBlankTest r ∷ IsPresentTest r ∷ IsExists r ∷ IsListed r ∷ IsListed r ∷ []) kind ⊥
-
-  join-form : (j : Connective) (a b : Rule) → Stands p s (Join j a b) → IsJoin (Join j a b)
-  unfolding Stands
-  join-form j a b h =
-      record {
-        connective = j;
-        left = a;
-        right = b;
-        is = refl;
-        here = h .0;
-        kind-is = kind-stands p s (Join j a b) h;
-        left-stands = h .1;
-        next = end-stands p (s + 1) a (h .1);
-        right-stands = h .2;
-      }
-
-  list-form : (q : Quantifier) (op : Comparison) (l r : Value) (t : ℕ) (w : Rule) → Stands p s (Listed q op l r t w) → IsListed (Listed q op l r t w)
-  unfolding Stands
-  list-form q op l r t w h =
-      record {
-        quantifier = q;
-        op = op;
-        left = l;
-        selected = r;
-        table = t;
-        inner = w;
-        is = refl;
-        here = h .0;
-        kind-is = kind-stands p s (Listed q op l r t w) h;
-        inner-stands = h .1;
-      }
+  -- what a rule is, by the kind of its first part
+  abbrev Form : Rule → Kind → Type 0
+  Form r (JoinKind j) = IsJoin j r
+  Form r (UnaryKind u) = IsUnary u r
+  Form r CompareKind = IsCompare r
+  Form r (MarkKind m) = IsMark m r
+  Form r ExistsKind = IsExists r
+  Form r (ListKind q) = IsListed q r
 
   form : (r : Rule) → Stands p s r → Form r (kindOf (headOf r))
   unfolding Stands
-  form (Join And a b) h = join-form And a b h
-  form (Join Or a b) h = join-form Or a b h
-  form (Not a) h = record { inner = a; is = refl; here = h .0; inner-stands = h .1 }
   form (Atom (Compare op l r)) h = record { op = op; left = l; right = r; is = refl; here = h }
-  form (Atom (IsNull l)) h = record { left = l; is = refl; here = h }
-  form (Atom (IsNotNull l)) h = record { left = l; is = refl; here = h }
-  form (Exists t w) h = record { table = t; inner = w; is = refl; here = h .0; inner-stands = h .1 }
-  form (Listed Some op l r t w) h = list-form Some op l r t w h
-  form (Listed All op l r t w) h = list-form All op l r t w h
+  form (Atom (Mark m l)) h = record { left = l; is = refl; here = h }
+  form (Join j a b) h =
+      record { left = a; right = b; is = refl; here = h .0; left-stands = h .1; next = end-stands p (s + 1) a (h .1); right-stands = h .2 }
+  form (Apply u a) h = record { inner = a; is = refl; here = h .0; inner-stands = h .1 }
+  form (Exists f w) h = record { from = f; inner = w; is = refl; here = h .0; inner-stands = h .1 }
+  form (Listed q op l r f w) h = record { op = op; left = l; selected = r; from = f; inner = w; is = refl; here = h .0; inner-stands = h .1 }
 
   module _ (r : Rule) (h : Stands p s r) where
     abbrev kindHere : ℕ
     kindHere = getD p (partSize * s) 0
 
     pub kind-low : joinKind And ≤ kindHere
-    kind-low = omega (arith, kind-stands p s r h, kind-bounds (headOf r))
+    kind-low = omega (arith, kind-stands p s r h, kind-bounds (kindOf (headOf r)))
 
-    pub kind-high : kindHere ≤ listKind All
-    kind-high = omega (arith, kind-stands p s r h, kind-bounds (headOf r))
+    pub kind-high : kindHere ≤ lastKind
+    kind-high = omega (arith, kind-stands p s r h, kind-bounds (kindOf (headOf r)))
 
     -- the rule is what its kind says
-    told : {kind : ℕ} → kindHere ≡ kind → Form r kind
-    told k = subst (Form r) (sym (kind-stands p s r h) ∙ k) (form r h)
+    told : (k : Kind) → kindHere ≡ kindNumber k → Form r k
+    told k e = subst (Form r) (same-kind (kindOf (headOf r)) k (sym (kind-stands p s r h) ∙ e)) (form r h)
 
-    pub is-join : joinKind And ≤ kindHere → kindHere ≤ joinKind Or → IsJoin r
-    is-join low high = ⊎-elim (λ e. told (sym e)) (λ l. told {kind = joinKind Or} (omega arith)) (eq-or-lt-of-le low)
+    pub is-join : (k : JoinNumber kindHere) → IsJoin (k .0) r
+    is-join k = told (JoinKind (k .0)) (k .1)
 
-    pub is-not : kindHere ≡ notKind → IsNot r
-    is-not k = told k
+    pub is-unary : (k : UnaryNumber kindHere) → IsUnary (k .0) r
+    is-unary k = told (UnaryKind (k .0)) (k .1)
 
     pub is-compare : kindHere ≡ compareKind → IsCompare r
-    is-compare k = told k
+    is-compare k = told CompareKind k
 
-    pub is-blank : kindHere ≡ nullKind → IsBlankTest r
-    is-blank k = told k
-
-    pub is-present : kindHere ≡ notNullKind → IsPresentTest r
-    is-present k = told k
+    pub is-mark : (k : MarkNumber kindHere) → IsMark (k .0) r
+    is-mark k = told (MarkKind (k .0)) (k .1)
 
     pub is-exists : kindHere ≡ existsKind → IsExists r
-    is-exists k = told k
+    is-exists k = told ExistsKind k
 
-    pub is-listed : listKind Some ≤ kindHere → IsListed r
-    is-listed low = let high = kind-high in ⊎-elim (λ e. told (sym e)) (λ l. told {kind = listKind All} (omega arith)) (eq-or-lt-of-le low)
+    pub is-listed : (k : ListNumber kindHere) → IsListed (k .0) r
+    is-listed k = told (ListKind (k .0)) (k .1)
 
     -- a comparison, IS NULL or IS NOT NULL
-    pub is-test : compareKind ≤ kindHere → kindHere ≤ notNullKind → IsTest r
-    is-test low high =
-        ⊎-elim (λ e. let x = is-compare (sym e) in record { test = Compare (x .op) (x .left) (x .right); is = x .is; here = x .here }) (λ l.
-        ⊎-elim (λ e. let x = is-blank (sym e) in record { test = IsNull (x .left); is = x .is; here = x .here }) (λ m.
-        let x = is-present (omega arith) in record { test = IsNotNull (x .left); is = x .is; here = x .here }) (eq-or-lt-of-le l)) (eq-or-lt-of-le low)
+    pub is-test : TestNumber kindHere → IsTest r
+    is-test k =
+        ⊎-elim
+        (λ e. let x = is-compare e in record { test = Compare (x .op) (x .left) (x .right); is = x .is; here = x .here })
+        (λ m. let x = is-mark m in record { test = Mark (m .0) (x .left); is = x .is; here = x .here })
+        k

@@ -2,32 +2,35 @@
 use borrow.Author.Needs.{needs}
 use mathlib.Core.Logic.{⊎-elim}
 use native.Mathlib.Omega.{arith}
-use Rattle.names.proofs.Placing.{Inner, was-placed, TableFound, table-found, Bound, has-notes, kind-low, test-kinds, file-long, note-room, not-run, not-missing, not-room, not-placed, right-run, right-missing, right-room, left-run, left-missing, left-room, pair-placed, from-few, from-unknown, from-fits, from-run, from-missing, from-room, values-missing, from-placed}
+use Rattle.names.proofs.Placing.{Inner, was-placed, TableFound, table-found, Bound, has-notes, kind-low, kind-high, file-long, note-room, unary-run, unary-missing, unary-room, unary-placed, right-run, right-missing, right-room, left-run, left-missing, left-room, pair-placed, from-few, from-unknown, from-fits, from-run, from-missing, from-room, values-missing, from-placed}
 use Prim.Native.Nat.{ℕ, _+_, _*_, _-_, _<_, _≤_}
+use Rattle.rule.specs.Condition.{Not}
 use Rattle.rule.specs.Names.{mostParts}
+use Rattle.rule.proofs.Groups.{join-number, test-number, from-number}
 use borrow.Fn.Kinds.{In}
 use borrow.Fn.PlainCycle.{Measures, is, falls, and}
 use Rattle.names.proofs.place.Reads as place
 use Rattle.names.proofs.place.Kinds as place-kinds
-use Rattle.names.proofs.+place+place_from+place_not+place_pair.Lts-place as place-lts
+use Rattle.names.proofs.+place+place_from+place_pair+place_unary.Lts-place as place-lts
 use Rattle.names.proofs.place_from.Reads as place-from
 use Rattle.names.proofs.place_from.Kinds as place-from-kinds
-use Rattle.names.proofs.+place+place_from+place_not+place_pair.Lts-place_from as place-from-lts
-use Rattle.names.proofs.place_not.Reads as place-not
-use Rattle.names.proofs.place_not.Kinds as place-not-kinds
-use Rattle.names.proofs.+place+place_from+place_not+place_pair.Lts-place_not as place-not-lts
+use Rattle.names.proofs.+place+place_from+place_pair+place_unary.Lts-place_from as place-from-lts
 use Rattle.names.proofs.place_pair.Reads as place-pair
 use Rattle.names.proofs.place_pair.Kinds as place-pair-kinds
-use Rattle.names.proofs.+place+place_from+place_not+place_pair.Lts-place_pair as place-pair-lts
+use Rattle.names.proofs.+place+place_from+place_pair+place_unary.Lts-place_pair as place-pair-lts
+use Rattle.names.proofs.place_unary.Reads as place-unary
+use Rattle.names.proofs.place_unary.Kinds as place-unary-kinds
+use Rattle.names.proofs.+place+place_from+place_pair+place_unary.Lts-place_unary as place-unary-lts
 use Rattle.cells.proofs.byte.Reads as byte-reads
+use Rattle.cells.proofs.never.Reads as never-reads
 use Rattle.scopes.proofs.from_part.Reads as from-part-reads
 use Rattle.names.proofs.place_test.Reads as place-test-reads
 use Rattle.scopes.proofs.plain_part.Reads as plain-part-reads
 use Rattle.names.proofs.put_part.Reads as put-part-reads
 use Rattle.scopes.proofs.bind.Reads as bind-reads
 use Rattle.scopes.proofs.find_numbered.Reads as find-numbered-reads
-use Rattle.names.proofs.+place+place_from+place_not+place_pair.{statement}
-use Rattle.names.proofs.+place+place_from+place_not+place_pair.Tie.{close}
+use Rattle.names.proofs.+place+place_from+place_pair+place_unary.{statement}
+use Rattle.names.proofs.+place+place_from+place_pair+place_unary.Tie.{close}
 
 abbrev μ-place : Measures 4 place-kinds.ps ℕ
 μ-place κs a = 2 * a .1 .1 .0 + 1
@@ -35,11 +38,11 @@ abbrev μ-place : Measures 4 place-kinds.ps ℕ
 abbrev μ-place-from : Measures 4 place-from-kinds.ps ℕ
 μ-place-from κs a = 2 * a .1 .1 .0
 
-abbrev μ-place-not : Measures 4 place-not-kinds.ps ℕ
-μ-place-not κs a = 2 * a .1 .1 .0
-
 abbrev μ-place-pair : Measures 4 place-pair-kinds.ps ℕ
 μ-place-pair κs a = 2 * a .1 .1 .0
+
+abbrev μ-place-unary : Measures 4 place-unary-kinds.ps ℕ
+μ-place-unary κs a = 2 * a .1 .1 .0
 
 abbrev place-at : ℕ → In 4 place-kinds.ps
 place-at t = and 4 place-kinds.ps (is 4 place-kinds.ps μ-place t) place.Pre
@@ -55,13 +58,6 @@ abbrev place-from-below : ℕ → In 4 place-from-kinds.ps
 place-from-below t =
     and 4 place-from-kinds.ps (falls 4 place-from-kinds.ps _<_ μ-place-from t) place-from.Pre
 
-abbrev place-not-at : ℕ → In 4 place-not-kinds.ps
-place-not-at t = and 4 place-not-kinds.ps (is 4 place-not-kinds.ps μ-place-not t) place-not.Pre
-
-abbrev place-not-below : ℕ → In 4 place-not-kinds.ps
-place-not-below t =
-    and 4 place-not-kinds.ps (falls 4 place-not-kinds.ps _<_ μ-place-not t) place-not.Pre
-
 abbrev place-pair-at : ℕ → In 4 place-pair-kinds.ps
 place-pair-at t =
     and 4 place-pair-kinds.ps (is 4 place-pair-kinds.ps μ-place-pair t) place-pair.Pre
@@ -70,17 +66,24 @@ abbrev place-pair-below : ℕ → In 4 place-pair-kinds.ps
 place-pair-below t =
     and 4 place-pair-kinds.ps (falls 4 place-pair-kinds.ps _<_ μ-place-pair t) place-pair.Pre
 
+abbrev place-unary-at : ℕ → In 4 place-unary-kinds.ps
+place-unary-at t = and 4 place-unary-kinds.ps (is 4 place-unary-kinds.ps μ-place-unary t) place-unary.Pre
+
+abbrev place-unary-below : ℕ → In 4 place-unary-kinds.ps
+place-unary-below t =
+    and 4 place-unary-kinds.ps (falls 4 place-unary-kinds.ps _<_ μ-place-unary t) place-unary.Pre
+
 abbrev place-claims : ℕ → place-lts.Claims
-place-claims t = (place-not-below t, place-not.Post, place-pair-below t, place-pair.Post, place-test-reads.Asked, place-test-reads.Learnt, place-from-below t, place-from.Post)
+place-claims t = (place-unary-below t, place-unary.Post, place-pair-below t, place-pair.Post, place-test-reads.Asked, place-test-reads.Learnt, place-from-below t, place-from.Post, never-reads.Asked, never-reads.Learnt)
 
 abbrev place-from-claims : ℕ → place-from-lts.Claims
 place-from-claims t = (byte-reads.Asked, byte-reads.Learnt, find-numbered-reads.Asked, find-numbered-reads.Learnt, bind-reads.Asked, bind-reads.Learnt, from-part-reads.Asked, from-part-reads.Learnt, place-below t, place.Post, put-part-reads.Asked, put-part-reads.Learnt)
 
-abbrev place-not-claims : ℕ → place-not-lts.Claims
-place-not-claims t = (place-below t, place.Post, plain-part-reads.Asked, plain-part-reads.Learnt, put-part-reads.Asked, put-part-reads.Learnt)
-
 abbrev place-pair-claims : ℕ → place-pair-lts.Claims
 place-pair-claims t = (place-below t, place.Post, plain-part-reads.Asked, plain-part-reads.Learnt, put-part-reads.Asked, put-part-reads.Learnt)
+
+abbrev place-unary-claims : ℕ → place-unary-lts.Claims
+place-unary-claims t = (place-below t, place.Post, plain-part-reads.Asked, plain-part-reads.Learnt, put-part-reads.Asked, put-part-reads.Learnt)
 
 place-sub-kind : (t : ℕ) → place-lts.Need-sub-kind (place-claims t) (place-at t) place.Post
 place-sub-kind t c = has-notes (c .before .before .pre .1) .0
@@ -94,29 +97,35 @@ place-mul-kind-2 t c = search needs
 place-shared-slice-read-kind : (t : ℕ) → place-lts.Need-shared-slice-read-kind (place-claims t) (place-at t) place.Post
 place-shared-slice-read-kind t c = let z = note-room (c .before .before .before .pre .1) in search needs
 
-place-place-not-requires : (t : ℕ) → place-lts.Need-place-not-requires (place-claims t) (place-at t) place.Post
-place-place-not-requires t c κs =
+place-place-unary-requires : (t : ℕ) → place-lts.Need-place-unary-requires (place-claims t) (place-at t) place.Post
+place-place-unary-requires t c κs =
     let o = c .before .before .before .before .before in
-    let m = o .pre .0 in (omega arith, (o .pre .1, c .before .match .keys1))
+    let m = o .pre .0 in (omega arith, (o .pre .1, (Not, c .before .match .keys1)))
 
 place-place-pair-requires : (t : ℕ) → place-lts.Need-place-pair-requires (place-claims t) (place-at t) place.Post
 place-place-pair-requires t c κs =
     let o = c .before .before .before .before .before .before .before in
-    let m = o .pre .0 in (omega arith, (o .pre .1, (c .before .before .if1 .left, omega (arith, c .before .if2 .taken))))
+    let m = o .pre .0 in (omega arith, (o .pre .1, join-number _ (c .before .before .if1 .left) (omega (arith, c .before .if2 .taken))))
 
 place-place-test-requires : (t : ℕ) → place-lts.Need-place-test-requires (place-claims t) (place-at t) place.Post
 place-place-test-requires t c κs =
-    let o = c .before .before .before .before .before .before .before .before in
-    (o .pre .1, test-kinds (o .pre .1) (c .before .before .if2 .left) (c .before .if3 .taken) (c .before .before .before .before .match .rest .1))
+    let o = c .before .before .before .before .before .before .before .before .pre .1 in
+    let other = c .before .before .before .before .match .rest .1 in
+    (o, test-number _ (omega (arith, c .before .before .if2 .left)) (omega (arith, c .before .if3 .taken)))
 
 place-place-from-requires : (t : ℕ) → place-lts.Need-place-from-requires (place-claims t) (place-at t) place.Post
 place-place-from-requires t c κs =
-    let o = c .before .before .before .before .before .before in
-    let m = o .pre .0 in
-    (omega arith, (o .pre .1, ⊎-elim (λ w. absurd (omega (arith, w .taken, kind-low (o .pre .1)))) (λ w. w .2 .left) (c .before .if1 .came)))
+    let o = c .before .before .before .before .before .before .before .before .before .pre in
+    let m = o .0 in
+    (omega arith, (o .1, from-number _ (c .before .before .if3 .left) (omega (arith, c .before .if4 .taken))))
+
+place-never-requires : (t : ℕ) → place-lts.Need-never-requires (place-claims t) (place-at t) place.Post
+place-never-requires t c κs =
+    let o = c .before .before .before .before .before .pre .1 in
+    ⊎-elim (λ w. omega (arith, w .taken, kind-low o)) (λ w. omega (arith, w .3 .left, kind-high o)) (c .if1 .came)
 
 place-returns : (t : ℕ) → place-lts.Need-returns (place-claims t) (place-at t) place.Post
-place-returns t c = c .place-not .ensures
+place-returns t c = c .place-unary .ensures
 
 place-returns-2 : (t : ℕ) → place-lts.Need-returns-2 (place-claims t) (place-at t) place.Post
 place-returns-2 t c = c .place-pair .ensures
@@ -126,6 +135,9 @@ place-returns-3 t c = c .place-test .ensures
 
 place-returns-4 : (t : ℕ) → place-lts.Need-returns-4 (place-claims t) (place-at t) place.Post
 place-returns-4 t c = c .place-from .ensures
+
+place-returns-5 : (t : ℕ) → place-lts.Need-returns-5 (place-claims t) (place-at t) place.Post
+place-returns-5 t c = search needs
 
 -- the table is found, and the letter bound
 place-from-table : (t : ℕ) (c : place-from-lts.After-find-numbered (place-from-claims t) (place-from-at t) place-from.Post)
@@ -254,52 +266,6 @@ place-from-returns-4 t c =
     let put = c .put-part in
     ((λ q. from-placed q (o .1) (place-from-bound t (c .before .before .before .before .before .before .before .before .before .before .before .before .before)) (own .result) (own .ensures) _ (c .before .before .before .before .before .before .before .before .before .part .given .1) (place-from-inner t i) (put .last .0) (put .ensures .0)), put .ensures .1)
 
--- the inner condition is placed
-place-not-inner : (t : ℕ) (c : place-not-lts.After-inner (place-not-claims t) (place-not-at t) place-not.Post)
-    → let a = c .before .before .before .before .before .before .args in
-    Inner (a .file .now) (a .notes .now) (a .h - 1) (a .parts .now) (a .e) (a .scope .now) (a .levels) (c .before .before .place .last .1 .1 .1 .0) (c .inner .given .0 .0)
-place-not-inner t c = let p = c .before .before .place in was-placed _ _ _ _ _ _ _ _ _ (p .result) (p .ensures .0) (p .ensures .1) (c .inner .given .1)
-
-place-not-room : (t : ℕ) (c : place-not-lts.After-inner (place-not-claims t) (place-not-at t) place-not.Post) → (1 ≤ c .inner .given .0 .0) × (c .inner .given .0 .0 ≤ mostParts)
-place-not-room t c = let o = c .before .before .before .before .before .before .pre .1 in not-room (o .0) (o .1) (place-not-inner t c)
-
-place-not-sub-place : (t : ℕ) → place-not-lts.Need-sub-place (place-not-claims t) (place-not-at t) place-not.Post
-place-not-sub-place t c = has-notes (c .before .before .pre .1 .0) .0
-
-place-not-place-requires : (t : ℕ) → place-not-lts.Need-place-requires (place-not-claims t) (place-not-at t) place-not.Post
-place-not-place-requires t c κs =
-    let o = c .before .before .before .pre in
-    let m = o .0 in
-    let z = has-notes (o .1 .0) in
-    (omega arith, not-run (o .1 .0) (o .1 .1))
-
-place-not-enum-known-inner : (t : ℕ) → place-not-lts.Need-enum-known-inner (place-not-claims t) (place-not-at t) place-not.Post
-place-not-enum-known-inner t c = search needs
-
-place-not-enum-told : (t : ℕ) → place-not-lts.Need-enum-told (place-not-claims t) (place-not-at t) place-not.Post
-place-not-enum-told t c = search needs
-
-place-not-returns : (t : ℕ) → place-not-lts.Need-returns (place-not-claims t) (place-not-at t) place-not.Post
-place-not-returns t c =
-    let o = c .before .before .before .before .before .before .pre .1 in
-    let p = c .before .before .place in
-    ((λ q. not-missing q (o .1) _ (p .result) (p .ensures .0) (c .enum-told .given .1)), p .ensures .1)
-
-place-not-sub-at : (t : ℕ) → place-not-lts.Need-sub-at (place-not-claims t) (place-not-at t) place-not.Post
-place-not-sub-at t c = place-not-room t (c .before) .0
-
-place-not-plain-part-requires : (t : ℕ) → place-not-lts.Need-plain-part-requires (place-not-claims t) (place-not-at t) place-not.Post
-place-not-plain-part-requires t c κs = tt
-
-place-not-put-part-requires : (t : ℕ) → place-not-lts.Need-put-part-requires (place-not-claims t) (place-not-at t) place-not.Post
-place-not-put-part-requires t c κs = let z = place-not-room t (c .before .before .before) in (place-not-inner t (c .before .before .before) .size, omega arith)
-
-place-not-returns-2 : (t : ℕ) → place-not-lts.Need-returns-2 (place-not-claims t) (place-not-at t) place-not.Post
-place-not-returns-2 t c =
-    let o = c .before .before .before .before .before .before .before .before .before .before .pre .1 in
-    let i = c .before .before .before .before in
-    ((λ q. not-placed q (o .1) (place-not-inner t i) (c .put-part .last .0) _ (c .before .plain-part .ensures) (c .put-part .ensures .0)), c .put-part .ensures .1)
-
 -- the right condition is placed, and the left one
 place-pair-right : (t : ℕ) (c : place-pair-lts.After-right (place-pair-claims t) (place-pair-at t) place-pair.Post)
     → let a = c .before .before .before .before .before .before .before .args in
@@ -392,22 +358,82 @@ place-pair-returns-3 t c =
     let i = c .before .before .before .before in
     ((λ q. pair-placed q (o .1) (place-pair-right t (c .before .before .before .before .before .before .before .before .before)) (place-pair-left t i) (c .put-part .last .0) _ (c .before .plain-part .ensures) (c .put-part .ensures .0)), c .put-part .ensures .1)
 
-pub +place+place-from+place-not+place-pair-spec : {M : Type 1} → statement M
-+place+place-from+place-not+place-pair-spec =
-    close μ-place μ-place-from μ-place-not μ-place-pair (λ t. place-lts.spec (place-claims t) (place-at t)
+-- the inner condition is placed
+place-unary-inner : (t : ℕ) (c : place-unary-lts.After-inner (place-unary-claims t) (place-unary-at t) place-unary.Post)
+    → let a = c .before .before .before .before .before .before .args in
+    Inner (a .file .now) (a .notes .now) (a .h - 1) (a .parts .now) (a .e) (a .scope .now) (a .levels) (c .before .before .place .last .1 .1 .1 .0) (c .inner .given .0 .0)
+place-unary-inner t c = let p = c .before .before .place in was-placed _ _ _ _ _ _ _ _ _ (p .result) (p .ensures .0) (p .ensures .1) (c .inner .given .1)
+
+place-unary-room : (t : ℕ) (c : place-unary-lts.After-inner (place-unary-claims t) (place-unary-at t) place-unary.Post) → (1 ≤ c .inner .given .0 .0) × (c .inner .given .0 .0 ≤ mostParts)
+place-unary-room t c = let o = c .before .before .before .before .before .before .pre .1 in unary-room (o .0) (o .1) (place-unary-inner t c)
+
+place-unary-sub-b : (t : ℕ) → place-unary-lts.Need-sub-b (place-unary-claims t) (place-unary-at t) place-unary.Post
+place-unary-sub-b t c = has-notes (c .before .before .pre .1 .0) .0
+
+place-unary-mul-b : (t : ℕ) → place-unary-lts.Need-mul-b (place-unary-claims t) (place-unary-at t) place-unary.Post
+place-unary-mul-b t c = search needs
+
+place-unary-sub-place : (t : ℕ) → place-unary-lts.Need-sub-place (place-unary-claims t) (place-unary-at t) place-unary.Post
+place-unary-sub-place t c = has-notes (c .before .before .pre .1 .0) .0
+
+place-unary-place-requires : (t : ℕ) → place-unary-lts.Need-place-requires (place-unary-claims t) (place-unary-at t) place-unary.Post
+place-unary-place-requires t c κs =
+    let o = c .before .before .before .pre in
+    let m = o .0 in
+    let z = has-notes (o .1 .0) in
+    (omega arith, unary-run (o .1 .0) (o .1 .1))
+
+place-unary-enum-known-inner : (t : ℕ) → place-unary-lts.Need-enum-known-inner (place-unary-claims t) (place-unary-at t) place-unary.Post
+place-unary-enum-known-inner t c = search needs
+
+place-unary-enum-told : (t : ℕ) → place-unary-lts.Need-enum-told (place-unary-claims t) (place-unary-at t) place-unary.Post
+place-unary-enum-told t c = search needs
+
+place-unary-returns : (t : ℕ) → place-unary-lts.Need-returns (place-unary-claims t) (place-unary-at t) place-unary.Post
+place-unary-returns t c =
+    let o = c .before .before .before .before .before .before .pre .1 in
+    let p = c .before .before .place in
+    ((λ q. unary-missing q (o .1) _ (p .result) (p .ensures .0) (c .enum-told .given .1)), p .ensures .1)
+
+place-unary-sub-at : (t : ℕ) → place-unary-lts.Need-sub-at (place-unary-claims t) (place-unary-at t) place-unary.Post
+place-unary-sub-at t c = place-unary-room t (c .before) .0
+
+place-unary-mul-plain-part : (t : ℕ) → place-unary-lts.Need-mul-plain-part (place-unary-claims t) (place-unary-at t) place-unary.Post
+place-unary-mul-plain-part t c = search needs
+
+place-unary-shared-slice-read-plain-part : (t : ℕ) → place-unary-lts.Need-shared-slice-read-plain-part (place-unary-claims t) (place-unary-at t) place-unary.Post
+place-unary-shared-slice-read-plain-part t c = let z = note-room (c .before .before .before .before .before .before .before .before .before .pre .1 .0) in search needs
+
+place-unary-plain-part-requires : (t : ℕ) → place-unary-lts.Need-plain-part-requires (place-unary-claims t) (place-unary-at t) place-unary.Post
+place-unary-plain-part-requires t c κs = tt
+
+place-unary-put-part-requires : (t : ℕ) → place-unary-lts.Need-put-part-requires (place-unary-claims t) (place-unary-at t) place-unary.Post
+place-unary-put-part-requires t c κs = let z = place-unary-room t (c .before .before .before .before) in (place-unary-inner t (c .before .before .before .before) .size, omega arith)
+
+place-unary-returns-2 : (t : ℕ) → place-unary-lts.Need-returns-2 (place-unary-claims t) (place-unary-at t) place-unary.Post
+place-unary-returns-2 t c =
+    let o = c .before .before .before .before .before .before .before .before .before .before .before .pre .1 in
+    let i = c .before .before .before .before .before in
+    ((λ q. unary-placed q (o .1) (place-unary-inner t i) (c .put-part .last .0) _ (c .before .plain-part .ensures) (c .put-part .ensures .0)), c .put-part .ensures .1)
+
+pub +place+place-from+place-pair+place-unary-spec : {M : Type 1} → statement M
++place+place-from+place-pair+place-unary-spec =
+    close μ-place μ-place-from μ-place-pair μ-place-unary (λ t. place-lts.spec (place-claims t) (place-at t)
     place.Post
     (place-sub-kind t)
     (place-mul-kind t)
     (place-mul-kind-2 t)
     (place-shared-slice-read-kind t)
-    (place-place-not-requires t)
+    (place-place-unary-requires t)
     (place-place-pair-requires t)
     (place-place-test-requires t)
     (place-place-from-requires t)
+    (place-never-requires t)
     (place-returns t)
     (place-returns-2 t)
     (place-returns-3 t)
-    (place-returns-4 t))
+    (place-returns-4 t)
+    (place-returns-5 t))
     (λ t. place-from-lts.spec (place-from-claims t) (place-from-at t)
     place-from.Post
     (place-from-sub-b t)
@@ -435,18 +461,7 @@ pub +place+place-from+place-not+place-pair-spec : {M : Type 1} → statement M
     (place-from-sub-at t)
     (place-from-put-part-requires t)
     (place-from-returns-4 t))
-    (λ t. place-not-lts.spec (place-not-claims t) (place-not-at t)
-    place-not.Post
-    (place-not-sub-place t)
-    (place-not-place-requires t)
-    (place-not-enum-known-inner t)
-    (place-not-enum-told t)
-    (place-not-returns t)
-    (place-not-sub-at t)
-    (place-not-plain-part-requires t)
-    (place-not-put-part-requires t)
-    (place-not-returns-2 t))
-    λ t. place-pair-lts.spec (place-pair-claims t) (place-pair-at t)
+    (λ t. place-pair-lts.spec (place-pair-claims t) (place-pair-at t)
     place-pair.Post
     (place-pair-sub-kind t)
     (place-pair-mul-kind t)
@@ -467,4 +482,19 @@ pub +place+place-from+place-not+place-pair-spec : {M : Type 1} → statement M
     (place-pair-sub-at t)
     (place-pair-plain-part-requires t)
     (place-pair-put-part-requires t)
-    (place-pair-returns-3 t)
+    (place-pair-returns-3 t))
+    λ t. place-unary-lts.spec (place-unary-claims t) (place-unary-at t)
+    place-unary.Post
+    (place-unary-sub-b t)
+    (place-unary-mul-b t)
+    (place-unary-sub-place t)
+    (place-unary-place-requires t)
+    (place-unary-enum-known-inner t)
+    (place-unary-enum-told t)
+    (place-unary-returns t)
+    (place-unary-sub-at t)
+    (place-unary-mul-plain-part t)
+    (place-unary-shared-slice-read-plain-part t)
+    (place-unary-plain-part-requires t)
+    (place-unary-put-part-requires t)
+    (place-unary-returns-2 t)

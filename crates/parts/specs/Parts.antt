@@ -9,8 +9,8 @@ use lib.IntN.{ℤ, pos}
 use lib.ListN.{getD}
 use Rattle.tables.specs.Values.{constantTag}
 use Rattle.cells.specs.Code.{words32, fromExcess}
-use Rattle.rule.specs.Condition.{Atom, Join, Not, Exists, Listed, Rule, parts}
-use Rattle.rule.specs.Parts.{AtomHead, JoinHead, NotHead, ExistsHead, ListedHead, partOf}
+use Rattle.rule.specs.Condition.{Atom, Join, Apply, Exists, Listed, Rule, parts}
+use Rattle.rule.specs.Parts.{AtomHead, JoinHead, UnaryHead, ExistsHead, ListedHead, partOf}
 use Rattle.rule.specs.declared.TaggedValue.{TaggedValue}
 use Rattle.rule.specs.declared.Part.{Part}
 use Rattle.names.specs.Code.{partSize, partComparison, partTable, partEnd, partLeftTag, partLeftNumber, partRightTag, partRightNumber, partNumbers}
@@ -23,9 +23,9 @@ pub record PartAt (p : List ℕ) (s : ℕ) (x : Part) : Type 0 where
 unfoldable pub Stands : List ℕ → ℕ → Rule → Type 0
 Stands p s (Atom x) = PartAt p s (partOf (s + 1) (AtomHead x))
 Stands p s (Join j a b) = PartAt p s (partOf (s + (1 + parts a + parts b)) (JoinHead j)) × Stands p (s + 1) a × Stands p (s + 1 + parts a) b
-Stands p s (Not a) = PartAt p s (partOf (s + (1 + parts a)) NotHead) × Stands p (s + 1) a
-Stands p s (Exists t w) = PartAt p s (partOf (s + (1 + parts w)) (ExistsHead t)) × Stands p (s + 1) w
-Stands p s (Listed q op l r t w) = PartAt p s (partOf (s + (1 + parts w)) (ListedHead q op l r t)) × Stands p (s + 1) w
+Stands p s (Apply u a) = PartAt p s (partOf (s + (1 + parts a)) (UnaryHead u)) × Stands p (s + 1) a
+Stands p s (Exists f w) = PartAt p s (partOf (s + (1 + parts w)) (ExistsHead f)) × Stands p (s + 1) w
+Stands p s (Listed q op l r f w) = PartAt p s (partOf (s + (1 + parts w)) (ListedHead q op l r f)) × Stands p (s + 1) w
 
 -- ---- as they are published
 

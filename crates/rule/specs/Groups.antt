@@ -1,0 +1,39 @@
+-- The kinds of parts by groups, for what functions require of the number of a kind. The contract of a public call cites nothing of this file.
+use mathlib.Core.Path.{_≡_}
+use mathlib.Core.Logic.{_⊎_}
+use Prim.Native.Nat.{ℕ}
+use Rattle.tables.specs.Values.{Connective, Quantifier, MarkTest}
+use Rattle.rule.specs.Condition.{Unary}
+use Rattle.rule.specs.Parts.{Kind, kindNumber, joinKind, unaryKind, compareKind, markKind, existsKind, listKind}
+
+-- the number of a kind
+abbrev pub KindNumber : ℕ → Type 0
+KindNumber n = (k : Kind) × (n ≡ kindNumber k)
+
+-- the last of these numbers
+abbrev pub lastKind : ℕ
+lastKind = 9
+
+-- the number of AND or of OR
+abbrev pub JoinNumber : ℕ → Type 0
+JoinNumber n = (j : Connective) × (n ≡ joinKind j)
+
+-- of a part with one condition in it
+abbrev pub UnaryNumber : ℕ → Type 0
+UnaryNumber n = (u : Unary) × (n ≡ unaryKind u)
+
+-- of a test by the mark
+abbrev pub MarkNumber : ℕ → Type 0
+MarkNumber n = (m : MarkTest) × (n ≡ markKind m)
+
+-- of a test without inner parts
+abbrev pub TestNumber : ℕ → Type 0
+TestNumber n = (n ≡ compareKind) ⊎ MarkNumber n
+
+-- of a list
+abbrev pub ListNumber : ℕ → Type 0
+ListNumber n = (q : Quantifier) × (n ≡ listKind q)
+
+-- of a part with a FROM
+abbrev pub FromNumber : ℕ → Type 0
+FromNumber n = (n ≡ existsKind) ⊎ ListNumber n
