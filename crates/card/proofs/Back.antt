@@ -87,7 +87,7 @@ kind-back (ComparisonKind AsYes) = refl
 kind-back (MarkKind Null) = refl
 kind-back (MarkKind NotNull) = refl
 
--- the record of what an entry says is as its kind wants it, and says the same
+-- the record of what an entry says is as its kind asks, and says the same
 record Back (h : Head) (r : List ℕ) : Type 0 where
   fits : recordFits (uses (kindOf h)) r ≡ true
   says : headIn (kindOf h) r ≡ h

@@ -106,7 +106,7 @@ module _ (r : List ℕ) (b : Bytes r) where
   value-used true i j e v t = v
   value-used false i j e v t = sym (zeros-exact i j t ∙ ap (λ (n : ℕ). tabulate n (λ k. 0)) e)
 
-  -- the fields that a kind uses, read from a record that is as the kind wants it, are the record's
+  -- the fields that a kind uses, read from a record that is as the kind asks, are the record's
   fields-exact : (u : Uses) → T (recordFits u r)
       → fieldsWith u (byteAt r tablePlace) (comparisonOf (byteAt r comparisonPlace)) (valueFrom r leftPlace) (valueFrom r rightPlace)
       ≡ tabulate (recordSize - tablePlace) (λ k. byteAt r (tablePlace + k))

@@ -105,7 +105,7 @@ fn check_leaf(
 }
 
 // The entries from s up to e: whether they are one entry with its inner ones, which fits the card's tables and these levels. Other kinds come here too: 0 is
-// decoded for a record that is not as its kind wants it.
+// decoded for a record that is not as its kind asks.
 fn check_entry(
     card: &[u8],
     d: &[usize],

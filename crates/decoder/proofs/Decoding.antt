@@ -157,7 +157,7 @@ module _ (card : List ℕ) (place i k tag : ℕ) (within : i + valueSize ≤ rec
   unfolding numberIn
   number-column x c e = rw (← tag-in, raw-in, ne-eqb tag constantTag c) e
 
--- ---- the fields that a kind wants
+-- ---- the fields that a kind asks for
 
 same-tests : (a b : Bool) → (T a → T b) → (T b → T a) → a ≡ b
 same-tests true b f g = sym (is-true b (f tt))

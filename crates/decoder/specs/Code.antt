@@ -68,7 +68,7 @@ entryNextEnd = entrySize + entryEnd
 
 -- ---- an entry as eight numbers
 
--- whether the fields of a record are as its kind wants them; where there is no such kind they are not
+-- whether the fields of a record are as its kind asks; where there is no such kind they are not
 abbrev pub kindFits : Option Kind → List ℕ → Bool
 kindFits none r = false
 kindFits (some k) r = recordFits (uses k) r

@@ -129,7 +129,7 @@ fn zero_bytes(card: &[u8], r: usize, i: usize, j: usize) -> bool
     true
 }
 
-// Whether the fields of the record at r are as its kind wants them.
+// Whether the fields of the record at r are as its kind asks. The kind may be any byte of a card, so the last arm is reached: no record fits a byte that is no kind.
 fn fields_fit(card: &[u8], r: usize, kind: usize) -> bool
     requires { ⌜ RecordIn (now card) r ⌝ }
     ensures { λ x. ⌜ x ≡ fieldsFit kind (recordFrom (now (card .entry)) r) ⌝ }
@@ -158,7 +158,7 @@ fn fields_fit(card: &[u8], r: usize, kind: usize) -> bool
     }
 }
 
-// The kind, or 0 where the record at r is not as it wants.
+// The kind, or 0 where the record at r is not as it asks.
 fn known_kind(card: &[u8], r: usize, kind: usize) -> usize
     requires { ⌜ RecordIn (now card) r ⌝ ∗ ⌜ kind < 256 ⌝ }
     ensures is { λ x. ⌜ x ≡ knownKind kind (recordFrom (now (card .entry)) r) ⌝ }

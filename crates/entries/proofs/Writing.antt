@@ -15,11 +15,12 @@ use Rattle.cells.specs.Code.{excess, toExcess}
 use Rattle.card.specs.Card.{CompareLeaf, MarkLeaf, Card, LeafEntry, PairEntry, RowEntry, entries}
 use Rattle.card.specs.Layout.{pairKind, valueBytes, recordSize}
 use Rattle.card.specs.Sound.{mostEntries}
-use Rattle.rule.specs.Condition.{Compare, Mark, Not, Rule, parts, letters, fromsDeep}
+use Rattle.rule.specs.Condition.{Compare, Mark, Not, Apply, Rule, parts, letters, fromsDeep}
 use Rattle.rule.specs.Names.{mostParts, within, ValueFits, Fits}
 use Rattle.rule.specs.Parts.{joinKind, unaryKind, compareKind, existsKind, listKind, taggedOf}
-use Rattle.rule.specs.Groups.{JoinNumber, MarkNumber, ListNumber}
+use Rattle.rule.specs.Groups.{JoinNumber, UnaryNumber, MarkNumber, ListNumber}
 use Rattle.rule.proofs.Fits.{within-length}
+use Rattle.rule.proofs.Groups.{mark-number, list-number}
 use Rattle.names.specs.Code.{partSize, partTable, partEnd, partLeftTag, partLeftNumber, partRightTag, partRightNumber}
 use Rattle.translation.proofs.Demand3.{some-entries}
 use Rattle.parts.specs.Parts.{Stands, SmallPart}
@@ -61,6 +62,17 @@ every-row Some false = refl
 every-row Some true = refl
 every-row All false = refl
 every-row All true = refl
+
+-- no kind that has an arm to itself
+abbrev Others : ℕ → Type 0
+Others n = ((Unit {0} × (n ≡ unaryKind Not → ⊥)) × (n ≡ compareKind → ⊥)) × (n ≡ existsKind → ⊥)
+
+-- so a test by the mark, or a list, by where it stands
+pub mark-left : (n : ℕ) → Others n → joinKind Or < n → n ≤ existsKind → MarkNumber n
+mark-left n (((_, not), compare), exists) low high = mark-number n (omega arith) (omega arith)
+
+pub list-left : (n : ℕ) → Others n → existsKind ≤ n → n ≤ listKind All → ListNumber n
+list-left n (others, exists) low high = list-number n (omega arith) high
 
 module _ {p : List ℕ} {s : ℕ} {negate unknown : Bool} {kinds records : List ℕ} {k : ℕ} (h : Writable p s negate unknown kinds records k) where
   pub part-small : SmallPart p s
@@ -157,25 +169,33 @@ module _ {p : List ℕ} {s : ℕ} {negate unknown : Bool} {kinds records : List 
     unfolding mark-ready
     mark-wrote f = rw mark-card (f mark-ready)
 
-  -- ---- NOT
+  -- ---- a one-place part whose card is that of the condition in it, negated or not, in one or the other interpretation
 
-  module _ (kind : getD p (partSize * s) 0 ≡ unaryKind Not) where
-    inverted : IsUnary p s Not (h .rule)
-    inverted = is-unary p s (h .rule) (h .stands) (Not, kind)
+  module _ (number : UnaryNumber (getD p (partSize * s) 0)) (n u : Bool) (same : (a : Rule) → cardAs negate unknown (Apply (number .0) a) ≡ cardAs n u a) where
+    unary : IsUnary p s (number .0) (h .rule)
+    unary = is-unary p s (h .rule) (h .stands) number
 
-    not-card : card ≡ cardAs (not negate) (not unknown) (inverted .inner)
-    not-card = ap (cardAs negate unknown) (inverted .is) ∙ card-not negate unknown (inverted .inner)
+    unary-card : card ≡ cardAs n u (unary .inner)
+    unary-card = ap (cardAs negate unknown) (unary .is) ∙ same (unary .inner)
 
-    pub not-ready : Writable p (s + 1) (not negate) (not unknown) kinds records k
+    pub unary-ready : Writable p (s + 1) n u kinds records k
     unfolding parts fromsDeep Fits
-    not-ready =
-        let x = inverted in
+    unary-ready =
+        let x = unary in
         inner-ready (x .inner) (h .levels) (x .inner-stands) (omega (arith, ap parts (x .is))) (omega (arith, ap fromsDeep (x .is), h .deep))
-        (subst (Fits (h .columns) (h .levels)) (x .is) (h .fits)) (room-for not-card)
+        (subst (Fits (h .columns) (h .levels)) (x .is) (h .fits)) (room-for unary-card)
+
+    pub unary-wrote : {kinds′ records′ : List ℕ} {r : ℕ} → WroteTo p (s + 1) n u kinds records kinds′ records′ k r → Wrote k card kinds records kinds′ records′ r
+    unfolding unary-ready
+    unary-wrote f = rw unary-card (f unary-ready)
+
+  -- NOT
+  module _ (kind : getD p (partSize * s) 0 ≡ unaryKind Not) where
+    pub not-ready : Writable p (s + 1) (not negate) (not unknown) kinds records k
+    not-ready = unary-ready (Not, kind) (not negate) (not unknown) (card-not negate unknown)
 
     pub not-wrote : {kinds′ records′ : List ℕ} {r : ℕ} → WroteTo p (s + 1) (not negate) (not unknown) kinds records kinds′ records′ k r → Wrote k card kinds records kinds′ records′ r
-    unfolding not-ready
-    not-wrote f = rw not-card (f not-ready)
+    not-wrote f = unary-wrote (Not, kind) (not negate) (not unknown) (card-not negate unknown) f
 
   -- ---- AND and OR
 

@@ -8,7 +8,7 @@ use native.Mathlib.Omega.{arith}
 use lib.ListN.{length, getD, set}
 use Rattle.tables.specs.Lists.{tabulate}
 use Rattle.tables.specs.Tables.{mostTables, mostCells, Row, columnsOf, tablesOf, rowsOf}
-use Rattle.tables.specs.Values.{mostLevels, comparisonOf, Connective, And, Or, Quantifier, Some, Env, _▸_, cellOf}
+use Rattle.tables.specs.Values.{mostLevels, comparisonOf, Connective, And, Or, Quantifier, Some, All, Env, _▸_, cellOf}
 use Rattle.tables.proofs.Values.{comparison-back}
 use Rattle.tables.proofs.Tabulated.{tabulate-map}
 use Rattle.cells.specs.Code.{seenCell, placeIn}
@@ -17,17 +17,17 @@ use Rattle.cells.specs.declared.Place.{Place}
 use Rattle.values.specs.Code.{rowFrom, Readable, ValueReady, Sees}
 use Rattle.values.proofs.Rows.{TableAt}
 use Rattle.values.proofs.Ranging.{NextRow, next-none, next-more, table-bounds, table-here, row-deep, row-room as room-at, row-readable}
-use Rattle.rule.specs.Condition.{Unary, Not, From, Single, Atom, Join, Apply, Exists, Listed, Rule, parts, fromsDeep}
+use Rattle.rule.specs.Condition.{Not, From, Single, Atom, Join, Apply, Exists, Listed, Rule, parts, fromsDeep}
 use Rattle.rule.specs.Names.{mostParts, within, ValueFits, TestFits, FromFits, Fits}
-use Rattle.rule.specs.Meaning.{Truth, False, True, truth, isTrue, unary3, compare3, over3, meaning, truthNumber}
-use Rattle.rule.specs.Parts.{joinKind, unaryKind, existsKind, tableOf}
-use Rattle.rule.specs.Groups.{lastKind, TestNumber}
+use Rattle.rule.specs.Meaning.{Truth, False, True, truth, isTrue, compare3, over3, meaning, truthNumber}
+use Rattle.rule.specs.Parts.{joinKind, unaryKind, existsKind, listKind, kindOf, tableOf}
+use Rattle.rule.specs.Groups.{KindNumber, UnaryNumber, TestNumber}
 use Rattle.names.specs.Code.{partSize, partComparison, partTable, partEnd, partLeftTag, partLeftNumber, partRightTag, partRightNumber}
 use Rattle.parts.specs.Parts.{Stands}
 use Rattle.rule.proofs.Parts.{from-back}
-use Rattle.rule.proofs.Groups.{test-number}
-use Rattle.parts.proofs.Parts.{parts-low, kind-low, kind-high, part-comparison, part-table, part-left-tag, part-left-number, part-right-tag, part-right-number, IsTest, IsJoin, IsUnary, IsExists, IsListed, is-test, is-join, is-unary, is-exists, is-listed}
-use Rattle.evaluator.specs.Code.{decidedBy, taken, Decides, unlessUnknown, emptyTruth, emptyOver, OverNone, TestReady, TestEvaluated, Evaluable, Evaluates, RowReady, RowEvaluated}
+use Rattle.rule.proofs.Groups.{some-join, some-unary, some-from, test-else}
+use Rattle.parts.proofs.Parts.{headOf, parts-low, kind-stands, part-comparison, part-table, part-left-tag, part-left-number, part-right-tag, part-right-number, IsTest, IsJoin, IsUnary, IsExists, IsListed, is-test, is-join, is-unary, is-exists, is-listed}
+use Rattle.evaluator.specs.Code.{decidedBy, taken, Decides, UnaryValued, unlessUnknown, emptyTruth, emptyOver, OverNone, TestReady, TestEvaluated, Evaluable, Evaluates, RowReady, RowEvaluated}
 use Rattle.evaluator.proofs.Truths.{rank-high, join-rank, left-stop, is-kept, not-kept, overRows, over-none, over-more, over-stop, over-on, none-open, more-open, quantifierOf, kind-is, none-is, none-decides}
 use Rattle.evaluator.proofs.Rows.{exists-rows, listed-rows}
 use Rattle.evaluator.proofs.Testing.{value-ready, value-seen}
@@ -108,8 +108,8 @@ module _ {p g file w : List ℕ} {s depth : ℕ} (h : Evaluable p g file w s dep
   abbrev Means : ℕ → Type 0
   Means v = v ≡ truthNumber (meaning (tablesOf file) (h .env) (h .rule))
 
-  pub kind-bounds : (joinKind And ≤ kindHere) × (kindHere ≤ lastKind)
-  kind-bounds = (kind-low p s (h .rule) (h .stands), kind-high p s (h .rule) (h .stands))
+  some-kind : KindNumber kindHere
+  some-kind = (kindOf (headOf (h .rule)), kind-stands p s (h .rule) (h .stands))
 
   pub start : s < mostParts
   start = omega (arith, h .few, parts-low (h .rule))
@@ -146,9 +146,15 @@ module _ {p g file w : List ℕ} {s depth : ℕ} (h : Evaluable p g file w s dep
 
   -- ---- a test
 
-  -- what is neither AND, OR nor NOT and comes before EXISTS is one
-  pub test-left : ((Unit {0} × NotKind (joinKind And)) × NotKind (joinKind Or)) × NotKind (unaryKind Not) → kindHere < existsKind → TestNumber kindHere
-  test-left other high = let low = kind-bounds .0 in test-number kindHere (omega arith) (omega arith)
+  -- no kind that has an arm to itself
+  abbrev Others : Type 0
+  Others =
+      (((((Unit {0} × NotKind (joinKind And)) × NotKind (joinKind Or)) × NotKind (unaryKind Not)) × NotKind existsKind) × NotKind (listKind Some)) × NotKind (listKind All)
+
+  -- so it is one
+  pub test-left : Others → TestNumber kindHere
+  test-left ((((((_, and), or), not), exists), some), all) =
+      test-else some-kind (λ j. some-join j and or) (λ u. some-unary u not) (λ f. some-from f exists some all)
 
   module _ (k : TestNumber kindHere) where
     test-here : IsTest p s (h .rule)
@@ -177,9 +183,9 @@ module _ {p g file w : List ℕ} {s depth : ℕ} (h : Evaluable p g file w s dep
 
   -- ---- NOT
 
-  module _ (u : Unary) (k : kindHere ≡ unaryKind u) where
-    unary-here : IsUnary p s u (h .rule)
-    unary-here = is-unary p s (h .rule) (h .stands) (u, k)
+  module _ (k : UnaryNumber kindHere) where
+    unary-here : IsUnary p s (k .0) (h .rule)
+    unary-here = is-unary p s (h .rule) (h .stands) k
 
     pub unary-inner : Evaluable p g file w (s + 1) depth
     unfolding parts fromsDeep Fits
@@ -197,10 +203,9 @@ module _ {p g file w : List ℕ} {s depth : ℕ} (h : Evaluable p g file w s dep
       pub unary-room : v ≤ truthNumber True
       unary-room = omega (arith, unary-value, rank-high unaryTruth)
 
-      -- what the code makes of v, if it does so of each truth value
-      pub unary-evaluated : (f : ℕ → ℕ) → ((a : Truth) → f (truthNumber a) ≡ truthNumber (unary3 u a)) → Means (f v)
+      pub unary-evaluated : (r : ℕ) → UnaryValued kindHere v r → Means r
       unfolding meaning
-      unary-evaluated f law = ap f unary-value ∙ law unaryTruth ∙ ap truthNumber (means-as (unary-here .is))
+      unary-evaluated r valued = valued (k .0) (k .1) unaryTruth unary-value ∙ ap truthNumber (means-as (unary-here .is))
 
   -- ---- AND and OR
 

@@ -9,11 +9,12 @@ use lib.Dec.{eqb}
 use lib.ListN.{getD}
 use Rattle.tables.specs.Lists.{tabulate, any, put, keep}
 use Rattle.tables.specs.Values.{Connective, And, Or, Quantifier, Some, All}
-use Rattle.rule.specs.Condition.{Not}
+use Rattle.rule.specs.Condition.{Unary, Not}
 use Rattle.rule.specs.Meaning.{Truth, False, Unknown, True, truth, isTrue, and3, or3, join3, unary3, over3, truthNumber}
-use Rattle.rule.specs.Parts.{listKind}
+use Rattle.rule.specs.Parts.{unaryKind, listKind}
+use Rattle.rule.proofs.Groups.{same-unary}
 use Rattle.rule.proofs.Truths.{some-cons, all-cons}
-use Rattle.evaluator.specs.Code.{decidedBy, taken, unlessUnknown, emptyTruth, emptyOver, OverNone}
+use Rattle.evaluator.specs.Code.{decidedBy, taken, UnaryValued, unlessUnknown, emptyTruth, emptyOver, OverNone}
 
 pub rank-high : (a : Truth) → truthNumber a ≤ truthNumber True
 rank-high False = omega arith
@@ -31,6 +32,12 @@ same-truth a b e = sym (back a) ∙ ap truthAt e ∙ back b
     back False = refl
     back Unknown = refl
     back True = refl
+
+-- ---- one-place parts
+
+-- f of the condition's value, if that is what the part makes of each truth value
+pub unary-valued : {kind inner : ℕ} (u : Unary) → kind ≡ unaryKind u → (f : ℕ → ℕ) → ((a : Truth) → f (truthNumber a) ≡ truthNumber (unary3 u a)) → {r : ℕ} → r ≡ f inner → UnaryValued kind inner r
+unary-valued u e f law z v e′ a i = z ∙ ap f i ∙ law a ∙ ap (λ u. truthNumber (unary3 u a)) (same-unary u v (sym e ∙ e′))
 
 pub not-rank : (a : Truth) → truthNumber True - truthNumber a ≡ truthNumber (unary3 Not a)
 not-rank False = refl

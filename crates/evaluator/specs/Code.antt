@@ -11,11 +11,11 @@ use Rattle.tables.specs.Values.{mostLevels, Value, Comparison, Connective, And,
 use Rattle.cells.specs.Code.{seenCell}
 use Rattle.cells.specs.declared.Seen.{Seen}
 use Rattle.values.specs.Code.{Readable}
-use Rattle.rule.specs.Condition.{Test, From, Rule, parts, fromsDeep}
+use Rattle.rule.specs.Condition.{Test, Unary, From, Rule, parts, fromsDeep}
 use Rattle.rule.specs.Names.{mostParts, ValueFits, TestFits, Fits}
-use Rattle.rule.specs.Parts.{AtomHead, ListedHead, partOf}
+use Rattle.rule.specs.Parts.{AtomHead, ListedHead, unaryKind, partOf}
 use Rattle.rule.specs.Groups.{JoinNumber, ListNumber}
-use Rattle.rule.specs.Meaning.{Truth, False, Unknown, True, test3, compare3, isTrue, meaning, truthNumber}
+use Rattle.rule.specs.Meaning.{Truth, False, Unknown, True, test3, unary3, compare3, isTrue, meaning, truthNumber}
 use Rattle.names.specs.Code.{partsSize}
 use Rattle.parts.specs.Parts.{PartAt, Stands}
 
@@ -34,6 +34,10 @@ taken decides a b = cond (eqb decides (truthNumber False)) (min a b) (max a b)
 pub record Decides (kind decides : ℕ) : Type 0 where
   pub joins : JoinNumber kind
   pub decides-is : decides ≡ decidedBy (joins .0)
+
+-- r is what a part of this kind makes of the value of the condition in it
+abbrev pub UnaryValued : ℕ → ℕ → ℕ → Type 0
+UnaryValued kind inner r = (u : Unary) → kind ≡ unaryKind u → (a : Truth) → inner ≡ truthNumber a → r ≡ truthNumber (unary3 u a)
 
 -- a list's value after one more row
 abbrev pub unlessUnknown : ℕ → ℕ → ℕ

@@ -3,14 +3,15 @@
 // Short names: p, the parts as numbers; g, where the tables stand; s, the number of a part; w, for each level the number of its row's first cell, and
 // depth, how many levels there are; v, the same with one level more.
 ghost use mathlib.Core.Path.{_≡_};
-ghost use Prim.Native.Nat.{_*_, min, max};
+ghost use Prim.Native.Nat.{_*_, _≤_, min, max};
 ghost use lib.ListN.{getD};
 ghost use Rattle.tables.specs.Values.{comparisonOf};
 ghost use Rattle.cells.specs.Code.{seenCell};
-ghost use Rattle.rule.specs.Meaning.{truth, compare3, truthNumber};
+ghost use Rattle.rule.specs.Meaning.{True, truth, compare3, truthNumber};
 ghost use Rattle.rule.specs.Parts.{existsKind};
+ghost use Rattle.rule.specs.Groups.{UnaryNumber};
 ghost use Rattle.names.specs.Code.{partSize};
-ghost use Rattle.evaluator.specs.Code.{unlessUnknown, TestReady, TestEvaluated, Evaluable, Evaluates, Decides, RowReady, RowEvaluated, OverNone};
+ghost use Rattle.evaluator.specs.Code.{UnaryValued, unlessUnknown, TestReady, TestEvaluated, Evaluable, Evaluates, Decides, RowReady, RowEvaluated, OverNone};
 use cells::PLACES;
 use cells::Seen;
 use names::PART_COMPARISON;
@@ -116,6 +117,20 @@ fn evaluate_test(
     }
 }
 
+// What NOT makes of the value of the condition in it.
+fn unary_value(kind: usize, inner: usize) -> usize
+    requires { ⌜ UnaryNumber kind ⌝ ∗ ⌜ inner ≤ truthNumber True ⌝ }
+    ensures { λ r. ⌜ UnaryValued kind inner r ⌝ }
+{
+    match kind {
+        NOT_PART => TRUE - inner,
+        _ => {
+            cells::never();
+            FALSE
+        }
+    }
+}
+
 // The value of part s with its inner parts.
 pub fn evaluate_part(
     p: &[usize; PART_NUMBERS],
@@ -134,7 +149,7 @@ pub fn evaluate_part(
         OR_PART => evaluate_pair(p, g, file, s, w, depth, TRUE),
         NOT_PART => {
             let inner = evaluate_part(p, g, file, s + 1, w, depth);
-            TRUE - inner
+            unary_value(kind, inner)
         }
         COMPARISON_PART | NULL_PART | NOT_NULL_PART => evaluate_test(p, g, file, s, w),
         EXISTS_PART => evaluate_exists(p, g, file, s, w, depth),

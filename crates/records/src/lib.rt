@@ -1,6 +1,7 @@
 // The bytes of a card's entries, and their kinds: numbers, values and records in their places, and what negating makes of a kind and of a comparison.
 // Short names: k, the number of an entry; r, where its record starts.
 ghost use mathlib.Core.Path.{_≡_};
+ghost use mathlib.Core.Bool.{cond};
 ghost use mathlib.Core.List.{_∷_, []};
 ghost use Prim.Native.Nat.{_+_, _*_, _<_, _≤_};
 ghost use lib.ListN.{length};
@@ -147,24 +148,24 @@ pub fn comparison_as(op: usize, negate: bool) -> usize
     }
 }
 
+// The first number where b is true, else the second.
+fn either(b: bool, yes: usize, no: usize) -> usize
+    ensures { λ r. ⌜ r ≡ cond b yes no ⌝ }
+{
+    if b {
+        return yes;
+    }
+    no
+}
+
 // AND and OR, which negating swaps.
 pub fn pair_kind(kind: usize, negate: bool) -> usize
     requires { ⌜ JoinNumber kind ⌝ }
     ensures { λ r. ⌜ JoinedAs negate kind r ⌝ }
 {
     match kind {
-        AND_PART => {
-            if negate {
-                return OR_ENTRY;
-            }
-            AND_ENTRY
-        }
-        OR_PART => {
-            if negate {
-                return AND_ENTRY;
-            }
-            OR_ENTRY
-        }
+        AND_PART => either(negate, OR_ENTRY, AND_ENTRY),
+        OR_PART => either(negate, AND_ENTRY, OR_ENTRY),
         _ => {
             cells::never();
             AND_ENTRY
@@ -176,20 +177,14 @@ pub fn pair_kind(kind: usize, negate: bool) -> usize
 pub fn row_kind(every: bool) -> usize
     ensures { λ r. ⌜ r ≡ rowKindAs every ⌝ }
 {
-    if every {
-        return EVERY_ROW;
-    }
-    SOME_ROW
+    either(every, EVERY_ROW, SOME_ROW)
 }
 
 // A comparison where unknown counts as yes, or as no; negating swaps these.
 pub fn compare_kind(negate: bool, unknown: bool) -> usize
     ensures { λ r. ⌜ r ≡ compareKindAs negate unknown ⌝ }
 {
-    if negate == unknown {
-        return COMPARISON_OR_NO;
-    }
-    COMPARISON_OR_YES
+    either(negate == unknown, COMPARISON_OR_NO, COMPARISON_OR_YES)
 }
 
 // Blank and not blank, from IS NULL and IS NOT NULL, which negating swaps.
@@ -198,18 +193,8 @@ pub fn mark_kind(kind: usize, negate: bool) -> usize
     ensures { λ r. ⌜ MarkedAs negate kind r ⌝ }
 {
     match kind {
-        NULL_PART => {
-            if negate {
-                return NOT_BLANK;
-            }
-            BLANK
-        }
-        NOT_NULL_PART => {
-            if negate {
-                return BLANK;
-            }
-            NOT_BLANK
-        }
+        NULL_PART => either(negate, NOT_BLANK, BLANK),
+        NOT_NULL_PART => either(negate, BLANK, NOT_BLANK),
         _ => {
             cells::never();
             BLANK

@@ -29,8 +29,14 @@ unfoldable pub ofKind : ℕ → List Part → ℕ
 ofKind kind [] = 0
 ofKind kind (p ∷ ps) = cond (eqb (p .kind) kind) 1 0 + ofKind kind ps
 
+-- the parts of kind 3, which have no entry
+abbrev pub withoutEntry : List Part → ℕ
+withoutEntry ps = ofKind (unaryKind Not) ps
+
+-- the parts of kinds 8 and 9, which have two entries more than others
+abbrev pub ofLists : List Part → ℕ
+ofLists ps = ofKind (listKind Some) ps + ofKind (listKind All) ps
+
 -- n = parts − (parts of kind 3) + 2 × (parts of kinds 8 and 9)
 abbrev pub publishedSum : Rule → ℕ
-publishedSum r =
-    let ps = partsOf r in
-    length ps - ofKind (unaryKind Not) ps + 2 * (ofKind (listKind Some) ps + ofKind (listKind All) ps)
+publishedSum r = let ps = partsOf r in length ps - withoutEntry ps + 2 * ofLists ps

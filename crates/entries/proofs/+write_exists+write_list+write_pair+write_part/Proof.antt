@@ -5,9 +5,9 @@ use mathlib.Core.Logic.{⊎-elim}
 use native.Mathlib.Omega.{arith}
 use Rattle.tables.specs.Values.{And}
 use Rattle.rule.specs.Names.{mostParts}
-use Rattle.rule.proofs.Groups.{join-number, mark-number, list-number}
+use Rattle.rule.proofs.Groups.{join-number}
 use Rattle.parts.proofs.Parts.{kind-low, kind-high}
-use Rattle.entries.proofs.Writing.{compare-ready, compare-wrote, mark-ready, mark-wrote, not-ready, not-wrote, join-few, next-above, pair-plain-asked, left-ready, right-ready, pair-end-asked, pair-wrote, exists-plain-asked, exists-ready, exists-end-asked, exists-wrote, list-plain-asked, list-plain-asked-2, list-ready, list-compare-ready, list-end-asked, list-end-asked-2, list-wrote}
+use Rattle.entries.proofs.Writing.{mark-left, list-left, compare-ready, compare-wrote, mark-ready, mark-wrote, not-ready, not-wrote, join-few, next-above, pair-plain-asked, left-ready, right-ready, pair-end-asked, pair-wrote, exists-plain-asked, exists-ready, exists-end-asked, exists-wrote, list-plain-asked, list-plain-asked-2, list-ready, list-compare-ready, list-end-asked, list-end-asked-2, list-wrote}
 use Prim.Native.Nat.{ℕ, _+_, _*_, _-_, _<_}
 use borrow.Fn.Kinds.{In}
 use borrow.Fn.PlainCycle.{Measures, is, falls, and}
@@ -224,21 +224,13 @@ write-part-write-pair-requires t c κs =
 write-part-write-mark-requires : (t : ℕ) → write-part-lts.Need-write-mark-requires (write-part-claims t) (write-part-at t) write-part.Post
 write-part-write-mark-requires t c κs =
     let o = c .before .before .before .before .before .before .before .before in
-    let a = c .before .before .before .if2 .left in
-    let b = c .before .before .if3 .taken in
-    let r = c .before .before .before .before .before .match .rest in
-    let n3 = r .0 .0 .1 in
-    let n4 = r .0 .1 in
-    mark-ready (o .pre .1) (mark-number _ (omega arith) (omega arith))
+    mark-ready (o .pre .1) (mark-left _ (c .before .before .before .before .before .match .rest) (omega (arith, c .before .before .before .if2 .left)) (omega (arith, c .before .before .if3 .taken)))
 
 write-part-write-list-requires : (t : ℕ) → write-part-lts.Need-write-list-requires (write-part-claims t) (write-part-at t) write-part.Post
 write-part-write-list-requires t c κs =
     let o = c .before .before .before .before .before .before .before .before .before in
     let m = o .pre .0 in
-    let a = c .before .before .before .if3 .left in
-    let b = c .before .before .if4 .taken in
-    let n7 = c .before .before .before .before .before .before .match .rest .1 in
-    (omega arith, (o .pre .1, list-number _ (omega arith) (omega arith)))
+    (omega arith, (o .pre .1, list-left _ (c .before .before .before .before .before .before .match .rest) (omega (arith, c .before .before .before .if3 .left)) (omega (arith, c .before .before .if4 .taken))))
 
 write-part-never-requires : (t : ℕ) → write-part-lts.Need-never-requires (write-part-claims t) (write-part-at t) write-part.Post
 write-part-never-requires t c κs =
@@ -264,12 +256,7 @@ write-part-returns-4 t c = c .before .before .write-pair .ensures
 
 write-part-returns-5 : (t : ℕ) → write-part-lts.Need-returns-5 (write-part-claims t) (write-part-at t) write-part.Post
 write-part-returns-5 t c =
-    let a = c .before .before .before .before .before .before .if2 .left in
-    let b = c .before .before .before .before .before .if3 .taken in
-    let r = c .before .before .before .before .before .before .before .before .match .rest in
-    let n3 = r .0 .0 .1 in
-    let n4 = r .0 .1 in
-    λ h. mark-wrote h (mark-number _ (omega arith) (omega arith)) (c .before .before .write-mark .ensures)
+    λ h. mark-wrote h (mark-left _ (c .before .before .before .before .before .before .before .before .match .rest) (omega (arith, c .before .before .before .before .before .before .if2 .left)) (omega (arith, c .before .before .before .before .before .if3 .taken))) (c .before .before .write-mark .ensures)
 
 write-part-returns-6 : (t : ℕ) → write-part-lts.Need-returns-6 (write-part-claims t) (write-part-at t) write-part.Post
 write-part-returns-6 t c = c .before .before .write-list .ensures

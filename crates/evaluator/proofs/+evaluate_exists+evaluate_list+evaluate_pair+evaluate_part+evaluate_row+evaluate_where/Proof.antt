@@ -10,11 +10,11 @@ use borrow.Author.Tests.{eq-eqb, ne-eqb}
 use Rattle.tables.specs.Values.{And, Or, Some, All}
 use Rattle.rule.specs.Names.{mostParts}
 use Rattle.rule.specs.Condition.{Not}
-use Rattle.rule.specs.Meaning.{False, True, truthNumber}
-use Rattle.rule.proofs.Groups.{test-number}
+use Rattle.rule.specs.Meaning.{False, truthNumber}
+use Rattle.rule.proofs.Groups.{test-bounds, test-number}
 use Rattle.names.specs.Code.{partSize}
-use Rattle.evaluator.proofs.Truths.{not-rank, over-none-by, quantifierOf, none-is, none-high, none-decides}
-use Rattle.evaluator.proofs.Evaluating.{RowsPassed, passed-none, passed-more, start, kind-bounds, test-left, test-ready, test-evaluated, unary-inner, unary-room, unary-evaluated, next-bounds, left-inner, right-inner, decides-join, join-stops, join-evaluated, range-bounds, row-room, exists-ranging, exists-inner, exists-true, exists-lost, exists-false, listed-ranging, outer-ready, row-ready, row-valued, listed-decides, listed-ends, row-start, selected-ready, row-lost, row-compared}
+use Rattle.evaluator.proofs.Truths.{over-none-by, quantifierOf, none-is, none-high, none-decides}
+use Rattle.evaluator.proofs.Evaluating.{RowsPassed, passed-none, passed-more, start, test-left, test-ready, test-evaluated, unary-inner, unary-room, unary-evaluated, next-bounds, left-inner, right-inner, decides-join, join-stops, join-evaluated, range-bounds, row-room, exists-ranging, exists-inner, exists-true, exists-lost, exists-false, listed-ranging, outer-ready, row-ready, row-valued, listed-decides, listed-ends, row-start, selected-ready, row-lost, row-compared}
 use borrow.Fn.Kinds.{PK, In}
 use borrow.Fn.PlainCycle.{Measures, is, falls, and}
 use Rattle.evaluator.proofs.evaluate_exists.Reads as evaluate-exists
@@ -42,6 +42,7 @@ use Rattle.evaluator.proofs.compare.Reads as compare-reads
 use Rattle.evaluator.proofs.evaluate_test.Reads as evaluate-test-reads
 use Rattle.evaluator.proofs.greater.Reads as greater-reads
 use Rattle.evaluator.proofs.lesser.Reads as lesser-reads
+use Rattle.evaluator.proofs.unary_value.Reads as unary-value-reads
 use Rattle.values.proofs.look.Reads as look-reads
 use Rattle.evaluator.proofs.+evaluate_exists+evaluate_list+evaluate_pair+evaluate_part+evaluate_row+evaluate_where.{
   statement,
@@ -125,7 +126,7 @@ abbrev evaluate-pair-claims : ℕ → evaluate-pair-lts.Claims
 evaluate-pair-claims t = (evaluate-part-below t, evaluate-part.Post, lesser-reads.Asked, lesser-reads.Learnt, greater-reads.Asked, greater-reads.Learnt)
 
 abbrev evaluate-part-claims : ℕ → evaluate-part-lts.Claims
-evaluate-part-claims t = (evaluate-pair-below t, evaluate-pair.Post, evaluate-part-below t, evaluate-part.Post, evaluate-exists-below t, evaluate-exists.Post, evaluate-list-below t, evaluate-list.Post, evaluate-test-reads.Asked, evaluate-test-reads.Learnt, never-reads.Asked, never-reads.Learnt)
+evaluate-part-claims t = (evaluate-pair-below t, evaluate-pair.Post, evaluate-part-below t, evaluate-part.Post, unary-value-reads.Asked, unary-value-reads.Learnt, evaluate-exists-below t, evaluate-exists.Post, evaluate-list-below t, evaluate-list.Post, evaluate-test-reads.Asked, evaluate-test-reads.Learnt, never-reads.Asked, never-reads.Learnt)
 
 abbrev evaluate-row-claims : ℕ → evaluate-row-lts.Claims
 evaluate-row-claims t = (evaluate-where-below t, evaluate-where.Post, look-reads.Asked, look-reads.Learnt, compare-reads.Asked, compare-reads.Learnt)
@@ -367,10 +368,11 @@ evaluate-part-add-evaluate-part : (t : ℕ) → evaluate-part-lts.Need-add-evalu
 evaluate-part-add-evaluate-part t c = let z = start (c .before .before .before .pre .1) in omega arith
 
 evaluate-part-evaluate-part-requires : (t : ℕ) → evaluate-part-lts.Need-evaluate-part-requires (evaluate-part-claims t) (evaluate-part-at t) evaluate-part.Post
-evaluate-part-evaluate-part-requires t c κs = let m = c .before .before .before .pre .0 in let z = start (c .before .before .before .pre .1) in (omega arith, unary-inner (c .before .before .before .pre .1) Not (c .match .keys3))
+evaluate-part-evaluate-part-requires t c κs = let m = c .before .before .before .pre .0 in let z = start (c .before .before .before .pre .1) in (omega arith, unary-inner (c .before .before .before .pre .1) (Not, c .match .keys3))
 
-evaluate-part-sub-result : (t : ℕ) → evaluate-part-lts.Need-sub-result (evaluate-part-claims t) (evaluate-part-at t) evaluate-part.Post
-evaluate-part-sub-result t c = let z = unary-room (c .before .before .before .before .pre .1) Not (c .before .match .keys3) (c .evaluate-part .result) (c .evaluate-part .ensures) in omega arith
+evaluate-part-unary-value-requires : (t : ℕ) → evaluate-part-lts.Need-unary-value-requires (evaluate-part-claims t) (evaluate-part-at t) evaluate-part.Post
+evaluate-part-unary-value-requires t c κs =
+    ((Not, c .before .match .keys3), unary-room (c .before .before .before .before .pre .1) (Not, c .before .match .keys3) (c .evaluate-part .result) (c .evaluate-part .ensures))
 
 evaluate-part-evaluate-exists-requires : (t : ℕ) → evaluate-part-lts.Need-evaluate-exists-requires (evaluate-part-claims t) (evaluate-part-at t) evaluate-part.Post
 evaluate-part-evaluate-exists-requires t c κs = let m = c .before .before .before .pre .0 in (omega arith, (c .before .before .before .pre .1, c .match .keys4))
@@ -384,13 +386,12 @@ evaluate-part-evaluate-list-requires-2 t c κs = let m = c .before .before .befo
 evaluate-part-evaluate-test-requires : (t : ℕ) → evaluate-part-lts.Need-evaluate-test-requires (evaluate-part-claims t) (evaluate-part-at t) evaluate-part.Post
 evaluate-part-evaluate-test-requires t c κs =
     let o = c .before .before .before .before .before .pre .1 in
-    test-ready o (test-left o (c .before .before .match .rest .0 .0 .0) (c .if2 .taken))
+    test-ready o (test-left o (c .before .before .match .rest))
 
 evaluate-part-never-requires : (t : ℕ) → evaluate-part-lts.Need-never-requires (evaluate-part-claims t) (evaluate-part-at t) evaluate-part.Post
 evaluate-part-never-requires t c κs =
-    let (low, high) = kind-bounds (c .before .before .before .before .pre .1) in
-    let other = c .before .match .rest in
-    ⊎-elim (λ w. omega (arith, w .taken, low)) (λ w. omega (arith, w .1 .left, high, other .1, other .0 .1, other .0 .0 .1)) (c .if1 .came)
+    let b = test-bounds _ (test-left (c .before .before .before .before .pre .1) (c .before .match .rest)) in
+    ⊎-elim (λ w. omega (arith, w .taken, b)) (λ w. omega (arith, w .1 .left, b)) (c .if1 .came)
 
 evaluate-part-returns : (t : ℕ) → evaluate-part-lts.Need-returns (evaluate-part-claims t) (evaluate-part-at t) evaluate-part.Post
 evaluate-part-returns t c = c .evaluate-pair .ensures
@@ -399,7 +400,8 @@ evaluate-part-returns-2 : (t : ℕ) → evaluate-part-lts.Need-returns-2 (evalua
 evaluate-part-returns-2 t c = c .evaluate-pair2 .ensures
 
 evaluate-part-returns-3 : (t : ℕ) → evaluate-part-lts.Need-returns-3 (evaluate-part-claims t) (evaluate-part-at t) evaluate-part.Post
-evaluate-part-returns-3 t c = λ h. unary-evaluated h Not (c .before .match .keys3) (c .evaluate-part .result) (c .evaluate-part .ensures) (truthNumber True -_) not-rank
+evaluate-part-returns-3 t c = λ h.
+    unary-evaluated h (Not, c .before .before .match .keys3) (c .before .evaluate-part .result) (c .before .evaluate-part .ensures) _ (c .unary-value .ensures)
 
 evaluate-part-returns-4 : (t : ℕ) → evaluate-part-lts.Need-returns-4 (evaluate-part-claims t) (evaluate-part-at t) evaluate-part.Post
 evaluate-part-returns-4 t c = c .evaluate-exists .ensures
@@ -412,7 +414,7 @@ evaluate-part-returns-6 t c = c .evaluate-list2 .ensures
 
 evaluate-part-returns-7 : (t : ℕ) → evaluate-part-lts.Need-returns-7 (evaluate-part-claims t) (evaluate-part-at t) evaluate-part.Post
 evaluate-part-returns-7 t c = λ h.
-    test-evaluated h (test-left h (c .before .before .before .match .rest .0 .0 .0) (c .before .if2 .taken)) (c .evaluate-test .result) (c .evaluate-test .ensures)
+    test-evaluated h (test-left h (c .before .before .before .match .rest)) (c .evaluate-test .result) (c .evaluate-test .ensures)
 
 evaluate-part-returns-8 : (t : ℕ) → evaluate-part-lts.Need-returns-8 (evaluate-part-claims t) (evaluate-part-at t) evaluate-part.Post
 evaluate-part-returns-8 t c = absurd (c .never .ensures)
@@ -582,7 +584,7 @@ pub +evaluate-exists+evaluate-list+evaluate-pair+evaluate-part+evaluate-row+eval
     (evaluate-part-evaluate-pair-requires-2 t)
     (evaluate-part-add-evaluate-part t)
     (evaluate-part-evaluate-part-requires t)
-    (evaluate-part-sub-result t)
+    (evaluate-part-unary-value-requires t)
     (evaluate-part-evaluate-exists-requires t)
     (evaluate-part-evaluate-list-requires t)
     (evaluate-part-evaluate-list-requires-2 t)

@@ -1,27 +1,19 @@
 -- Each number comes by the part's kind and by whether it is negated.
 use Rattle.tables.specs.Values.{Null, NotNull}
-use Rattle.records.proofs.Flags.{marked, some-mark}
+use Rattle.rule.proofs.Groups.{some-mark}
+use Rattle.records.proofs.Flags.{marked}
 use borrow.Author.Needs.{needs}
 use Rattle.records.proofs.mark_kind.Statement.{statement}
 use Rattle.records.proofs.mark_kind.Tie as tie
 
-returns : tie.Need-returns
-returns c = marked Null (c .if1 .taken) (c .before .match .keys1)
-
-returns-2 : tie.Need-returns-2
-returns-2 c = marked NotNull (c .if2 .taken) (c .before .match .keys2)
-
 never-requires : tie.Need-never-requires
 never-requires c κs = let r = c .match .rest in some-mark (c .before .pre) (r .0 .1) (r .1)
 
-returns-3 : tie.Need-returns-3
-returns-3 c = marked Null (c .if1 .left) (c .before .match .keys1)
+returns : tie.Need-returns
+returns c = marked (c .before .before .args .negate) Null (c .before .match .keys1) (c .either .ensures)
 
-returns-4 : tie.Need-returns-4
-returns-4 c = marked NotNull (c .if2 .left) (c .before .match .keys2)
-
-returns-5 : tie.Need-returns-5
-returns-5 c = search needs
+returns-2 : tie.Need-returns-2
+returns-2 c = marked (c .before .before .args .negate) NotNull (c .before .match .keys2) (c .either2 .ensures)
 
 pub mark-kind-spec : {M : Type 1} → statement M
-mark-kind-spec = tie.close (tie.spec returns returns-2 never-requires returns-3 returns-4 returns-5)
+mark-kind-spec = tie.close (tie.spec (λ c κs. search needs) (λ c κs. search needs) never-requires returns returns-2 (λ c. search needs))
