@@ -20,6 +20,8 @@ use names::PART_NUMBERS;
 
 // Texts of at most so many bytes get an array of tokens that is no longer than that: setting up the one for the longest text takes longer than reading a
 // short one.
+const BRIEF_TEXT: usize = 32;
+
 const SHORT_TEXT: usize = 128;
 
 const MIDDLE_TEXT: usize = 1024;
@@ -135,6 +137,10 @@ pub fn parse(text: &[u8], file: &[u8], parts: &mut [usize; PART_NUMBERS]) -> Par
     let long = text.len();
     if MOST_BYTES < long {
         return Parsed::Refused(Reason::TextLength);
+    }
+    if long <= BRIEF_TEXT {
+        let mut tokens = [0usize; BRIEF_TEXT];
+        return parse_text(text, file, &mut tokens, parts);
     }
     if long <= SHORT_TEXT {
         let mut tokens = [0usize; SHORT_TEXT];

@@ -1,13 +1,12 @@
 -- The entries of a rule's card, part by part: what is left to count are the entries of the rules whose parts stand from a number on.
 use mathlib.Core.Path.{_≡_, refl, sym, ap, subst, _∙_}
 use mathlib.Core.List.{List, [], _∷_}
-use mathlib.Core.Logic.{inl, inr}
 use Prim.Native.Nat.{ℕ, _+_, _*_, _<_, _≤_}
 use native.Mathlib.Omega.{arith}
 use lib.ListN.{getD}
 use Rattle.rule.specs.Condition.{Compare, Mark, Unary, Not, From, Single, Atom, Join, Apply, Exists, Listed, Rule, letters, parts}
-use Rattle.rule.specs.Parts.{Kind, CompareKind, MarkKind, kindNumber, kindOf}
-use Rattle.rule.specs.Groups.{KindNumber, TestNumber}
+use Rattle.rule.specs.Parts.{Kind, kindNumber, kindOf}
+use Rattle.rule.specs.Groups.{KindNumber}
 use Rattle.rule.specs.Sum.{unarySum, entrySum}
 use Rattle.rule.proofs.Groups.{same-kind}
 use Rattle.names.specs.Code.{partSize}
@@ -18,10 +17,6 @@ use Rattle.parts.proofs.Parts.{parts-low, headOf, kind-stands}
 -- two kinds with one number have the same entries
 pub own-same : (k l : Kind) (n : ℕ) → n ≡ kindNumber k → n ≡ kindNumber l → ownEntries k ≡ ownEntries l
 own-same k l n e f = ap ownEntries (same-kind k l (sym e ∙ f))
-
-pub own-test : {n : ℕ} → TestNumber n → (k : Kind) → n ≡ kindNumber k → 1 ≡ ownEntries k
-own-test (inl e) k f = own-same CompareKind k _ e f
-own-test (inr m) k f = own-same (MarkKind (m .0)) k _ (m .1) f
 
 -- what a part adds to the entries of the condition in it
 own-unary : (u : Unary) (n : ℕ) → unarySum u 0 + n ≡ unarySum u n

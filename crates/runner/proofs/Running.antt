@@ -180,12 +180,16 @@ module _ {n : ℕ} {r : Bool} where
   told-pair (inl (inr k)) t e = absurd (true≢false (sym e ∙ t .1 (inl k)))
   told-pair (inr k) t e = absurd (true≢false (sym e ∙ t .1 (inr k)))
 
--- no kind of an entry with inner ones is left where the number is none of theirs
-pub inner-none : {n : ℕ} → InnerNumber n → (n ≡ pairKind And → ⊥) → (n ≡ pairKind Or → ⊥) → (n ≡ rowKind Some → ⊥) → (n ≡ rowKind All → ⊥) → ⊥
-inner-none (inl (And, e)) no-and no-or no-some no-all = no-and e
-inner-none (inl (Or, e)) no-and no-or no-some no-all = no-or e
-inner-none (inr (Some, e)) no-and no-or no-some no-all = no-some e
-inner-none (inr (All, e)) no-and no-or no-some no-all = no-all e
+-- no kind of an entry with inner ones is left where the number is none of theirs, two inner entries or rows
+pub pair-none : {n : ℕ} {r : Bool} → InnerNumber n → TellsPair n r → r ≡ true → (n ≡ pairKind And → ⊥) → (n ≡ pairKind Or → ⊥) → ⊥
+pair-none (inl (And, e)) t e′ no-and no-or = no-and e
+pair-none (inl (Or, e)) t e′ no-and no-or = no-or e
+pair-none (inr k) t e′ no-and no-or = true≢false (sym e′ ∙ t .1 (inl k))
+
+pub rows-none : {n : ℕ} {r : Bool} → InnerNumber n → TellsPair n r → r ≡ false → (n ≡ rowKind Some → ⊥) → (n ≡ rowKind All → ⊥) → ⊥
+rows-none (inl k) t e′ no-some no-all = true≢false (sym (t .0 k) ∙ e′)
+rows-none (inr (Some, e)) t e′ no-some no-all = no-some e
+rows-none (inr (All, e)) t e′ no-some no-all = no-all e
 
 -- what tells them
 pub leaf-told : (n : ℕ) → TellsLeaf n (ltb (rowKind All) n)

@@ -48,11 +48,22 @@ slice-aggregate-parse-text-3 c = search needs
 
 parse-text-requires-3 : tie.Need-parse-text-requires-3
 parse-text-requires-3 c κs =
-    let told = c .before .before .before .before .before in
+    let told = c .before .before .before .before .before .before in
     (text-ready _ _ _ (told .enum-told .given .1) (told .before .before .check-tables .ensures) (omega arith), (omega arith, told .before .before .before .before .before .pre))
 
 returns-5 : tie.Need-returns-5
 returns-5 c = search needs
+
+slice-aggregate-parse-text-4 : tie.Need-slice-aggregate-parse-text-4
+slice-aggregate-parse-text-4 c = search needs
+
+parse-text-requires-4 : tie.Need-parse-text-requires-4
+parse-text-requires-4 c κs =
+    let told = c .before .before .before .before .before .before in
+    (text-ready _ _ _ (told .enum-told .given .1) (told .before .before .check-tables .ensures) (omega arith), (omega arith, told .before .before .before .before .before .pre))
+
+returns-6 : tie.Need-returns-6
+returns-6 c = search needs
 
 pub parse-spec : {M : Type 1} → statement M
 parse-spec =
@@ -71,4 +82,7 @@ parse-spec =
     returns-4
     slice-aggregate-parse-text-3
     parse-text-requires-3
-    returns-5)
+    returns-5
+    slice-aggregate-parse-text-4
+    parse-text-requires-4
+    returns-6)

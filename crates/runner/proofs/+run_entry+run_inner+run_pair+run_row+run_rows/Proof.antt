@@ -2,7 +2,7 @@ use mathlib.Core.Path.{sym, _∙_}
 use mathlib.Core.Bool.{true, false}
 use Prim.Native.Nat.{ℕ, _+_, _-_, _*_, _<_}
 use native.Mathlib.Omega.{arith}
-use Rattle.runner.proofs.Running.{RowsPassed, inner-none, leaf-kind-here, inner-kind-here, leaf-ready, leaf-answer, left-run, right-run, left-decides, right-decides, pair-run, rows-run, inner-leaf, row-room, row-few, inner-run, inner-says, row-stops, rows-end, passed-none, passed-more, differ, agree, right-here, middle-here, test-ready, test-decides, test-passes}
+use Rattle.runner.proofs.Running.{RowsPassed, pair-none, rows-none, leaf-kind-here, inner-kind-here, leaf-ready, leaf-answer, left-run, right-run, left-decides, right-decides, pair-run, rows-run, inner-leaf, row-room, row-few, inner-run, inner-says, row-stops, rows-end, passed-none, passed-more, differ, agree, right-here, middle-here, test-ready, test-decides, test-passes}
 use borrow.Fn.Kinds.{In}
 use borrow.Fn.PlainCycle.{Measures, is, falls, and}
 use Rattle.runner.proofs.run_entry.Reads as run-entry
@@ -82,7 +82,7 @@ abbrev run-entry-claims : ℕ → run-entry-lts.Claims
 run-entry-claims t = (is-leaf-reads.Asked, is-leaf-reads.Learnt, run-leaf-reads.Asked, run-leaf-reads.Learnt, run-inner-below t, run-inner.Post)
 
 abbrev run-inner-claims : ℕ → run-inner-lts.Claims
-run-inner-claims t = (run-pair-below t, run-pair.Post, run-rows-below t, run-rows.Post, never-reads.Asked, never-reads.Learnt)
+run-inner-claims t = (is-pair-reads.Asked, is-pair-reads.Learnt, run-pair-below t, run-pair.Post, never-reads.Asked, never-reads.Learnt, run-rows-below t, run-rows.Post)
 
 abbrev run-pair-claims : ℕ → run-pair-lts.Claims
 run-pair-claims t = (run-entry-below t, run-entry.Post)
@@ -109,19 +109,26 @@ run-entry-run-inner-requires t c κs =
     (omega (arith, p .0), (p .1, inner-kind-here (p .1) (c .before .is-leaf .ensures) (c .if1 .left)))
 
 run-inner-run-pair-requires : (t : ℕ) → run-inner-lts.Need-run-pair-requires (run-inner-claims t) (run-inner-at t) run-inner.Post
-run-inner-run-pair-requires t c κs = let p = c .before .before .before .before .pre in (omega (arith, p .0), pair-run (p .1 .0) false (c .match .keys1))
+run-inner-run-pair-requires t c κs = let p = c .before .before .before .before .before .before .pre in (omega (arith, p .0), pair-run (p .1 .0) false (c .match .keys1))
 
 run-inner-run-pair-requires-2 : (t : ℕ) → run-inner-lts.Need-run-pair-requires-2 (run-inner-claims t) (run-inner-at t) run-inner.Post
-run-inner-run-pair-requires-2 t c κs = let p = c .before .before .before .before .pre in (omega (arith, p .0), pair-run (p .1 .0) true (c .match .keys2))
-
-run-inner-run-rows-requires : (t : ℕ) → run-inner-lts.Need-run-rows-requires (run-inner-claims t) (run-inner-at t) run-inner.Post
-run-inner-run-rows-requires t c κs = let p = c .before .before .before .before .pre in (omega (arith, p .0), rows-run (p .1 .0) false (c .match .keys3))
-
-run-inner-run-rows-requires-2 : (t : ℕ) → run-inner-lts.Need-run-rows-requires-2 (run-inner-claims t) (run-inner-at t) run-inner.Post
-run-inner-run-rows-requires-2 t c κs = let p = c .before .before .before .before .pre in (omega (arith, p .0), rows-run (p .1 .0) true (c .match .keys4))
+run-inner-run-pair-requires-2 t c κs = let p = c .before .before .before .before .before .before .pre in (omega (arith, p .0), pair-run (p .1 .0) true (c .match .keys2))
 
 run-inner-never-requires : (t : ℕ) → run-inner-lts.Need-never-requires (run-inner-claims t) (run-inner-at t) run-inner.Post
-run-inner-never-requires t c κs = let r = c .match .rest in inner-none (c .before .before .before .before .pre .1 .1) (r .0 .0 .0 .1) (r .0 .0 .1) (r .0 .1) (r .1)
+run-inner-never-requires t c κs =
+    let r = c .match .rest in
+    pair-none (c .before .before .before .before .before .before .pre .1 .1) (c .before .before .is-pair .ensures) (c .before .if1 .taken) (r .0 .1) (r .1)
+
+run-inner-run-rows-requires : (t : ℕ) → run-inner-lts.Need-run-rows-requires (run-inner-claims t) (run-inner-at t) run-inner.Post
+run-inner-run-rows-requires t c κs = let p = c .before .before .before .before .before .before .pre in (omega (arith, p .0), rows-run (p .1 .0) false (c .match2 .keys1))
+
+run-inner-run-rows-requires-2 : (t : ℕ) → run-inner-lts.Need-run-rows-requires-2 (run-inner-claims t) (run-inner-at t) run-inner.Post
+run-inner-run-rows-requires-2 t c κs = let p = c .before .before .before .before .before .before .pre in (omega (arith, p .0), rows-run (p .1 .0) true (c .match2 .keys2))
+
+run-inner-never-requires-2 : (t : ℕ) → run-inner-lts.Need-never-requires-2 (run-inner-claims t) (run-inner-at t) run-inner.Post
+run-inner-never-requires-2 t c κs =
+    let r = c .match2 .rest in
+    rows-none (c .before .before .before .before .before .before .pre .1 .1) (c .before .before .is-pair .ensures) (c .before .if1 .left) (r .0 .1) (r .1)
 
 run-pair-run-entry-requires : (t : ℕ) → run-pair-lts.Need-run-entry-requires (run-pair-claims t) (run-pair-at t) run-pair.Post
 run-pair-run-entry-requires t c κs =
@@ -245,16 +252,19 @@ pub +run-entry+run-inner+run-pair+run-row+run-rows-spec : {M : Type 1} → state
     (λ c. omega arith)
     (λ c. omega arith)
     (λ c. omega arith)
+    (λ c κs. tt)
     (run-inner-run-pair-requires t)
     (run-inner-run-pair-requires-2 t)
-    (run-inner-run-rows-requires t)
-    (run-inner-run-rows-requires-2 t)
     (run-inner-never-requires t)
     (λ c. c .run-pair .ensures)
     (λ c. c .run-pair2 .ensures)
+    (λ c. absurd (c .never .ensures))
+    (run-inner-run-rows-requires t)
+    (run-inner-run-rows-requires-2 t)
+    (run-inner-never-requires-2 t)
     (λ c. c .run-rows .ensures)
     (λ c. c .run-rows2 .ensures)
-    (λ c. absurd (c .never .ensures)))
+    (λ c. absurd (c .never2 .ensures)))
     (λ t. run-pair-lts.spec
     (run-pair-claims t)
     (run-pair-at t)
