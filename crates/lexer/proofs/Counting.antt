@@ -73,6 +73,10 @@ pub kept-most : (k t o p : ℕ) → Kept k t o p → p ≤ o + 1
 kept-most k t o p (inl w) = omega (arith, w .1)
 kept-most k t o p (inr w) = omega (arith, w .1)
 
+pub kept-least : (k t o p : ℕ) → Kept k t o p → o ≤ p
+kept-least k t o p (inl w) = omega (arith, w .1)
+kept-least k t o p (inr w) = omega (arith, w .1)
+
 counted : (t o c p d : ℕ) → Kept (codeOf Open) t o p → Kept (codeOf Close) t c d → subℕ o c +ℤ bracketStep (tokenOf t) ≡ subℕ p d
 counted t o c p d (inl v) (inl w) = absurd (omega (arith, v .0, w .0))
 counted t o c p d (inl v) (inr w) = rw (step-open t (v .0), v .1, w .1) (one-more o c)

@@ -276,13 +276,17 @@ fn greater(next: usize, i: usize) -> Lexeme
     }
 }
 
-// The token at i, where there is no gap.
+// The token at i, where there is no gap. Brackets are told from other signs first: so they are found by comparisons. By a table of jumps, which is made of
+// more signs than that, a text of many brackets takes longer to read.
 fn first_token(text: &[u8], i: usize) -> Lexeme
     requires { ⌜ i < length (now text) ⌝ ∗ ⌜ length (now text) ≤ mostBytes ⌝ }
     ensures { λ r. ⌜ lexedAs i r ≡ firstToken (byteAt (now (text .entry)) i) (drop (1 + i) (now (text .entry))) ⌝ }
 {
     let b = byte(text, i);
     if b < 48 {
+        if b < 42 {
+            return sign(text, i);
+        }
         if b == 45 {
             return negative(text, i + 1);
         }
@@ -334,7 +338,8 @@ pub fn tokenize(text: &[u8], tokens: &mut [usize]) -> Tokenized
     Tokenized::Tokens(n)
 }
 
-// Whether there are never too many more ( than ) up to a token: refusal 5 does not apply. Both are counted, since the difference may be negative.
+// Whether there are never too many more ( than ) up to a token: refusal 5 does not apply. Both are counted, since the difference may be negative;
+// it grows at a ( alone, so there it is looked at.
 pub fn brackets_fit(tokens: &[usize]) -> bool
     requires { ⌜ length (now tokens) ≤ mostTokens ⌝ }
     ensures { λ r. ⌜ r ≡ opensFit (pos 0) (tokensIn (now (tokens .entry))) ⌝ }
@@ -344,14 +349,14 @@ pub fn brackets_fit(tokens: &[usize]) -> bool
     let mut k: usize = 0;
     while k < tokens.len() {
         let t = tokens[k];
-        if t == OPEN {
-            opened += 1;
-        }
         if t == CLOSE {
             closed += 1;
         }
-        if closed + MOST_OPEN < opened {
-            return false;
+        if t == OPEN {
+            opened += 1;
+            if closed + MOST_OPEN < opened {
+                return false;
+            }
         }
         k += 1;
     }

@@ -5,32 +5,35 @@ use Rattle.lexer.proofs.first_token.Statement.{statement}
 use Rattle.lexer.proofs.first_token.Tie as tie
 
 returns : tie.Need-returns
-returns c = minus-at _ _ _ (c .before .before .before .before .before .pre .0) (c .before .before .before .byte .ensures .0) (c .negative .result) (c .before .if2 .taken) (c .negative .ensures)
+returns c = sign-at _ _ _ (c .before .before .before .before .before .pre .0) (c .before .before .before .byte .ensures .0) _ (λ p q. omega arith) (λ p q. omega arith) (λ p q. omega arith) (λ z. omega arith) (c .sign .ensures)
 
 returns-2 : tie.Need-returns-2
-returns-2 c = sign-at _ _ _ (c .before .before .before .before .before .pre .0) (c .before .before .before .byte .ensures .0) _ (λ p q. omega arith) (λ p q. omega arith) (λ p q. omega arith) (c .before .if2 .left) (c .sign .ensures)
+returns-2 c = minus-at _ _ _ (c .before .before .before .before .before .before .pre .0) (c .before .before .before .before .byte .ensures .0) (c .negative .result) (c .before .if3 .taken) (c .negative .ensures)
 
 returns-3 : tie.Need-returns-3
-returns-3 c = digit-at _ _ _ (c .before .before .before .before .before .pre .0) (c .before .before .before .byte .ensures .0) _ (omega arith) (omega arith) (c .number .ensures)
+returns-3 c = sign-at _ _ _ (c .before .before .before .before .before .before .pre .0) (c .before .before .before .before .byte .ensures .0) _ (λ p q. omega arith) (λ p q. omega arith) (λ p q. omega arith) (c .before .if3 .left) (c .sign2 .ensures)
 
 returns-4 : tie.Need-returns-4
-returns-4 c = sign-at _ _ _ (c .before .before .before .before .before .before .pre .0) (c .before .before .before .before .byte .ensures .0) _ (λ p q. omega arith) (λ p q. omega arith) (λ p q. omega arith) (λ z. omega arith) (c .sign2 .ensures)
+returns-4 c = digit-at _ _ _ (c .before .before .before .before .before .pre .0) (c .before .before .before .byte .ensures .0) _ (omega arith) (omega arith) (c .number .ensures)
 
 returns-5 : tie.Need-returns-5
-returns-5 c = capital-at _ _ _ (c .before .before .before .before .before .before .before .pre .0) (c .before .before .before .before .before .byte .ensures .0) _ (omega arith) (omega arith) (c .word .ensures)
+returns-5 c = sign-at _ _ _ (c .before .before .before .before .before .before .pre .0) (c .before .before .before .before .byte .ensures .0) _ (λ p q. omega arith) (λ p q. omega arith) (λ p q. omega arith) (λ z. omega arith) (c .sign3 .ensures)
 
 returns-6 : tie.Need-returns-6
-returns-6 c =
-    let start = c .before .before .before .before .before .before .before in
-    nothing-at (start .args .text .now) _ _ (start .pre .0) (c .before .before .before .before .before .byte .ensures .0) (omega arith) (λ p q. omega arith) (λ p q. omega arith)
+returns-6 c = capital-at _ _ _ (c .before .before .before .before .before .before .before .pre .0) (c .before .before .before .before .before .byte .ensures .0) _ (omega arith) (omega arith) (c .word .ensures)
 
 returns-7 : tie.Need-returns-7
 returns-7 c =
-    let start = c .before .before .before .before .before .before .before .before in
-    nothing-at (start .args .text .now) _ _ (start .pre .0) (c .before .before .before .before .before .before .byte .ensures .0) (omega arith) (λ p q. omega arith) (λ p q. omega arith)
+    let start = c .before .before .before .before .before .before .before in
+    nothing-at (start .args .text .now) _ _ (start .pre .0) (c .before .before .before .before .before .byte .ensures .0) (omega arith) (λ p q. omega arith) (λ p q. omega arith)
 
 returns-8 : tie.Need-returns-8
 returns-8 c =
+    let start = c .before .before .before .before .before .before .before .before in
+    nothing-at (start .args .text .now) _ _ (start .pre .0) (c .before .before .before .before .before .before .byte .ensures .0) (omega arith) (λ p q. omega arith) (λ p q. omega arith)
+
+returns-9 : tie.Need-returns-9
+returns-9 c =
     let start = c .before .before .before .before .before .before .before .before in
     small-at (start .args .text .now) _ _ (start .pre .0) (c .before .before .before .before .before .before .byte .ensures .0) (omega arith) (omega arith)
 
@@ -39,9 +42,9 @@ first-token-spec =
     tie.close
     (tie.spec
     (λ c κs. search needs)
-    (λ c. search needs)
     (λ c κs. search needs)
     returns
+    (λ c. search needs)
     (λ c κs. search needs)
     returns-2
     (λ c κs. search needs)
@@ -50,7 +53,9 @@ first-token-spec =
     returns-4
     (λ c κs. search needs)
     returns-5
+    (λ c κs. search needs)
     returns-6
     returns-7
+    returns-8
     (λ c. search needs)
-    returns-8)
+    returns-9)
