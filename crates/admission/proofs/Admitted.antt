@@ -58,7 +58,7 @@ module _ (text file : List ℕ) (accepted : Accepted text file) where
   card-short : publishedLength file rule ≤ mostCardBytes
   card-short =
       let k = known text file rule accepted (demand-3 .is-rule) in
-      card-bytes-few file rule (k .sized .tables-high) (k .few-parts)
+      card-bytes-few file rule (k .sized .tables-high) (k .few-entries)
 
   -- the file that the text is accepted with comes later than itself
   later : Later file file

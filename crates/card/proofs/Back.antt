@@ -13,10 +13,10 @@ use lib.ListN.{length, getD, drop, length-append}
 use Rattle.tables.specs.Lists.{tabulate, numbered, all, only, _>>=_}
 use Rattle.tables.specs.Bytes.{between, byteAt, word32, bytes32, bits, inRange}
 use Rattle.tables.specs.Tables.{mostTables, mostColumns}
-use Rattle.tables.specs.Values.{constantTag, judgedLevels, Value, Constant, Column, unusedValue, Comparison, Eq, Ne, Lt, Le, Gt, Ge, comparisonNumber, And, Or, Some, All, Null, NotNull, valueFits}
+use Rattle.tables.specs.Values.{mostEntries, constantTag, judgedLevels, Value, Constant, Column, unusedValue, Comparison, Eq, Ne, Lt, Le, Gt, Ge, comparisonNumber, And, Or, Some, All, Null, NotNull, valueFits}
 use Rattle.card.specs.Card.{mostRowEntries, AsNo, AsYes, Leaf, CompareLeaf, MarkLeaf, Card, LeafEntry, PairEntry, RowEntry, entries, leafFits, rowEntryFits, cardFits}
 use Rattle.card.specs.Layout.{recordSize, valueSize, leftPlace, rightPlace, Kind, PairKind, RowKind, ComparisonKind, MarkKind, kindNumber, kindWith, uses, Head, LeafHead, PairHead, RowHead, kindOf, valueBytes, recordBytes, cardBytes, valueOf, valueFrom, zeros, recordFits, headIn, headFrom, inside, entryFrom, cardFrom}
-use Rattle.card.specs.Sound.{mostEntries, columnsFit, laid, sound, Sound}
+use Rattle.card.specs.Sound.{columnsFit, laid, sound, Sound}
 use Rattle.tables.proofs.Values.{comparison-back}
 use Rattle.tables.proofs.Tests.{is-true, both, bounds}
 use Rattle.card.proofs.Places.{at, at0, skip-to, from16, from32, bits-small, signed-bits}

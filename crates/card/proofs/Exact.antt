@@ -11,10 +11,10 @@ use lib.ListN.{length, getD, take, drop, length-drop, take-append-drop, drop-of-
 use lib.Seq.{take-take, drop-cons, drop-drop, getD-drop, length-take-le}
 use Rattle.tables.specs.Lists.{tabulate, all, only, _>>=_}
 use Rattle.tables.specs.Bytes.{between, byteAt, word16, word32, bytes16, bytes32, signed}
-use Rattle.tables.specs.Values.{constantTag, judgedLevels, Value, Constant, Column, unusedValue, Uses, Comparison, comparisonNumber, comparisonOf, Connective, Quantifier}
+use Rattle.tables.specs.Values.{mostEntries, constantTag, judgedLevels, Value, Constant, Column, unusedValue, Uses, Comparison, comparisonNumber, comparisonOf, Connective, Quantifier}
 use Rattle.card.specs.Card.{Leaf, Card, LeafEntry, PairEntry, RowEntry, entries, cardFits}
 use Rattle.card.specs.Layout.{recordSize, valueSize, tablePlace, comparisonPlace, leftPlace, rightPlace, Kind, PairKind, RowKind, ComparisonKind, MarkKind, pairKind, rowKind, kindNumber, kindWith, uses, Head, LeafHead, PairHead, RowHead, kindOf, headWith, valueBytes, fieldsWith, fieldBytes, recordBytes, kindBytes, recordsFrom, cardBytes, cardLength, entryCount, tablesIn, columnsIn, kindAt, recordAt, endAt, valueFrom, zeros, recordFits, headIn, headFrom, Taken, inside, entryFrom, cardFrom}
-use Rattle.card.specs.Sound.{mostEntries, columnsFit, holdsFitting, laid, sound, Sound}
+use Rattle.card.specs.Sound.{columnsFit, holdsFitting, laid, sound, Sound}
 use Rattle.tables.proofs.Values.{comparison-number}
 use Rattle.tables.proofs.Tests.{both, bounds}
 use Rattle.card.proofs.Places.{tabulated, to16, to32, in-range}

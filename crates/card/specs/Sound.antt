@@ -10,13 +10,9 @@ use lib.ListN.{length}
 use Rattle.tables.specs.Lists.{all}
 use Rattle.tables.specs.Bytes.{between}
 use Rattle.tables.specs.Tables.{mostTables, mostColumns}
-use Rattle.tables.specs.Values.{judgedLevels}
+use Rattle.tables.specs.Values.{mostEntries, judgedLevels}
 use Rattle.card.specs.Card.{Card, entries, cardFits}
 use Rattle.card.specs.Layout.{cardBytes, cardLength, entryCount, tablesIn, columnsIn, cardFrom}
-
--- how many entries a card may have
-abbrev pub mostEntries : ℕ
-mostEntries = 192
 
 -- how long the longest card is
 abbrev pub mostCardBytes : ℕ
@@ -42,8 +38,8 @@ laid bs =
 unfoldable pub sound : List ℕ → Bool
 sound bs = laid bs && holdsFitting (columnsIn bs) (cardFrom bs)
 
--- the same, said from the card to its bytes and not back: the bytes of a card with as many entries, tables and columns as there may be, which fits
--- them (`T` says of a test that it is true)
+-- the same, said from the card to its bytes and not back: the bytes of a card whose entries, tables and columns keep to the limits, and which fits its
+-- tables (`T` says of a test that it is true)
 pub record Sound (bs : List ℕ) : Type 0 where
   pub columns : List ℕ
   pub card : Card

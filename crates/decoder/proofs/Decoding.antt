@@ -14,7 +14,7 @@ use lib.Seq.{getD-take, getD-drop}
 use Rattle.tables.specs.Lists.{all, only, _>>=_}
 use Rattle.tables.specs.Bytes.{between, byteAt, word16, word32, signed, bits}
 use Rattle.tables.specs.Tables.{mostTables, mostColumns}
-use Rattle.tables.specs.Values.{constantTag, Constant, Column, And, NotNull}
+use Rattle.tables.specs.Values.{mostEntries, constantTag, Constant, Column, And, NotNull}
 use Rattle.cells.specs.Code.{words32, excess, fromExcess, Holds}
 use Rattle.cells.proofs.Holding.{holds-more, holds-same}
 use Rattle.cells.proofs.Signed.{signed-excess, signed-in}
@@ -22,7 +22,7 @@ use Rattle.tables.proofs.Tests.{is-true, is-so, refuted, both, bounds, between-
 use Rattle.tables.proofs.Tabulated.{tabulate-length, all-each, all-of, all-no}
 use Rattle.card.specs.Layout.{recordSize, valueSize, tablePlace, comparisonPlace, leftPlace, rightPlace, Kind, PairKind, RowKind, ComparisonKind, MarkKind, pairKind, markKind, kindNumber, kindWith, uses, Head, cardLength, entryCount, tablesIn, columnsIn, kindAt, recordAt, endAt, valueOf, valueFrom, zeros, recordFits, headIn, headFrom}
 use Rattle.card.specs.Groups.{PairNumber, RowNumber, ComparisonNumber, MarkNumber}
-use Rattle.card.specs.Sound.{laid, mostEntries, columnsFit, sound}
+use Rattle.card.specs.Sound.{laid, columnsFit, sound}
 use Rattle.decoder.specs.Code.{Laid, recordFrom, entrySize, entryEnd, entryTable, entryComparison, entryLeftTag, entryLeftNumber, entryRightTag, entryRightNumber, kindFits, fieldsFit, knownKind, numberIn, numberFrom, fieldsOf, fieldOf, Decoded, kindIn, endIn, headAt}
 use Rattle.values.specs.Code.{valueIn}
 use Rattle.card.proofs.Places.{in-range, bits-small, signed-bits}

@@ -10,12 +10,11 @@ use lib.ListN.{length, getD, take, drop}
 use Rattle.tables.specs.Lists.{_>>=_}
 use Rattle.tables.specs.Bytes.{byteAt, word16, word32, signed, bits}
 use Rattle.tables.specs.Tables.{mostTables, mostColumns}
-use Rattle.tables.specs.Values.{constantTag, Value, comparisonOf, Connective, Quantifier}
+use Rattle.tables.specs.Values.{mostEntries, constantTag, Value, comparisonOf, Connective, Quantifier}
 use Rattle.cells.specs.Code.{excess, Holds}
 use Rattle.values.specs.Code.{valueIn}
 use Rattle.card.specs.Card.{Leaf, Card, LeafEntry, PairEntry, RowEntry}
 use Rattle.card.specs.Layout.{recordSize, tablePlace, comparisonPlace, leftPlace, rightPlace, Kind, kindWith, uses, Head, LeafHead, PairHead, RowHead, headWith, cardLength, entryCount, tablesIn, kindAt, recordAt, recordFits}
-use Rattle.card.specs.Sound.{mostEntries}
 
 -- ---- the layout
 

@@ -6,10 +6,9 @@ use native.Mathlib.Omega.{arith}
 use lib.ListN.{length, length-append}
 use Rattle.tables.specs.Lists.{placed}
 use Rattle.tables.specs.Bytes.{bytes16}
-use Rattle.tables.specs.Values.{Connective, Quantifier}
+use Rattle.tables.specs.Values.{mostEntries, Connective, Quantifier}
 use Rattle.card.specs.Card.{Card, PairEntry, RowEntry, entries}
 use Rattle.card.specs.Layout.{recordSize, pairKind, rowKind, kindBytes, recordsFrom}
-use Rattle.card.specs.Sound.{mostEntries}
 use Rattle.tables.proofs.Placed.{placed-length, placed-next, placed-over}
 use Rattle.card.proofs.Walk.{kinds-length, records-length}
 use Rattle.records.specs.Code.{plainRecord}

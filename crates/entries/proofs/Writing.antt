@@ -10,11 +10,10 @@ use lib.IntN.{ℤ, pos, negsuc}
 use lib.ListN.{length, getD}
 use Rattle.tables.specs.Lists.{placed}
 use Rattle.tables.specs.Bytes.{bytes16, bytes32, bits, inRange}
-use Rattle.tables.specs.Values.{constantTag, Value, Constant, Column, Connective, And, Or, Quantifier, Some, All}
+use Rattle.tables.specs.Values.{mostEntries, constantTag, Value, Constant, Column, Connective, And, Or, Quantifier, Some, All}
 use Rattle.cells.specs.Code.{excess, toExcess}
 use Rattle.card.specs.Card.{CompareLeaf, MarkLeaf, Card, LeafEntry, PairEntry, RowEntry, entries}
 use Rattle.card.specs.Layout.{pairKind, valueBytes, recordSize}
-use Rattle.card.specs.Sound.{mostEntries}
 use Rattle.rule.specs.Condition.{Compare, Mark, Not, Apply, Rule, parts, letters, fromsDeep}
 use Rattle.rule.specs.Names.{mostParts, within, ValueFits, Fits}
 use Rattle.rule.specs.Parts.{joinKind, unaryKind, compareKind, existsKind, listKind, taggedOf}

@@ -7,10 +7,9 @@ use Prim.Native.Nat.{ℕ, _+_, _*_, _<_, _≤_}
 use lib.ListN.{length, getD}
 use Rattle.tables.specs.Lists.{placed}
 use Rattle.tables.specs.Bytes.{bytes32}
-use Rattle.tables.specs.Values.{mostLevels, Value, Comparison, comparisonNumber, MarkTest}
+use Rattle.tables.specs.Values.{mostLevels, mostEntries, Value, Comparison, comparisonNumber, MarkTest}
 use Rattle.card.specs.Card.{Interpretation, AsNo, AsYes, Leaf, CompareLeaf, MarkLeaf, Card, LeafEntry, entries}
 use Rattle.card.specs.Layout.{recordSize, valueBytes, kindBytes, recordsFrom}
-use Rattle.card.specs.Sound.{mostEntries}
 use Rattle.rule.specs.Condition.{Rule, parts, fromsDeep}
 use Rattle.rule.specs.Names.{mostParts, Fits}
 use Rattle.rule.specs.Parts.{markKind}

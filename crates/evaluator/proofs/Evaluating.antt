@@ -19,7 +19,8 @@ use Rattle.values.proofs.Rows.{TableAt}
 use Rattle.values.proofs.Ranging.{NextRow, next-none, next-more, table-bounds, table-here, row-deep, row-room as room-at, row-readable}
 use Rattle.rule.specs.Condition.{Not, From, Single, Atom, Join, Apply, Exists, Listed, Rule, parts, fromsDeep}
 use Rattle.rule.specs.Names.{mostParts, within, ValueFits, TestFits, FromFits, Fits}
-use Rattle.rule.specs.Meaning.{Truth, False, True, truth, isTrue, compare3, over3, meaning, truthNumber}
+use Rattle.rule.specs.Truth.{Truth, False, True, truth, isTrue, truthNumber}
+use Rattle.rule.specs.Meaning.{compare3, over3, meaning}
 use Rattle.rule.specs.Parts.{joinKind, unaryKind, existsKind, listKind, kindOf, tableOf}
 use Rattle.rule.specs.Groups.{KindNumber, UnaryNumber, TestNumber}
 use Rattle.names.specs.Code.{partSize, partComparison, partTable, partEnd, partLeftTag, partLeftNumber, partRightTag, partRightNumber}

@@ -7,7 +7,8 @@ use Rattle.tables.specs.Tables.{Tables, rowsOf}
 use Rattle.tables.specs.Values.{Value, Comparison, Quantifier, Some, Env, _▸_, cellOf}
 use Rattle.tables.proofs.Rows.{any-kept}
 use Rattle.rule.specs.Condition.{Single, Exists, Listed, Rule}
-use Rattle.rule.specs.Meaning.{Truth, truth, isTrue, compare3, over3, ranged, meaning}
+use Rattle.rule.specs.Truth.{Truth, truth, isTrue}
+use Rattle.rule.specs.Meaning.{compare3, over3, ranged, meaning}
 use Rattle.evaluator.specs.Code.{emptyTruth}
 use Rattle.evaluator.proofs.Truths.{over-kept, exists-some}
 

@@ -18,7 +18,8 @@ use Rattle.rule.specs.Names.{ValueFits, TestFits}
 use Rattle.rule.specs.Parts.{compareKind, markKind, kindNumber, kindOf, taggedOf, AtomHead, partOf}
 use Rattle.rule.specs.Groups.{TestNumber}
 use Rattle.names.specs.Code.{partSize, partComparison, partLeftTag, partLeftNumber, partRightTag, partRightNumber}
-use Rattle.rule.specs.Meaning.{truth, compare3, test3, truthNumber}
+use Rattle.rule.specs.Truth.{truth, truthNumber}
+use Rattle.rule.specs.Meaning.{compare3, test3}
 use Rattle.parts.specs.Parts.{Stands}
 use Rattle.rule.proofs.Fits.{value-tested}
 use Rattle.cells.proofs.Signed.{from-to}

@@ -10,7 +10,8 @@ use lib.ListN.{getD}
 use Rattle.tables.specs.Lists.{tabulate, any, put, keep}
 use Rattle.tables.specs.Values.{Connective, And, Or, Quantifier, Some, All}
 use Rattle.rule.specs.Condition.{Unary, Not}
-use Rattle.rule.specs.Meaning.{Truth, False, Unknown, True, truth, isTrue, and3, or3, join3, unary3, over3, truthNumber}
+use Rattle.rule.specs.Truth.{Truth, False, Unknown, True, truth, isTrue, and3, or3, join3, truthNumber}
+use Rattle.rule.specs.Meaning.{unary3, over3}
 use Rattle.rule.specs.Parts.{unaryKind, listKind}
 use Rattle.rule.proofs.Groups.{same-unary}
 use Rattle.rule.proofs.Truths.{some-cons, all-cons}

@@ -15,7 +15,8 @@ use Rattle.rule.specs.Condition.{Test, Unary, From, Rule, parts, fromsDeep}
 use Rattle.rule.specs.Names.{mostParts, ValueFits, TestFits, Fits}
 use Rattle.rule.specs.Parts.{AtomHead, ListedHead, unaryKind, partOf}
 use Rattle.rule.specs.Groups.{JoinNumber, ListNumber}
-use Rattle.rule.specs.Meaning.{Truth, False, Unknown, True, test3, unary3, compare3, isTrue, meaning, truthNumber}
+use Rattle.rule.specs.Truth.{Truth, False, Unknown, True, isTrue, truthNumber}
+use Rattle.rule.specs.Meaning.{test3, unary3, compare3, meaning}
 use Rattle.names.specs.Code.{partsSize}
 use Rattle.parts.specs.Parts.{PartAt, Stands}
 

@@ -13,7 +13,8 @@ use Rattle.cells.specs.Reasons.{reasonNumber}
 use Rattle.cells.specs.declared.Reason.{Reason}
 use Rattle.values.proofs.Ranging.{columnsAt, rowsAt}
 use Rattle.values.proofs.Judged.{one-rows, row-room, row-readable}
-use Rattle.rule.specs.Meaning.{Truth, False, Unknown, True, judged, truthNumber}
+use Rattle.rule.specs.Truth.{Truth, False, Unknown, True, truthNumber}
+use Rattle.rule.specs.Meaning.{judged}
 use Rattle.rule.specs.Calls.{judgeCall}
 use Rattle.rule.proofs.Calls.{calls-claim}
 use Rattle.names.specs.Code.{partSize, partsSize}

@@ -1,7 +1,7 @@
 -- The answer that the code gives as an enum: what each case stands for.
 use Rattle.tables.specs.Refusals.{Answer, Refused, Given}
 use Rattle.cells.specs.Reasons.{reasonNumber}
-use Rattle.rule.specs.Meaning.{Truth, False as FalseValue, Unknown as UnknownValue, True as TrueValue}
+use Rattle.rule.specs.Truth.{Truth, False as FalseValue, Unknown as UnknownValue, True as TrueValue}
 use Rattle.judge.specs.declared.Judged.{Judged}
 use Rattle.judge.specs.declared.Judged.the-variants.{True, False, Unknown, NotJudged}
 

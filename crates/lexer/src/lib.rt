@@ -276,8 +276,8 @@ fn greater(next: usize, i: usize) -> Lexeme
     }
 }
 
-// The token at i, where there is no gap. Brackets are told from other signs first: so they are found by comparisons. By a table of jumps, which is made of
-// more signs than that, a text of many brackets takes longer to read.
+// The token at i, where there is no gap. The branch at 42 changes no answer: below it ( and ) alone are signs, so the compiler compares with these two there
+// and makes no jump table, and a text of many brackets is read faster.
 fn first_token(text: &[u8], i: usize) -> Lexeme
     requires { ⌜ i < length (now text) ⌝ ∗ ⌜ length (now text) ≤ mostBytes ⌝ }
     ensures { λ r. ⌜ lexedAs i r ≡ firstToken (byteAt (now (text .entry)) i) (drop (1 + i) (now (text .entry))) ⌝ }
@@ -338,8 +338,8 @@ pub fn tokenize(text: &[u8], tokens: &mut [usize]) -> Tokenized
     Tokenized::Tokens(n)
 }
 
-// Whether there are never too many more ( than ) up to a token: refusal 5 does not apply. Both are counted, since the difference may be negative;
-// it grows at a ( alone, so there it is looked at.
+// Whether there are never too many more ( than ) up to a token: refusal 5 does not apply. Both are counted, since the difference may be negative.
+// It grows at a ( alone, so it is compared with the limit only there.
 pub fn brackets_fit(tokens: &[usize]) -> bool
     requires { ⌜ length (now tokens) ≤ mostTokens ⌝ }
     ensures { λ r. ⌜ r ≡ opensFit (pos 0) (tokensIn (now (tokens .entry))) ⌝ }

@@ -6,7 +6,7 @@ use Prim.Native.Nat.{ℕ, _*_, _≤_}
 use native.Mathlib.Omega.{arith}
 use lib.ListN.{take}
 use Rattle.tables.specs.Tables.{columnsOf}
-use Rattle.tables.specs.Values.{judgedLevels}
+use Rattle.tables.specs.Values.{mostEntries, judgedLevels}
 use Rattle.tables.specs.Refusals.{firstApplying}
 use Rattle.cells.specs.Code.{Sized}
 use Rattle.cells.specs.Reasons.{reasonNumber}
@@ -32,6 +32,7 @@ pub record Known (file : List ℕ) (rule : Rule) : Type 0 where
   pub fits : Fits (columnsOf file) judgedLevels rule
   pub few-parts : parts rule ≤ mostParts
   pub few-froms : fromsDeep rule ≤ 3
+  pub few-entries : entrySum rule ≤ mostEntries
 
 pub known : (text file : List ℕ) (rule : Rule) → Accepted text file → ruleOf text (columnsOf file) ≡ some rule → Known file rule
 known text file rule a e =
@@ -43,6 +44,7 @@ known text file rule a e =
       fits = w .fits;
       few-parts = w .few-parts;
       few-froms = w .few-froms;
+      few-entries = w .few-entries;
     }
   where
     some-same : (x y : Rule) → some x ≡ some y → x ≡ y
@@ -70,12 +72,14 @@ pub record Read (text file new : List ℕ) (n m : ℕ) : Type 0 where
   pub fits : Fits (columnsOf file) judgedLevels rule
   pub few-parts : n ≤ mostParts
   pub few-froms : fromsDeep rule ≤ 3
+  pub few-entries : m ≤ mostEntries
 
 pub rule-read : (text file new : List ℕ) {r : Parsed} {n m : ℕ} → r ≡ Parsed.Rule n m → ParsedTo text file new r → Read text file new n m
 rule-read text file new {r} {n} {m} e told =
     let q = parse-given text file r new n m told e in
     let k = known text file (q .rule) (q .accepted) (q .is-rule) in
     let few = k .few-parts in
+    let card = k .few-entries in
     record {
       accepted = q .accepted;
       rule = q .rule;
@@ -87,6 +91,7 @@ rule-read text file new {r} {n} {m} e told =
       fits = k .fits;
       few-parts = omega (arith, q .count);
       few-froms = k .few-froms;
+      few-entries = omega (arith, q .sum);
     }
 
 -- the parts of a rule that fits its tables, as READ and CARD want them

@@ -8,11 +8,10 @@ use lib.Dec.{eqb}
 use lib.ListN.{length}
 use Rattle.tables.specs.Lists.{placed}
 use Rattle.tables.specs.Bytes.{bytes16, bytes32}
-use Rattle.tables.specs.Values.{constantTag, unusedValue, Comparison, comparisonNumber, Connective, Some, All, MarkTest}
+use Rattle.tables.specs.Values.{mostEntries, constantTag, unusedValue, Comparison, comparisonNumber, Connective, Some, All, MarkTest}
 use Rattle.cells.specs.Code.{words32, excess}
 use Rattle.card.specs.Card.{AsNo, AsYes}
 use Rattle.card.specs.Layout.{recordSize, pairKind, rowKind, comparisonKind, markKind, valueBytes}
-use Rattle.card.specs.Sound.{mostEntries}
 use Rattle.rule.specs.Parts.{joinKind, markKind as partMark}
 use Rattle.translation.specs.Translation.{otherComparison, otherConnective, otherMark}
 use Rattle.records.specs.declared.LeafNumbers.{LeafNumbers}

@@ -7,7 +7,7 @@ ghost use Rattle.rule.specs.Calls.{readCall, judgeCall};
 ghost use Rattle.translation.specs.Calls.{cardCall};
 ghost use Rattle.reader.specs.Answers.{readAnswer};
 ghost use Rattle.translator.specs.Answers.{madeAnswer};
-ghost use Rattle.rule.specs.Meaning.{truthNumber};
+ghost use Rattle.rule.specs.Truth.{truthNumber};
 ghost use Rattle.tables.specs.Exports.{statusOf, yesNo, numberAfter};
 use judge::Judged;
 use reader::Reading;

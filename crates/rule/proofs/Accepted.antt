@@ -24,6 +24,7 @@ use Rattle.rule.proofs.Reading.{read-sound, read-complete}
 use Rattle.rule.proofs.Constants.{tokens-fit, reading-constants}
 use Rattle.rule.proofs.Fits.{names-fit, fits-scoped}
 use Rattle.rule.proofs.Parts.{parts-back, parts-length}
+use Rattle.rule.proofs.Sum.{sum-few}
 
 -- something is there
 there : {A : Type 0} (o : Option A) → isMissing o ≡ false → (x : A) × (o ≡ some x)
@@ -139,6 +140,7 @@ parts-claim text file e =
       scoped = scoped;
       few-parts = omega arith;
       few-froms = deep;
+      few-entries = omega (arith, sum-few (w .rule));
       records = parts-length (w .rule) 0;
       back = parts-back (w .rule) deep scoped;
     }

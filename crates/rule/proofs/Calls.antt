@@ -12,7 +12,8 @@ use Rattle.tables.proofs.Refusals.{first-nil, first-one, first-none, first-appe
 use Rattle.rule.specs.Condition.{Rule}
 use Rattle.rule.specs.Parts.{partsOf}
 use Rattle.rule.specs.declared.Part.{Part}
-use Rattle.rule.specs.Meaning.{Unknown, judged}
+use Rattle.rule.specs.Truth.{Unknown}
+use Rattle.rule.specs.Meaning.{judged}
 use Rattle.rule.specs.Calls.{ruleOf, readingRefusals, withRule, readCall, judgeRefusals, judgeCall}
 use Rattle.rule.specs.Claims.{CallsClaim}
 use Rattle.rule.proofs.Parts.{parts-length}

@@ -4,7 +4,8 @@ use mathlib.Core.Bool.{Bool, true, false, cond}
 use mathlib.Core.List.{List, _∷_}
 use Rattle.tables.specs.Lists.{any}
 use Rattle.tables.specs.Values.{Some, All}
-use Rattle.rule.specs.Meaning.{Truth, False, Unknown, True, isTrue, isFalse, isUnknown, and3, or3, over3}
+use Rattle.rule.specs.Truth.{Truth, False, Unknown, True, isTrue, isFalse, isUnknown, and3, or3}
+use Rattle.rule.specs.Meaning.{over3}
 
 -- SOME is OR over its rows, ALL is AND
 or-unknown : (a b : Bool) → cond a True Unknown ≡ or3 Unknown (cond a True (cond b Unknown False))

@@ -17,7 +17,8 @@ use Rattle.rule.specs.Reader.{readAll}
 use Rattle.rule.specs.Names.{limitsFit, outermost, ruleIn}
 use Rattle.rule.specs.Parts.{partsOf}
 use Rattle.rule.specs.declared.Part.{Part}
-use Rattle.rule.specs.Meaning.{Truth, Unknown, isTrue, judged}
+use Rattle.rule.specs.Truth.{Truth, Unknown, isTrue}
+use Rattle.rule.specs.Meaning.{judged}
 
 -- how long a text may be; refusal 3
 abbrev pub mostBytes : ℕ

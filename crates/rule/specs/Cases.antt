@@ -12,7 +12,7 @@ use Rattle.tables.specs.Values.{Eq, Ne, Lt, Le, Gt, Ge}
 use Rattle.rule.specs.Tokens.{bytes, Token, Fixed, Compares, Letter, Number}
 use Rattle.rule.specs.declared.TaggedValue.{TaggedValue}
 use Rattle.rule.specs.declared.Part.{Part}
-use Rattle.rule.specs.Meaning.{Truth, False, Unknown, True}
+use Rattle.rule.specs.Truth.{Truth, False, Unknown, True}
 use Rattle.rule.specs.Calls.{readingRefusals, readCall, judgeCall}
 
 -- the three tables of the proved cases; the value bytes of the two blank cells are 7 and 9, since they may be anything

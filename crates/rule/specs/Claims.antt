@@ -9,7 +9,7 @@ use lib.IntN.{pos}
 use lib.ListN.{length, getD, drop}
 use Rattle.tables.specs.Tables.{sizesFit, marksFit, columnsOf, rowCount, tablesOf}
 use Rattle.tables.specs.Refusals.{Refused, Given, numbers, firstApplying, lendRefusals}
-use Rattle.tables.specs.Values.{judgedLevels}
+use Rattle.tables.specs.Values.{mostEntries, judgedLevels}
 use Rattle.rule.specs.Tokens.{tokensOf, opensFit}
 use Rattle.rule.specs.Condition.{WrittenCondition, Rule, parts, fromsDeep}
 use Rattle.rule.specs.Grammar.{Tokens, Reads}
@@ -47,7 +47,8 @@ pub record Allowed (text file : List ℕ) : Type 0 where
 abbrev pub AcceptedClaim : Type 0
 AcceptedClaim = (text file : List ℕ) → Accepted text file ↔ Allowed text file
 
--- an accepted text is a rule: what it names exists, it has one record for each part, and it can be had back from them
+-- an accepted text is a rule: what it names exists, it keeps to the limits, its card has no more entries than a card may have (SumClaim of the crate
+-- translation says that `entrySum` counts them), it has one record for each part, and it can be had back from them
 pub record AcceptedAs (text file : List ℕ) : Type 0 where
   pub rule : Rule
   pub is-rule : ruleOf text (columnsOf file) ≡ some rule
@@ -55,6 +56,7 @@ pub record AcceptedAs (text file : List ℕ) : Type 0 where
   pub scoped : Scoped 1 rule
   pub few-parts : parts rule ≤ mostParts
   pub few-froms : fromsDeep rule ≤ mostFroms
+  pub few-entries : entrySum rule ≤ mostEntries
   pub records : length (partsOf rule) ≡ parts rule
   pub back : ruleOfParts (partsOf rule) ≡ some rule
 

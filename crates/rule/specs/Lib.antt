@@ -1,4 +1,5 @@
 pub mod Tokens
+pub mod Truth
 pub mod Condition
 pub mod Throughout
 pub mod Grammar

@@ -1,68 +1,14 @@
 -- Document 01, Meaning: the value of a rule with each level at a row: true, false or unknown. Cards are not mentioned here.
-use mathlib.Core.Bool.{Bool, true, false, cond}
+use mathlib.Core.Bool.{cond}
 use mathlib.Core.List.{List, map}
 use Prim.Native.Nat.{ℕ}
 use Rattle.tables.specs.Lists.{any, keep, isThereOne}
 use Rattle.tables.specs.Tables.{Cell, Tables, rowsOf}
-use Rattle.tables.specs.Values.{Value, Comparison, holds, Connective, And, Or, Quantifier, Some, All, Env, judgedRow, _▸_, cellOf, byNumbers, markPasses}
+use Rattle.tables.specs.Values.{Value, Comparison, holds, Quantifier, Some, All, Env, judgedRow, _▸_, cellOf, byNumbers, markPasses}
+use Rattle.rule.specs.Truth.{Truth, False, Unknown, True, truth, isTrue, isUnknown, isFalse, not3, join3}
 use Rattle.rule.specs.Condition.{Test, Compare, Mark, Unary, Not, From, Single, Atom, Join, Apply, Exists, Listed, Rule}
 
--- ---- the three truth values
-
-pub data Truth : Type 0 where
-  False Unknown True : Truth
-
-abbrev pub truth : Bool → Truth
-truth true = True
-truth false = False
-
--- the truth values as numbers, as JUDGE gives them to C, in their order: AND takes the lesser of two, OR the greater
-abbrev pub truthNumber : Truth → ℕ
-truthNumber False = 0
-truthNumber Unknown = 1
-truthNumber True = 2
-
-abbrev pub isTrue : Truth → Bool
-isTrue False = false
-isTrue Unknown = false
-isTrue True = true
-
-abbrev pub isUnknown : Truth → Bool
-isUnknown False = false
-isUnknown Unknown = true
-isUnknown True = false
-
-abbrev pub isFalse : Truth → Bool
-isFalse False = true
-isFalse Unknown = false
-isFalse True = false
-
--- the opposite; unknown stays
-abbrev pub not3 : Truth → Truth
-not3 False = True
-not3 Unknown = Unknown
-not3 True = False
-
--- false as soon as one side is, then unknown as soon as one side is
-abbrev pub and3 : Truth → Truth → Truth
-and3 False b = False
-and3 Unknown False = False
-and3 Unknown Unknown = Unknown
-and3 Unknown True = Unknown
-and3 True b = b
-
--- the mirror of AND: true as soon as one side is, then unknown as soon as one side is
-abbrev pub or3 : Truth → Truth → Truth
-or3 True b = True
-or3 Unknown False = Unknown
-or3 Unknown Unknown = Unknown
-or3 Unknown True = True
-or3 False b = b
-
-abbrev pub join3 : Connective → Truth → Truth → Truth
-join3 And a b = and3 a b
-join3 Or a b = or3 a b
-
+-- what NOT makes of a value
 abbrev pub unary3 : Unary → Truth → Truth
 unary3 Not a = not3 a
 

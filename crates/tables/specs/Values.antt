@@ -1,4 +1,5 @@
--- Values and comparisons, which rules and cards share. Document 01, Rule text: a value is a constant, or a level and a column.
+-- What rules and cards share: values (document 01, Rule text: a constant, or a level and a column), comparisons, connectives, quantifiers, tests by the mark,
+-- and how many levels and entries there may be.
 use mathlib.Core.Bool.{Bool, true, false, not, _&&_}
 use mathlib.Core.List.{List, [], _∷_, _++_}
 use Prim.Native.Nat.{ℕ}
@@ -22,6 +23,10 @@ constantTag = 255
 -- 'else level 0 to 3': so many levels there may be
 abbrev pub mostLevels : ℕ
 mostLevels = 4
+
+-- 'entries n, 1 to 192' (Card): so many a card may have
+abbrev pub mostEntries : ℕ
+mostEntries = 192
 
 -- the six comparisons, and their numbers in a record
 pub data Comparison : Type 0 where

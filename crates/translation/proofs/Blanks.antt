@@ -13,7 +13,8 @@ use Rattle.card.specs.Layout.{cardBytes, cardFrom}
 use Rattle.card.specs.Calls.{cardSays, saysYes, fitsTables, gateRefusals, runRefusals, runCall, listCall}
 use Rattle.rule.specs.Condition.{Rule}
 use Rattle.rule.specs.Calls.{readingRefusals, readCall, judgeRefusals, judgeCall, trueAt, trueRows, admitCall}
-use Rattle.rule.specs.Meaning.{isTrue, judged}
+use Rattle.rule.specs.Truth.{isTrue}
+use Rattle.rule.specs.Meaning.{judged}
 use Rattle.translation.specs.Translation.{ruleCard}
 use Rattle.translation.specs.Calls.{ruleBytes, cardCall}
 use Rattle.translation.specs.Claims.{SameAnswers, BlanksClaim}

@@ -11,7 +11,7 @@ use lib.Ieee.Fits.{and-i}
 use lib.ListN.{length, drop}
 use Rattle.tables.specs.Bytes.{between, byteAt}
 use Rattle.tables.specs.Tables.{mostTables, tableCount, columnsOf, rowCount, tablesOf, rowsWhere}
-use Rattle.tables.specs.Values.{judgedLevels, judgedRow}
+use Rattle.tables.specs.Values.{mostEntries, judgedLevels, judgedRow}
 use Rattle.tables.specs.Refusals.{Given, firstApplying, lend, tablesRefusals, rowRefusal}
 use Rattle.tables.proofs.Refusals.{first-nil, first-none, first-append, lend-short, lend-long, lend-refused, unless-none}
 use Rattle.tables.proofs.Rows.{rows-claim}
@@ -19,17 +19,16 @@ use Rattle.tables.proofs.Tabulated.{tabulate-length}
 use Rattle.tables.proofs.Sizes.{columns-count, columns-fit, same-refl, same-columns-is}
 use Rattle.card.specs.Card.{AsNo, Card, LeafEntry, PairEntry, RowEntry, entries}
 use Rattle.card.specs.Layout.{cardLength, tablesIn, columnsIn}
-use Rattle.card.specs.Sound.{mostCardBytes, mostEntries, sound, Sound}
+use Rattle.card.specs.Sound.{mostCardBytes, sound, Sound}
 use Rattle.card.specs.Calls.{cardSays, saysYes, checkRefusals, checkCall, fitsTables, gateRefusals, runRefusals, runCall, listCall}
 use Rattle.tables.proofs.Tests.{is-true, is-so}
 use Rattle.card.proofs.Claims.{sound-claim, length-claim}
-use Rattle.rule.specs.Condition.{Rule, parts}
-use Rattle.rule.specs.Names.{mostParts}
+use Rattle.rule.specs.Condition.{Rule}
+use Rattle.rule.specs.Sum.{entrySum}
 use Rattle.rule.specs.Meaning.{judged}
 use Rattle.rule.specs.Calls.{readingRefusals, Accepted, withRule, trueAt, trueRows}
 use Rattle.rule.specs.Claims.{AcceptedAs}
 use Rattle.rule.proofs.Accepted.{accepted-allowed, parts-claim}
-use Rattle.rule.proofs.Sum.{sum-few}
 use Rattle.translation.specs.Translation.{ruleCard}
 use Rattle.translation.specs.Calls.{ruleBytes, cardCall}
 use Rattle.translation.specs.Claims.{CardRefusedClaim, Demand3Claim}
@@ -38,22 +37,22 @@ use Rattle.translation.proofs.Sums.{card-sum, sum-claim}
 use Rattle.translation.proofs.Says.{translation-claim}
 use Rattle.translation.proofs.Fits.{card-fits}
 
--- at most 64 parts make at most 192 entries, and there is one at least
+-- a card has an entry at least
 pub some-entries : (c : Card) → 1 ≤ entries c
 unfolding entries
 some-entries (LeafEntry x) = omega arith
 some-entries (PairEntry j a b) = omega arith
 some-entries (RowEntry q t c) = omega arith
 
-few-entries : (r : Rule) → parts r ≤ mostParts → T (between 1 mostEntries (entries (ruleCard r)))
+few-entries : (r : Rule) → entrySum r ≤ mostEntries → T (between 1 mostEntries (entries (ruleCard r)))
 few-entries r h =
     let n = entries (ruleCard r) in
-    let most : n ≤ mostEntries = omega (arith, card-sum AsNo r, sum-few r) in
+    let most : n ≤ mostEntries = omega (arith, card-sum AsNo r) in
     and-i (leb 1 n) (leb n mostEntries) (le→leb 1 n (some-entries (ruleCard r))) (le→leb n mostEntries most)
 
 -- no rule's card is longer than the longest
-pub card-bytes-few : (file : List ℕ) (r : Rule) → tableCount file ≤ mostTables → parts r ≤ mostParts → publishedLength file r ≤ mostCardBytes
-card-bytes-few file r tables few = omega (arith, sum-few r)
+pub card-bytes-few : (file : List ℕ) (r : Rule) → tableCount file ≤ mostTables → entrySum r ≤ mostEntries → publishedLength file r ≤ mostCardBytes
+card-bytes-few file r tables few = omega arith
 
 module _ (text file : List ℕ) (accepted : Accepted text file) where
   abbrev accepted-as : AcceptedAs text file
@@ -71,7 +70,7 @@ module _ (text file : List ℕ) (accepted : Accepted text file) where
     columns = columnsOf file;
     card = ruleCard rule;
     bytes = refl;
-    few = few-entries rule (accepted-as .few-parts);
+    few = few-entries rule (accepted-as .few-entries);
     sized = columns-fit file (is-so _ (accepted-allowed text file accepted .tables-sized));
     fits = card-fits (columnsOf file) rule AsNo judgedLevels (omega (arith, accepted-as .few-froms)) (accepted-as .fits);
   }

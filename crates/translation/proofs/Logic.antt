@@ -6,7 +6,8 @@ use lib.Dec.{T}
 use Rattle.tables.specs.Lists.{any, all, put, keep}
 use Rattle.tables.specs.Values.{Connective, And, Or, Quantifier, Some, All}
 use Rattle.card.specs.Card.{Interpretation, AsNo, AsYes, unknownSays, joined, overRows}
-use Rattle.rule.specs.Meaning.{Truth, False, Unknown, True, truth, isTrue, isFalse, not3, and3, or3, join3, over3}
+use Rattle.rule.specs.Truth.{Truth, False, Unknown, True, truth, isTrue, isFalse, not3, and3, or3, join3}
+use Rattle.rule.specs.Meaning.{over3}
 use Rattle.rule.proofs.Truths.{some-cons, all-cons}
 use Rattle.translation.specs.Translation.{other, otherConnective, otherQuantifier}
 

@@ -7,6 +7,7 @@ use Prim.Native.Nat.{ℕ, _≤_}
 use native.Mathlib.Omega.{arith}
 use lib.ListN.{length}
 use Rattle.tables.specs.Tables.{mostRows, columnsOf, sizesFit}
+use Rattle.tables.specs.Values.{mostEntries}
 use Rattle.tables.specs.Refusals.{Lent, firstApplying, tablesRefusals}
 use Rattle.tables.specs.Exports.{isGiven}
 use Rattle.tables.proofs.Tests.{is-so}
@@ -15,8 +16,8 @@ use Rattle.tables.proofs.Rows.{rows-few}
 use Rattle.tables.proofs.Sizes.{tables-few, first-rows}
 use Rattle.card.specs.Calls.{gateRefusals, saysYes, yesRows}
 use Rattle.card.proofs.Claims.{calls-claim as gate-by-cases}
-use Rattle.rule.specs.Condition.{Rule, parts}
-use Rattle.rule.specs.Names.{mostParts}
+use Rattle.rule.specs.Condition.{Rule}
+use Rattle.rule.specs.Sum.{entrySum}
 use Rattle.rule.specs.declared.Part.{Part}
 use Rattle.rule.specs.Calls.{ruleOf, Accepted}
 use Rattle.rule.proofs.Accepted.{accepted-allowed, parts-claim}
@@ -35,12 +36,12 @@ rows-most card file e =
     let fits = not-false (sizesFit file) (none-first 1 (not (sizesFit file)) _ e .0) in
     omega (arith, rows-few file (saysYes card file), first-rows file (is-so (sizesFit file) fits))
 
--- the rule of an accepted text has few parts, whichever proof says which rule it is
-few : (text file : List ℕ) (a : Accepted text file) (r : Rule) → ruleOf text (columnsOf file) ≡ some r → parts r ≤ mostParts
+-- a card has room for the entries of an accepted text, whichever proof says which rule it is
+few : (text file : List ℕ) (a : Accepted text file) (r : Rule) → ruleOf text (columnsOf file) ≡ some r → entrySum r ≤ mostEntries
 few text file a r e =
     let p = parts-claim text file a in
     let same : p .rule ≡ r = cc in
-    subst (λ (x : Rule). parts x ≤ mostParts) same (p .few-parts)
+    subst (λ (x : Rule). entrySum x ≤ mostEntries) same (p .few-entries)
 
 pub room-claim : RoomClaim
 room-claim = record {

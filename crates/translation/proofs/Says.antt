@@ -16,7 +16,8 @@ use Rattle.tables.specs.Values.{Value, Constant, Column, Comparison, Eq, Ne, Lt
 use Rattle.card.specs.Card.{Interpretation, AsNo, AsYes, unknownSays, Leaf, CompareLeaf, MarkLeaf, Card, LeafEntry, PairEntry, RowEntry, compares, leafSays, overRows, answer}
 use Rattle.rule.specs.Condition.{Test, Compare, Mark, Unary, Not, From, Single, Atom, Join, Apply, Exists, Listed, Rule, letters}
 use Rattle.rule.specs.Names.{ValueScoped, Scoped}
-use Rattle.rule.specs.Meaning.{Truth, isTrue, unary3, compare3, test3, ranged, meaning}
+use Rattle.rule.specs.Truth.{Truth, isTrue}
+use Rattle.rule.specs.Meaning.{unary3, compare3, test3, ranged, meaning}
 use Rattle.translation.specs.Translation.{other, otherComparison, otherMark, otherLeaf, negated, leafOf, rowsCard, unaryCard, cardOf}
 use Rattle.translation.specs.Claims.{TranslationClaim}
 use Rattle.translation.proofs.Logic.{says, same-test, not-joined, not-over, says-join, says-not, says-truth, isTrue-says, isFalse-says, says-some, says-all}

@@ -20,7 +20,8 @@ use Rattle.rule.specs.declared.Part.{Part}
 use Rattle.rule.specs.Names.{mostParts, Scoped}
 use Rattle.rule.specs.Sum.{entrySum}
 use Rattle.rule.specs.Calls.{readingRefusals, Accepted, readCall, judgeCall, readOrder, judgeOrder, admitCall}
-use Rattle.rule.specs.Meaning.{isTrue, isFalse, meaning}
+use Rattle.rule.specs.Truth.{isTrue, isFalse}
+use Rattle.rule.specs.Meaning.{meaning}
 use Rattle.translation.specs.Translation.{negated, cardOf, ruleCard}
 use Rattle.translation.specs.Calls.{cardCall, cardOrder}
 use Rattle.translation.specs.Demand3.{Later, Demand3For}

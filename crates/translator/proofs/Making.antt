@@ -12,10 +12,8 @@ use Rattle.cells.specs.Reasons.{reasonNumber}
 use Rattle.cells.specs.declared.Reason.{Reason}
 use Rattle.card.specs.Card.{entries}
 use Rattle.card.specs.Layout.{cardLength}
-use Rattle.card.specs.Sound.{mostEntries}
 use Rattle.rule.specs.Condition.{Rule}
 use Rattle.rule.specs.Calls.{ruleOf}
-use Rattle.rule.proofs.Sum.{sum-few}
 use Rattle.names.specs.Code.{partsSize}
 use Rattle.parser.specs.Code.{parsedAnswer, refusalIn, parseCall}
 use Rattle.parser.specs.declared.Parsed.{Parsed}
@@ -26,10 +24,6 @@ use Rattle.translation.specs.Demand3.{publishedLength, CardClaim}
 use Rattle.translation.proofs.Sums.{sum-claim}
 use Rattle.translation.proofs.Demand3.{demand-3-claim, card-refused-claim}
 use Rattle.translator.specs.Code.{CardReady, CardWritten}
-
--- a card has room for the entries of a rule that was read
-pub few-entries : {text file p : List ℕ} {m n : ℕ} → Read text file p m n → n ≤ mostEntries
-few-entries q = omega (arith, q .sum, sum-few (q .rule), q .count, q .few-parts)
 
 module _ (text file out : List ℕ) where
   abbrev pub Makes : Answer ℕ → List ℕ → Type 0
@@ -75,7 +69,7 @@ module _ (text file out : List ℕ) where
               written = q .written;
               fits = q .fits;
               count = count;
-              most = few-entries q;
+              most = q .few-entries;
               room = omega arith;
             }
 

@@ -9,11 +9,10 @@ use lib.Seq.{length-take-le}
 use Rattle.tables.specs.Lists.{placed}
 use Rattle.tables.specs.Bytes.{bytes16}
 use Rattle.tables.specs.Tables.{tableCount, columnsOf}
-use Rattle.tables.specs.Values.{judgedLevels}
+use Rattle.tables.specs.Values.{mostEntries, judgedLevels}
 use Rattle.tables.proofs.Placed.{placed-length, placed-start, taken-start, placed-next, placed-before, placed-lent}
 use Rattle.tables.proofs.Sizes.{columns-count}
 use Rattle.card.specs.Layout.{recordSize, kindBytes, recordsFrom, cardBytes}
-use Rattle.card.specs.Sound.{mostEntries}
 use Rattle.card.proofs.Walk.{kinds-length, records-length}
 use Rattle.rule.specs.Condition.{parts}
 use Rattle.parts.specs.Parts.{SmallParts}

@@ -5,11 +5,10 @@ use Prim.Native.Nat.{ℕ, _*_, _≤_}
 use lib.ListN.{length, take}
 use Rattle.tables.specs.Lists.{placed}
 use Rattle.tables.specs.Tables.{tableCount, columnsOf}
-use Rattle.tables.specs.Values.{judgedLevels}
+use Rattle.tables.specs.Values.{mostEntries, judgedLevels}
 use Rattle.cells.specs.Code.{Sized}
 use Rattle.card.specs.Card.{entries}
 use Rattle.card.specs.Layout.{cardBytes, cardLength}
-use Rattle.card.specs.Sound.{mostEntries}
 use Rattle.rule.specs.Condition.{Rule, parts, fromsDeep}
 use Rattle.rule.specs.Names.{mostParts, mostFroms, Fits}
 use Rattle.rule.specs.Parts.{partsOf}

@@ -3,8 +3,8 @@ use Prim.Native.Nat.{_+_, _*_, _-_, _<_, _≤_}
 use native.Mathlib.Omega.{arith}
 use lib.ListN.{length, length-set}
 use Rattle.tables.specs.Tables.{mostTables}
+use Rattle.tables.specs.Values.{mostEntries}
 use Rattle.card.specs.Layout.{recordSize}
-use Rattle.card.specs.Sound.{mostEntries}
 use Rattle.cells.specs.Code.{Holds}
 use Rattle.cells.proofs.Holding.{holds-none, holds-same}
 use Rattle.decoder.specs.Code.{entrySize, fieldOf}

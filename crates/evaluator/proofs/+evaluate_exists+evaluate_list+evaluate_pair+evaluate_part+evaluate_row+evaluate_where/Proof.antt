@@ -10,7 +10,7 @@ use borrow.Author.Tests.{eq-eqb, ne-eqb}
 use Rattle.tables.specs.Values.{And, Or, Some, All}
 use Rattle.rule.specs.Names.{mostParts}
 use Rattle.rule.specs.Condition.{Not}
-use Rattle.rule.specs.Meaning.{False, truthNumber}
+use Rattle.rule.specs.Truth.{False, truthNumber}
 use Rattle.rule.proofs.Groups.{test-bounds, test-number}
 use Rattle.names.specs.Code.{partSize}
 use Rattle.evaluator.proofs.Truths.{over-none-by, quantifierOf, none-is, none-high, none-decides}

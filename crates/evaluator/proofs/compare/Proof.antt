@@ -1,7 +1,7 @@
 -- `evaluator::compare` meets its contract: the comparison of the numbers is the answer only where neither cell is blank.
 use mathlib.Core.Path.{ap, _∙_}
 use Rattle.values.proofs.Numbers.{one-blank, none-blank}
-use Rattle.rule.specs.Meaning.{truth, truthNumber}
+use Rattle.rule.specs.Truth.{truth, truthNumber}
 use borrow.Author.Needs.{needs}
 use Rattle.evaluator.proofs.compare.Statement.{statement}
 use Rattle.evaluator.proofs.compare.Tie as tie

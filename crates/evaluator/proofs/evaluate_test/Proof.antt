@@ -4,7 +4,7 @@ use mathlib.Core.Bool.{not}
 use native.Mathlib.Omega.{arith}
 use Rattle.tables.specs.Values.{Null, NotNull}
 use Rattle.values.proofs.Numbers.{seen-blank}
-use Rattle.rule.specs.Meaning.{truth, truthNumber}
+use Rattle.rule.specs.Truth.{truth, truthNumber}
 use Rattle.rule.proofs.Groups.{test-bounds}
 use Rattle.evaluator.proofs.Testing.{left-ready, right-ready, mark-evaluated, compare-evaluated, test-number}
 use borrow.Author.Needs.{needs}

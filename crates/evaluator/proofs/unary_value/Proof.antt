@@ -3,7 +3,7 @@ use mathlib.Core.Path.{refl}
 use Prim.Native.Nat.{_-_}
 use borrow.Author.Needs.{needs}
 use Rattle.rule.specs.Condition.{Not}
-use Rattle.rule.specs.Meaning.{True, truthNumber}
+use Rattle.rule.specs.Truth.{True, truthNumber}
 use Rattle.rule.proofs.Groups.{some-unary}
 use Rattle.evaluator.proofs.Truths.{unary-valued, not-rank}
 use Rattle.evaluator.proofs.unary_value.Statement.{statement}

@@ -1,7 +1,7 @@
 -- `roskudla_judge` meets its contract: JUDGE's answer, as a status and a number.
 use borrow.Author.Needs.{needs}
 use mathlib.Core.Path.{_∙_}
-use Rattle.rule.specs.Meaning.{truthNumber}
+use Rattle.rule.specs.Truth.{truthNumber}
 use Rattle.judge.specs.Answers.{judgedAnswer}
 use Rattle.roskudla_gate.proofs.Answered.{status-is, number-is}
 use Rattle.roskudla.proofs.roskudla_judge.Statement.{statement}

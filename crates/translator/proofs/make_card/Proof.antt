@@ -2,7 +2,7 @@
 use native.Mathlib.Omega.{arith}
 use borrow.Author.Needs.{needs}
 use Rattle.parser.proofs.Known.{Read, rule-read}
-use Rattle.translator.proofs.Making.{card-refused, few-entries, card-short, card-ready, card-given}
+use Rattle.translator.proofs.Making.{card-refused, card-short, card-ready, card-given}
 use Rattle.translator.proofs.make_card.Statement.{statement}
 use Rattle.translator.proofs.make_card.Tie as tie
 
@@ -24,10 +24,10 @@ byte-requires : tie.Need-byte-requires
 byte-requires c κs = omega (arith, read (c .before) .sized .long)
 
 mul-length : tie.Need-mul-length
-mul-length c = let few = few-entries (read (c .before .before)) in search needs
+mul-length c = let few = read (c .before .before) .few-entries in search needs
 
 add-length-3 : tie.Need-add-length-3
-add-length-3 c = let few = few-entries (read (c .before .before)) in search needs
+add-length-3 c = let few = read (c .before .before) .few-entries in search needs
 
 returns-2 : tie.Need-returns-2
 returns-2 c = card-short _ _ _ (read (c .before .before .before)) (c .before .byte .ensures .0) (c .if1 .taken)

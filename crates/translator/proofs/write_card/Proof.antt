@@ -3,7 +3,7 @@ use mathlib.Core.Path.{refl, sym}
 use borrow.Author.Needs.{needs}
 use lib.ListN.{replicate}
 use lib.Seq.{length-take-le}
-use Rattle.card.specs.Sound.{mostEntries}
+use Rattle.tables.specs.Values.{mostEntries}
 use Rattle.translator.proofs.Writing.{writable, kinds-few, kinds-fit, card-written}
 use Rattle.translator.proofs.write_card.Statement.{statement}
 use Rattle.translator.proofs.write_card.Tie as tie
