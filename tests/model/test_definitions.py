@@ -52,7 +52,7 @@ use Rattle.card.specs.Calls.{checkCall, runCall, listCall}
 use Rattle.card.proofs.Opened.{opened as card-opened}
 use Rattle.rule.specs.declared.TaggedValue.{TaggedValue}
 use Rattle.rule.specs.declared.Part.{Part}
-use Rattle.rule.specs.Meaning.{Truth, True, False, Unknown}
+use Rattle.rule.specs.Truth.{Truth, True, False, Unknown}
 use Rattle.rule.specs.Calls.{readCall, judgeCall}
 use Rattle.rule.proofs.Opened.{opened as rule-opened}
 use Rattle.translation.specs.Translation.{negated, cardOf}

@@ -4,11 +4,10 @@ use mathlib.Core.List.{List, [], _∷_, _++_, map}
 use mathlib.Core.Option.{Option, none, some}
 use Prim.Native.Nat.{ℕ, zero, suc, _+_, _-_, _*_}
 use lib.Dec.{eqb}
-use lib.IntN.{pos}
 use lib.ListN.{length, take, drop}
 use Rattle.tables.specs.Lists.{tabulate, numbered, all, only, _>>=_}
 use Rattle.tables.specs.Bytes.{between, byteAt, word16, word32, bytes16, bytes32, signed, bits}
-use Rattle.tables.specs.Values.{constantTag, Value, Constant, Column, unusedValue, Uses, Comparison, Eq, comparisonNumber, comparisonOf, Connective, And, Or, Quantifier, Some, All, MarkTest, Null, NotNull}
+use Rattle.tables.specs.Values.{constantTag, Value, Constant, Column, unusedValue, anyValue, Uses, Comparison, Eq, comparisonNumber, comparisonOf, Connective, And, Or, Quantifier, Some, All, MarkTest, Null, NotNull}
 use Rattle.card.specs.Card.{Interpretation, AsNo, AsYes, Leaf, CompareLeaf, MarkLeaf, Card, LeafEntry, PairEntry, RowEntry, entries}
 
 -- the bytes of one record
@@ -109,12 +108,9 @@ fieldsWith u t op l r =
     ∷ cond (u .comparison) (comparisonNumber op) 0
     ∷ valueBytes (cond (u .left) l unusedValue) ++ valueBytes (cond (u .right) r unusedValue)
 
--- what stands for a table and for a value where the kind uses none; they reach no record
+-- what stands for a table where the kind uses none, as Eq does for a comparison; it is not written
 abbrev anyTable : ℕ
 anyTable = 1
-
-abbrev anyValue : Value
-anyValue = Constant (pos 0)
 
 -- the fields of an entry by what it says
 abbrev pub fieldBytes : Head → List ℕ

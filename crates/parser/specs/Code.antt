@@ -41,7 +41,7 @@ pub record TextReady (text file : List ℕ) : Type 0 where
   pub sized : Sized file
   pub tables-pass : firstApplying (tablesRefusals file) ≡ none
 
--- the rule of some tokens, its n parts at the front of an array, and the m entries of its card
+-- the rule of some tokens, its n parts at the front of an array, and m, how many entries its card has
 pub record TokensParsing (s file new : List ℕ) (n m : ℕ) : Type 0 where
   pub brackets : opensFit (pos 0) (tokensIn s) ≡ true
   pub tree : WrittenCondition
@@ -72,7 +72,7 @@ refusalIn (ParsedRefused x) = x
 unfoldable pub parseCall : List ℕ → List ℕ → Answer ℕ
 parseCall text file = unless (firstApplying (readingRefusals text file)) (λ _. withRule (ruleOf text (columnsOf file)) 0 parts)
 
--- the rule of a text, its n parts at the front of an array, and the m entries of its card
+-- the rule of a text, its n parts at the front of an array, and m, how many entries its card has
 pub record Parsing (text file new : List ℕ) (n m : ℕ) : Type 0 where
   pub accepted : Accepted text file
   pub rule : Rule

@@ -20,7 +20,7 @@ use names::PART_NUMBERS;
 
 // Texts of at most so many bytes get an array of tokens that is no longer than that: setting up the one for the longest text takes longer than reading a
 // short one.
-const BRIEF_TEXT: usize = 32;
+const SHORTEST_TEXT: usize = 32;
 
 const SHORT_TEXT: usize = 128;
 
@@ -138,8 +138,8 @@ pub fn parse(text: &[u8], file: &[u8], parts: &mut [usize; PART_NUMBERS]) -> Par
     if MOST_BYTES < long {
         return Parsed::Refused(Reason::TextLength);
     }
-    if long <= BRIEF_TEXT {
-        let mut tokens = [0usize; BRIEF_TEXT];
+    if long <= SHORTEST_TEXT {
+        let mut tokens = [0usize; SHORTEST_TEXT];
         return parse_text(text, file, &mut tokens, parts);
     }
     if long <= SHORT_TEXT {

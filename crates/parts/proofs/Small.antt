@@ -12,13 +12,13 @@ use lib.IntN.{ℤ}
 use lib.ListN.{length, getD, take, drop, List·getD-eq-default}
 use Rattle.tables.specs.Lists.{numbered}
 use Rattle.tables.specs.Tables.{tableCount, columnsOf}
-use Rattle.tables.specs.Values.{constantTag, Value, Constant, Column, unusedValue, Comparison, Eq, Ne, Lt, Le, Gt, Ge, comparisonNumber}
+use Rattle.tables.specs.Values.{constantTag, Value, Constant, Column, unusedValue, anyValue, Comparison, Eq, Ne, Lt, Le, Gt, Ge, comparisonNumber}
 use Rattle.tables.proofs.Tests.{bounds}
 use Rattle.tables.proofs.Sizes.{columns-count, column-at}
 use Rattle.cells.specs.Code.{Sized}
 use Rattle.rule.specs.Condition.{Compare, Mark, From, Single, Atom, Join, Apply, Exists, Listed, Rule, parts, fromsDeep}
 use Rattle.rule.specs.Names.{within, ValueFits, FromFits, Fits}
-use Rattle.rule.specs.Parts.{taggedOf, Kind, JoinKind, UnaryKind, CompareKind, MarkKind, ExistsKind, ListKind, uses, tableOf, partWith, anyFrom, anyValue, partsFrom}
+use Rattle.rule.specs.Parts.{taggedOf, Kind, JoinKind, UnaryKind, CompareKind, MarkKind, ExistsKind, ListKind, uses, tableOf, partWith, anyFrom, partsFrom}
 use Rattle.rule.proofs.Fits.{within-length}
 use Rattle.rule.proofs.Groups.{kind-bounds}
 use Rattle.rule.specs.declared.TaggedValue.{TaggedValue}

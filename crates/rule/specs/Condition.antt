@@ -8,7 +8,7 @@ pub data Test (A : Type 0) : Type 0 where
   Compare : Comparison → A → A → Test A
   Mark : MarkTest → A → Test A
 
--- what a part with one condition in it says of that condition
+-- what a part without a FROM says of the one condition in it
 pub data Unary : Type 0 where
   Not : Unary
 
@@ -54,7 +54,7 @@ module _ {A S : Type 0} where
   parts (Exists f w) = 1 + parts w
   parts (Listed q op l s f w) = 1 + parts w
 
-  -- how many FROMs stand around one another
+  -- how many FROMs stand around one another, each counted as often as it has letters, which is once
   unfoldable pub fromsDeep : Condition A S → ℕ
   fromsDeep (Atom x) = 0
   fromsDeep (Join j a b) = max (fromsDeep a) (fromsDeep b)

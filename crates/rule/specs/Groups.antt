@@ -18,7 +18,7 @@ lastKind = 9
 abbrev pub JoinNumber : ℕ → Type 0
 JoinNumber n = (j : Connective) × (n ≡ joinKind j)
 
--- of a part with one condition in it
+-- of a part with one condition in it and no FROM
 abbrev pub UnaryNumber : ℕ → Type 0
 UnaryNumber n = (u : Unary) × (n ≡ unaryKind u)
 

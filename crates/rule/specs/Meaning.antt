@@ -32,7 +32,7 @@ abbrev pub over3 : Quantifier → List Truth → Truth
 over3 Some vs = cond (any isTrue vs) True (cond (any isUnknown vs) Unknown False)
 over3 All vs = cond (any isFalse vs) False (cond (any isUnknown vs) Unknown True)
 
--- what a FROM ranges over: the levels around it, with one more for each row of its table
+-- what a FROM ranges over: for each row of its table, the levels around it and one more, at that row
 abbrev pub ranged : Tables → Env → From ℕ → List Env
 ranged ts env (Single t) = map (λ row. env ▸ row) (rowsOf ts t)
 

@@ -7,7 +7,7 @@ use Prim.Native.Nat.{ℕ, _+_}
 use lib.Dec.{eqb}
 use lib.IntN.{ℤ, pos, negsuc}
 use Rattle.tables.specs.Lists.{numbered}
-use Rattle.tables.specs.Values.{constantTag, Value, Constant, Column, unusedValue, Uses, Comparison, Eq, comparisonNumber, comparisonOf, Connective, And, Or, Quantifier, Some, All, MarkTest, Null, NotNull}
+use Rattle.tables.specs.Values.{constantTag, Value, Constant, Column, unusedValue, anyValue, Uses, Comparison, Eq, comparisonNumber, comparisonOf, Connective, And, Or, Quantifier, Some, All, MarkTest, Null, NotNull}
 use Rattle.rule.specs.declared.TaggedValue.{TaggedValue}
 use Rattle.rule.specs.declared.Part.{Part}
 use Rattle.rule.specs.Condition.{Test, Compare, Mark, Unary, Not, From, Single, Atom, Join, Apply, Exists, Listed, Rule, parts}
@@ -107,12 +107,9 @@ partWith k e op f l r = record {
   right = taggedOf (cond (uses k .right) r unusedValue);
 }
 
--- what stands for a FROM and for a value where the kind uses none; they reach no record
+-- what stands for a FROM where the kind uses none, as Eq does for a comparison; it is not written
 abbrev pub anyFrom : From ℕ
 anyFrom = Single 1
-
-abbrev pub anyValue : Value
-anyValue = Constant (pos 0)
 
 -- the record of a part by what it says; a list's right value is the selected one
 abbrev pub partOf : ℕ → Head → Part

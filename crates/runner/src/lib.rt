@@ -171,7 +171,8 @@ pub fn run_entry(
     run_inner(d, g, file, s, e, w, depth)
 }
 
-// The same where s has inner entries. Two are told from rows first: with the four kinds in one `match` the compiler jumps through a table, which takes longer.
+// The same where s has inner entries. Entries with two are told from row entries first: with the four kinds in one `match` the compiler jumps through a table,
+// which takes longer.
 fn run_inner(
     d: &[usize],
     g: &[usize; PLACES],

@@ -1,5 +1,5 @@
 -- What rules and cards share: values (document 01, Rule text: a constant, or a level and a column), comparisons, connectives, quantifiers, tests by the mark,
--- and how many levels and entries there may be.
+-- which fields a kind uses, the rows at which the levels stand, and how many levels and entries there may be.
 use mathlib.Core.Bool.{Bool, true, false, not, _&&_}
 use mathlib.Core.List.{List, [], _∷_, _++_}
 use Prim.Native.Nat.{ℕ}
@@ -66,6 +66,10 @@ pub record Uses : Type 0 where
 -- a value that a kind does not use has the tag 0 and the number 0
 abbrev pub unusedValue : Value
 unusedValue = Column 0 0
+
+-- what stands for such a value where a record is made; it is not written
+abbrev pub anyValue : Value
+anyValue = Constant (pos 0)
 
 -- ---- comparing two numbers
 
