@@ -69,4 +69,63 @@ printf 'sleep 1\n' > "$work/repo/tests/first.sh"
 printf 'kill -9 $$\n' > "$work/repo/tests/killed.sh"
 expect 'test scripts side by side, of which two fail' 1 '^3 passed, 2 failed$'
 
+# tests/edits.sh as one of the scripts, over a function that has a proof, and an edit of it: edited FILE OLD NEW
+edited() {
+  fresh
+  local crate=$work/repo/crates/small
+  mkdir -p "$crate/specs" "$crate/proofs/part" "$crate/must-fail"
+  cp "$here/tests/edits.sh" "$work/repo/tests/edits.sh"
+  echo 'pub mod Code' > "$crate/specs/Lib.antt"
+  cat > "$crate/specs/Code.antt" << 'ANTT'
+use Prim.Native.Nat.{ℕ}
+
+abbrev pub most : ℕ
+most = 5
+ANTT
+  cat > "$crate/src/lib.rt" << 'RATTLE'
+ghost use Prim.Native.Nat.{_≤_};
+ghost use Rattle.small.specs.Code.{most};
+
+pub fn part(x: u8) -> u8
+    ensures { λ r. ⌜ r ≤ most ⌝ }
+{
+    if 5 < x {
+        return 5;
+    }
+    x
+}
+RATTLE
+  cat > "$crate/proofs/part/Proof.antt" << 'ANTT'
+use native.Mathlib.Omega.{arith}
+use Rattle.small.proofs.part.Statement.{statement}
+use Rattle.small.proofs.part.Tie as tie
+
+returns : tie.Need-returns
+returns c = omega arith
+
+returns-2 : tie.Need-returns-2
+returns-2 c = omega (arith, c .if1 .left)
+
+pub part-spec : {M : Type 1} → statement M
+part-spec = tie.close (tie.spec returns returns-2)
+ANTT
+  printf 'file: %s\nold: %s\nnew: %s\n' "$1" "$2" "$3" > "$crate/must-fail/small.edit"
+}
+
+edited specs/Code.antt 'most = 5' 'most = 4'
+expect 'an edit after which a fact no longer holds' 0 '^4 passed, 0 failed$'
+
+edited specs/Code.antt 'most = 5' 'most = few'
+expect 'an edit that is not well formed' 1 '^3 passed, 1 failed$'
+
+edited src/lib.rt 'if 5 < x {' '{'
+expect 'an edit after which a need is not there' 1 '^3 passed, 1 failed$'
+
+edited src/lib.rt 'if 5 < x {' 'if 9 < x { return 5; } if 5 < x {'
+expect 'an edit after which a field is not there' 1 '^3 passed, 1 failed$'
+
+edited specs/Code.antt 'most = 5' 'most = 4'
+rm -r "$work/repo/crates/small/must-fail"
+expect 'no edit to look at' 1 '^2 passed, 1 failed$'
+
 exit "$bad"

@@ -1,9 +1,11 @@
 #!/usr/bin/env bash
-# Every must-fail edit was refused because a fact no longer holds, and not because its text lost its place: it makes definitions or code that are well formed,
-# and the proofs still have an answer for each need. Reads what the prover said of each edit when `rt ci` or `rt must-fail` tried it: edits.sh [TARGET]
+# No must-fail edit was refused only because it lost its place: the definitions or the code that it makes are well formed, and the proofs still name needs, fields
+# and arguments that are there. Reads what the prover said of each edit when `rt ci` or `rt must-fail` tried it: edits.sh [TARGET]
+# It cannot tell an edit whose proof meets other facts because the code has other steps: for that the first error has to be read.
 set -u
 cd "$(dirname "$0")/.." || exit 1
 target=${1:-target}
+lost='has no (`Need-|field `)[^`]*`|room for only|type has [0-9]+ components|`[^`]*` is not in scope'
 bad=0
 complain() { echo "edits: $1"; bad=1; }
 
@@ -11,21 +13,17 @@ tried=0
 for edit in crates/*/must-fail/*.edit; do
   crate=$(basename "$(dirname "$(dirname "$edit")")")
   name=$crate/$(basename "$edit" .edit)
-  copy=$target/must-fail/$name
-  if [ ! -s "$copy/.log" ]; then
+  log=$target/must-fail/$name/.log
+  if [ ! -s "$log" ]; then
     complain "$name was not tried"
     continue
   fi
   tried=$((tried + 1))
-  first=$(grep -m 1 -oE '/(src|specs|proofs)/[^ ]*: error' "$copy/.log")
+  first=$(grep -m 1 -oE '/(src|specs|proofs)/[^ ]*: error' "$log")
   case $first in
-    /src/* | /specs/*)
-      complain "$name is not well formed: $(grep -m 1 -F -- "$first" "$copy/.log" | sed "s|^.*/$name/||" | cut -c 1-200)"
-      continue
-      ;;
+    /src/* | /specs/*) complain "$name is not well formed: $(grep -m 1 -F -- "$first" "$log" | sed "s|^.*/$name/||" | cut -c 1-200)" ;;
+    *) ! found=$(grep -m 1 -oE "$lost" "$log") || complain "$name no longer fits its proof: $found" ;;
   esac
-  lost=$(grep -m 1 -oE 'has no `Need-[^`]*`|room for only [0-9]+|.[^`]*. is not in scope' "$copy/.log")
-  [ -z "$lost" ] || complain "$name no longer fits its proof: $lost"
 done
 [ "$tried" -gt 0 ] || complain "no edit was tried"
 exit "$bad"
