@@ -6,6 +6,7 @@ SEED = 7
 MOST_TEXT_BYTES = 4096
 MOST_ROWS = 1000
 MOST_BRACKETS = 32
+MOST_UNKNOWNS = 6  # around one another: 127 entries for one comparison, where seven would take 255
 BLANKS = .1  # the share of blank cells
 
 
@@ -35,6 +36,11 @@ def row_where(table, fits):
     """The number of the first row from the middle of a table on that fits."""
     rows = table[1]
     return next(number for number in range(len(rows) // 2, len(rows)) if fits(rows[number]))
+
+
+def in_unknown(condition, count):
+    """A condition in so many IS UNKNOWN around one another."""
+    return "(" * count + condition + ") IS UNKNOWN" * count
 
 
 # ---- LIST, RUN and JUDGE
@@ -103,10 +109,18 @@ def three_levels(rows):
     return Case(f"three levels, {rows} rows each", f"EXISTS (FROM 2 v WHERE v.1 < m.1 AND {inner})", tables, judged)
 
 
+def truth_tests(count, title):
+    """One comparison in IS UNKNOWN, of which each uses what it tests twice. The judged row is blank; one of them admits it, and more admit no row."""
+    case = flat(MOST_ROWS)
+    blank = row_where(case.tables[0], lambda row: row[0] is None)
+    return Case(f"{title}, {MOST_ROWS:,} rows", in_unknown(case.rule, count), case.tables, blank)
+
+
 def compared():
     """The cases of LIST, RUN and JUDGE."""
     return (
-        flat(MOST_ROWS), eight_conditions(), exists(MOST_ROWS), between(), not_in(False), not_in(True), three_levels(60), three_levels(250))
+        flat(MOST_ROWS), eight_conditions(), exists(MOST_ROWS), between(), not_in(False), not_in(True), three_levels(60), three_levels(250),
+        truth_tests(1, "`(m.1 > 2000) IS UNKNOWN`"), truth_tests(MOST_UNKNOWNS, "six IS UNKNOWN around `m.1 > 2000`"))
 
 
 class Growth(typing.NamedTuple):
@@ -162,6 +176,9 @@ def short_texts():
     yield Text("three FROMs", "EXISTS (FROM 1 v WHERE m.1 IN (SELECT w.1 FROM 1 w WHERE w.2 = ALL (SELECT x.2 FROM 1 x WHERE x.1 > v.1)))", None)
     yield Text("64 parts, joined by OR", "NOT " + " OR ".join(["m.1 <> -1"] * 32), None)
     yield Text("64 parts, each in another", "NOT " * 63 + "m.1=1", None)
+    yield Text("`(m.2 > 0) IS UNKNOWN`", in_unknown("m.2 > 0", 1), None)
+    yield Text("six IS UNKNOWN around `m.2 > 0`", in_unknown("m.2 > 0", MOST_UNKNOWNS), None)
+    yield Text("32 IS UNKNOWN around `m.2 > 0`", in_unknown("m.2 > 0", MOST_BRACKETS), 13)
 
 
 def long_texts():

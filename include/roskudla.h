@@ -1,10 +1,10 @@
 /* Roskudla: entry rules with blanks, turned into cards that answer yes or no.
  *
- * Six calls. Each returns 0, or the number of a refusal (1 to 12, below). Where several refusals apply, it is the first in the order that stands
- * at the call; the numbers rise in each of these orders, so it is the lowest. The answer comes through pointers, and a refusal leaves everything
- * that they point to as it was; after a success what lies past the answer is untouched. docs/RULES.md says how rules are written and what they
- * mean, docs/FORMATS.md what the bytes of tables and cards are; the definitions that the calls are proved against are in crates/rule/specs,
- * crates/tables/specs, crates/card/specs and crates/translation/specs, with an index in docs/ARCHITECTURE.md.
+ * Six calls. Each returns 0, or the number of a refusal (1 to 13, below). Where several refusals apply, it is the first in the order that stands
+ * at the call. The answer comes through pointers, and a refusal leaves everything that they point to as it was; after a success what lies past the
+ * answer is untouched. docs/RULES.md says how rules are written and what they mean, docs/FORMATS.md what the bytes of tables and cards are; the
+ * definitions that the calls are proved against are in crates/rule/specs, crates/tables/specs, crates/card/specs and crates/translation/specs,
+ * with an index in docs/ARCHITECTURE.md.
  *
  * A slice is a pointer and its length, in elements. Where the length is 0 the pointer is not looked at and may be NULL. All other pointers
  * point to as many elements as their length says, or to one where they have no length; they are never NULL, and are aligned as C aligns what
@@ -43,7 +43,8 @@ enum roskudla_status {
     ROSKUDLA_UNSOUND = 9,   /* the card is not sound */
     ROSKUDLA_COLUMNS = 10,  /* the card was made for another number of tables or columns */
     ROSKUDLA_ROW = 11,      /* the row is not in table 1 */
-    ROSKUDLA_ROOM = 12      /* what was lent is shorter than the whole answer */
+    ROSKUDLA_ROOM = 12,     /* what was lent is shorter than the whole answer */
+    ROSKUDLA_ENTRIES = 13   /* the card would have over 192 entries */
 };
 
 /* With so much room no call returns ROSKUDLA_ROOM. */
@@ -59,7 +60,8 @@ struct roskudla_value {
 
 /* A part of a rule. Fields that its kind does not use are 0. Bytes between fields may be anything: compare parts field by field. */
 struct roskudla_part {
-    uint8_t kind;       /* 1 and, 2 or, 3 not, 4 comparison, 5 IS NULL, 6 IS NOT NULL, 7 exists, 8 some, 9 all */
+    uint8_t kind;       /* 1 and, 2 or, 3 not, 4 comparison, 5 IS NULL, 6 IS NOT NULL, 7 exists, 8 some, 9 all, 10 IS TRUE, 11 IS NOT TRUE,
+                           12 IS FALSE, 13 IS NOT FALSE, 14 IS UNKNOWN, 15 IS NOT UNKNOWN */
     uint8_t comparison; /* 1 =, 2 <>, 3 <, 4 <=, 5 >, 6 >= */
     uint8_t table;
     uint8_t end;        /* number of the first part after this one and its inner parts */
@@ -67,15 +69,15 @@ struct roskudla_part {
     struct roskudla_value right;
 };
 
-/* READ: the parts of a rule, from the start of parts on; *count becomes how many they are. Refusals, in this order: 1 to 8, 12. */
+/* READ: the parts of a rule, from the start of parts on; *count becomes how many they are. Refusals, in this order: 1 to 8, 13, 12. */
 uint32_t roskudla_read(const uint8_t *text, size_t text_len, const uint8_t *tables, size_t tables_len,
                        struct roskudla_part *parts, size_t parts_len, size_t *count);
 
-/* JUDGE: *value becomes the value of a rule on a row of table 1: 0 false, 1 unknown, 2 true. Refusals, in this order: 1 to 8, 11. */
+/* JUDGE: *value becomes the value of a rule on a row of table 1: 0 false, 1 unknown, 2 true. Refusals, in this order: 1 to 8, 13, 11. */
 uint32_t roskudla_judge(const uint8_t *text, size_t text_len, const uint8_t *tables, size_t tables_len,
                         size_t row, uint8_t *value);
 
-/* CARD: the card of a rule, from the start of card on; *length becomes how many bytes it has. Refusals, in this order: 1 to 8, 12. */
+/* CARD: the card of a rule, from the start of card on; *length becomes how many bytes it has. Refusals, in this order: 1 to 8, 13, 12. */
 uint32_t roskudla_card(const uint8_t *text, size_t text_len, const uint8_t *tables, size_t tables_len,
                        uint8_t *card, size_t card_len, size_t *length);
 

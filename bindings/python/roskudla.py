@@ -30,11 +30,12 @@ REASONS = {
     10: "the card was made for another number of tables or columns",
     11: "the row is not in table 1",
     12: "what was lent is shorter than the whole answer",
+    13: "the card would have over 192 entries",
 }
 
 
 class Refused(Exception):
-    """A call was refused; `number` is the first refusal that applies, in the order that the call states. The numbers rise there, so it is the lowest."""
+    """A call was refused; `number` is the first refusal that applies, in the order that the call states."""
 
     def __init__(self, number):
         super().__init__(number)
@@ -148,17 +149,17 @@ class Calls:
         return answer.value
 
     def read(self, text, tables):
-        """READ: the parts of a rule. Refusals, in this order: 1 to 8."""
+        """READ: the parts of a rule. Refusals, in this order: 1 to 8, 13."""
         parts = self.lent("read", text, tables, PartLayout, MOST_PARTS)
         return [Part(part.kind, part.comparison, part.table, part.end, Value(part.left.tag, part.left.number), Value(part.right.tag, part.right.number))
                 for part in parts]
 
     def judge(self, text, tables, row):
-        """JUDGE: the value of a rule on a row of table 1. Refusals, in this order: 1 to 8, 11."""
+        """JUDGE: the value of a rule on a row of table 1. Refusals, in this order: 1 to 8, 13, 11."""
         return Truth(self.answered("judge", text, tables, row))
 
     def card(self, text, tables):
-        """CARD: the card of a rule. Refusals, in this order: 1 to 8."""
+        """CARD: the card of a rule. Refusals, in this order: 1 to 8, 13."""
         return bytes(self.lent("card", text, tables, ctypes.c_uint8, MOST_CARD_BYTES))
 
     def check(self, card):

@@ -1,5 +1,5 @@
-"""The wrapper on document 01's own examples: its cases, its worked card and parts, and each refusal that can reach it; the gate's library alone; and
-arguments that are no bytes or no row. Then that the header, the wrapper for Rust and this one give the same numbers, reasons and sizes."""
+"""The wrapper on document 01's own examples: its cases, its worked card and parts, and each refusal that can reach it; on document 02's truth tests; the gate's
+library alone; and arguments that are no bytes or no row. Then that the header, the wrapper for Rust and this one give the same numbers, reasons and sizes."""
 import array
 import ctypes.util
 import pathlib
@@ -14,12 +14,22 @@ from roskudla import Part, Truth, Value
 ROOT = pathlib.Path(__file__).resolve().parents[2]
 sys.path[:0] = [str(ROOT / "tests" / "calls"), str(ROOT / "tests" / "model")]
 
-from paper import CASE_TABLES  # noqa: E402
+from paper import CASE_TABLES, SUM_191, SUM_192, UNKNOWN_CARD, UNKNOWN_TEXT, within_exists, within_unknowns  # noqa: E402
 from test_model import CASES, WORKED_CARD  # noqa: E402
 
 SHARED = ROOT / "target" / "shared"
 WORKED_TABLES = bytes.fromhex("01 03 00 00")
 TRUTHS = {"F": Truth.FALSE, "U": Truth.UNKNOWN, "T": Truth.TRUE}
+# the truth tests, in the order of their kinds from 10 on, with their values on true, unknown and false: m.2 > 0 is these on rows 0, 1, 2
+TRUTH_TESTS = (
+    (b"IS TRUE", "TFF"),
+    (b"IS NOT TRUE", "FTT"),
+    (b"IS FALSE", "FFT"),
+    (b"IS NOT FALSE", "TTF"),
+    (b"IS UNKNOWN", "FTF"),
+    (b"IS NOT UNKNOWN", "TFT"),
+)
+OPPOSITES = str.maketrans("TF", "FT")
 
 
 class WholeLibrary(unittest.TestCase):
@@ -31,17 +41,31 @@ class WholeLibrary(unittest.TestCase):
             call(*arguments)
         self.assertEqual(caught.exception.number, number)
 
+    def has_values(self, text, values):
+        """The values of a rule on rows 0, 1 and 2, and what its card says of them."""
+        card = self.calls.card(text, CASE_TABLES)
+        self.calls.check(card)
+        self.assertEqual([self.calls.judge(text, CASE_TABLES, row) for row in range(3)], [TRUTHS[value] for value in values], text)
+        self.assertEqual([self.calls.run(card, CASE_TABLES, row) for row in range(3)], [value == "T" for value in values], text)
+        self.assertEqual(self.calls.list_rows(card, CASE_TABLES), [row for row, value in enumerate(values) if value == "T"], text)
+
     def test_cases(self):
         for text, values in CASES:
-            text = text.encode()
-            card = self.calls.card(text, CASE_TABLES)
-            self.calls.check(card)
-            self.assertEqual([self.calls.judge(text, CASE_TABLES, row) for row in range(3)], [TRUTHS[value] for value in values])
-            self.assertEqual([self.calls.run(card, CASE_TABLES, row) for row in range(3)], [value == "T" for value in values])
-            self.assertEqual(self.calls.list_rows(card, CASE_TABLES), [row for row, value in enumerate(values) if value == "T"])
+            self.has_values(text.encode(), values)
+
+    def test_truth_tests(self):
+        """Each truth test on each value, alone, under NOT, around itself and in the WHERE of ALL; and its kind."""
+        for kind, (ending, values) in enumerate(TRUTH_TESTS, 10):
+            test = b"(m.2 > 0) " + ending
+            self.has_values(test, values)
+            self.has_values(b"NOT " + test, values.translate(OPPOSITES))
+            self.has_values(b"(" + test + b") IS FALSE", values.translate(OPPOSITES))
+            self.has_values(b"m.1 <> ALL (SELECT k.1 FROM 1 k WHERE " + test + b")", values.translate(OPPOSITES))
+            self.assertEqual([part.kind for part in self.calls.read(b"NOT " + test, CASE_TABLES)], [3, kind, 4])
 
     def test_worked_card(self):
         self.assertEqual(self.calls.card(b"NOT m.2 < 5", WORKED_TABLES), WORKED_CARD)
+        self.assertEqual(self.calls.card(UNKNOWN_TEXT, WORKED_TABLES), UNKNOWN_CARD)
 
     def test_parts(self):
         parts = self.calls.read(b"EXISTS (FROM 2 a WHERE a.1 >= SOME (SELECT -7 FROM 3 b WHERE m.2 < 9))", CASE_TABLES)
@@ -50,9 +74,13 @@ class WholeLibrary(unittest.TestCase):
             Part(7, 0, 2, 3, nothing, nothing),
             Part(8, 6, 3, 3, Value(1, 1), Value(255, -7)),
             Part(4, 3, 0, 3, Value(0, 2), Value(255, 9))])
+        self.assertEqual(self.calls.read(b"NOT (m.2 = 9) IS NOT FALSE", CASE_TABLES), [
+            Part(3, 0, 0, 3, nothing, nothing),
+            Part(13, 0, 0, 3, nothing, nothing),
+            Part(4, 1, 0, 3, Value(0, 2), Value(255, 9))])
 
     def test_largest_answers(self):
-        """The most parts, the longest card that a rule has (13 triples of lists within one another, over eight tables), and the most rows."""
+        """The most parts (13 triples of lists within one another), the longest card, that of 192 entries over eight tables, and the most rows."""
         text = b"1=1"
         for _ in range(3):
             text = b"1=SOME(SELECT 1 FROM 1 a WHERE " + text + b")"
@@ -60,13 +88,15 @@ class WholeLibrary(unittest.TestCase):
         eight = bytes([8]) + bytes([1, 0, 0]) * 8
         self.assertEqual(len(self.calls.read(text, eight)), roskudla.MOST_PARTS)
         self.assertEqual(len(self.calls.card(text, eight)), 3 + 8 + 15 * 142)
+        self.assertEqual(len(self.calls.card(SUM_192, eight)), roskudla.MOST_CARD_BYTES)
         rows = roskudla.MOST_ROWS
         tables = bytes([1, 1]) + rows.to_bytes(2, "little") + bytes(5 * rows)
         self.assertEqual(self.calls.list_rows(self.calls.card(b"1=1", tables), tables), list(range(rows)))
 
     def test_refusals(self):
         for number, text in ((3, b" " * 4097), (4, b"m.1 = 2147483648"), (5, b"(" * 33), (6, b""), (6, b"m.1 ="),
-                             (7, b" OR ".join([b"1 = 1"] * 33)), (8, b"k.1 = 1")):
+                             (7, b" OR ".join([b"1 = 1"] * 33)), (8, b"k.1 = 1"), (6, b"(1 = 1) IS TRUE IS TRUE"), (6, b"1 = 1 IS TRUE"), (6, b"TRUE"),
+                             (8, within_unknowns(7, b"k.1 = 1")), (13, within_unknowns(7)), (13, within_exists(SUM_192)), (13, SUM_191 + b" OR 1 = 1")):
             self.refused(number, self.calls.read, text, CASE_TABLES)
             self.refused(number, self.calls.judge, text, CASE_TABLES, 0)
             self.refused(number, self.calls.card, text, CASE_TABLES)
@@ -74,6 +104,11 @@ class WholeLibrary(unittest.TestCase):
         self.refused(2, self.calls.read, b"1 = 1", bytes.fromhex("01 01 01 00 00 00 00 00 02"))
         self.refused(9, self.calls.check, b"\0\0")
         self.refused(10, self.calls.list_rows, WORKED_CARD, CASE_TABLES)
+
+    def test_entries_before_the_row(self):
+        """A sum over 192 is refused before a row that is absent; six IS UNKNOWN within one another make 127, and seven 255."""
+        self.refused(13, self.calls.judge, within_unknowns(7), CASE_TABLES, 99)
+        self.refused(11, self.calls.judge, within_unknowns(6), CASE_TABLES, 99)
 
     def test_rows_that_are_none(self):
         """A number that C's sizes would cut to a row of the table is refused as any other that is no row."""

@@ -1,6 +1,6 @@
 //! The six calls (section "What the product holds"). Each gives the first refusal of its order that applies to its whole input, because
-//! its steps stand in that order; the numbers rise in it, so this is the lowest that applies. A lent buffer is written last, and no
-//! further than the answer goes.
+//! its steps stand in that order; the numbers rise in it, so this is the lowest that applies. Only 13 (document 02, Point 1) stands
+//! elsewhere: it belongs to reading and comes after 8. A lent buffer is written last, and no further than the answer goes.
 
 use crate::card::{self, Card};
 use crate::grammar;
@@ -13,14 +13,14 @@ use crate::tables::Tables;
 use crate::text;
 use crate::translate;
 
-/// READ: text and tables to the list of parts, whose number is given. Refusals, in this order: 1 to 8, 12.
+/// READ: text and tables to the list of parts, whose number is given. Refusals, in this order: 1 to 8, 13, 12.
 pub fn read(text: &[u8], tables: &[u8], parts: &mut [Part]) -> Result<usize, Refusal> {
     let tables = Tables::read(tables)?;
     let rule = accepted(text, &tables)?;
     lend(&rule, parts)
 }
 
-/// JUDGE: text, tables and row number to true, false or unknown. Refusals, in this order: 1 to 8, 11.
+/// JUDGE: text, tables and row number to true, false or unknown. Refusals, in this order: 1 to 8, 13, 11.
 pub fn judge(text: &[u8], tables: &[u8], row: usize) -> Result<Truth, Refusal> {
     let tables = Tables::read(tables)?;
     let rule = accepted(text, &tables)?;
@@ -28,7 +28,7 @@ pub fn judge(text: &[u8], tables: &[u8], row: usize) -> Result<Truth, Refusal> {
     Ok(meaning::judge(&rule, &tables, row))
 }
 
-/// CARD: text and tables to card bytes, whose number is given. Refusals, in this order: 1 to 8, 12.
+/// CARD: text and tables to card bytes, whose number is given. Refusals, in this order: 1 to 8, 13, 12.
 pub fn card(text: &[u8], tables: &[u8], card: &mut [u8]) -> Result<usize, Refusal> {
     let tables = Tables::read(tables)?;
     let rule = accepted(text, &tables)?;
@@ -59,11 +59,16 @@ pub fn list(card: &[u8], tables: &[u8], rows: &mut [u32]) -> Result<usize, Refus
     lend(&admitted, rows)
 }
 
-/// Reading: the parts of a rule that is accepted with these tables, else a refusal from 3 to 8.
+/// Reading: the parts of a rule that is accepted with these tables, else a refusal from 3 to 8, or 13 for the sum. Where no inner
+/// condition is used twice, 64 parts come to at most 3 entries each, which is 192.
 fn accepted(text: &[u8], tables: &Tables) -> Result<Vec<Part>, Refusal> {
     let tokens = text::tokens(text)?;
     let tree = grammar::tree(&tokens)?;
-    rule::parts(&tree, tables)
+    let rule = rule::parts(&tree, tables)?;
+    if tree.uses_twice && translate::sum(&rule) > card::MOST_ENTRIES {
+        return Err(refusal::SUM);
+    }
+    Ok(rule)
 }
 
 /// A sound card, else refusal 9, that has the T and columns of the tables, else refusal 10.

@@ -23,7 +23,7 @@ pub const BLANK: u8 = 7;
 pub const NOT_BLANK: u8 = 8;
 
 /// A card has at most this many entries.
-const MOST_ENTRIES: usize = 192;
+pub const MOST_ENTRIES: usize = 192;
 /// Bytes before the columns: the number of entries in two, the number of tables in one.
 const HEAD_BYTES: usize = 3;
 /// Bytes of one record.

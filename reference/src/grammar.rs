@@ -1,7 +1,9 @@
-//! The grammar (section "Rule text", the list of forms): tokens to a tree, before any limit or name is looked at.
+//! The grammar (section "Rule text", the list of forms; document 02, Point 1, for truth tests): tokens to a tree, before any limit
+//! or name is looked at.
 
 use crate::comparison::{EQUAL, NOT_EQUAL};
 use crate::part::{ALL, AND, IS_NOT_NULL, IS_NULL, OR, SOME};
+use crate::part::{IS_FALSE, IS_NOT_FALSE, IS_NOT_TRUE, IS_NOT_UNKNOWN, IS_TRUE, IS_UNKNOWN};
 use crate::refusal::{self, Refusal};
 use crate::text::{Token, Word};
 
@@ -51,6 +53,8 @@ pub enum Node {
     Exists(Subquery),
     /// SOME, ALL, IN or NOT IN.
     List(List),
+    /// A truth test: the kind of the part, then the bracketed condition.
+    Truth(u8, Place),
 }
 
 /// A whole condition.
@@ -62,16 +66,18 @@ pub struct Tree {
     pub root: Place,
     /// The most FROMs around one another.
     pub most_froms: usize,
+    /// Whether some IS UNKNOWN or IS NOT UNKNOWN uses its inner condition twice.
+    pub uses_twice: bool,
 }
 
 /// Reads all tokens as one condition, or gives refusal 6.
 pub fn tree(tokens: &[Token]) -> Result<Tree, Refusal> {
-    let mut reader = Reader { tokens, nodes: Vec::new(), froms: 0, most_froms: 0 };
+    let mut reader = Reader { tokens, nodes: Vec::new(), froms: 0, most_froms: 0, uses_twice: false };
     let root = reader.condition()?;
     if !reader.tokens.is_empty() {
         return Err(refusal::GRAMMAR);
     }
-    Ok(Tree { nodes: reader.nodes, root, most_froms: reader.most_froms })
+    Ok(Tree { nodes: reader.nodes, root, most_froms: reader.most_froms, uses_twice: reader.uses_twice })
 }
 
 /// The tokens that remain and the tree so far. Every reader below calls another one only for fewer tokens, or for a narrower
@@ -81,6 +87,7 @@ struct Reader<'a> {
     nodes: Vec<Node>,
     froms: usize,
     most_froms: usize,
+    uses_twice: bool,
 }
 
 impl Reader<'_> {
@@ -117,12 +124,16 @@ impl Reader<'_> {
         Ok(inner)
     }
 
-    /// test: `(` condition `)`, EXISTS, or one of the forms that begin with a value.
+    /// test: `(` condition `)`, which a truth test may follow; EXISTS; or one of the forms that begin with a value.
     fn test(&mut self) -> Result<Place, Refusal> {
         if self.follows(Token::Open) {
             let inner = self.condition()?;
             self.expect(Token::Close)?;
-            Ok(inner)
+            if self.follows(Token::Word(Word::Is)) {
+                self.truth_test(inner)
+            } else {
+                Ok(inner)
+            }
         } else if self.follows(Token::Word(Word::Exists)) {
             self.expect(Token::Open)?;
             let subquery = self.subquery()?;
@@ -132,6 +143,22 @@ impl Reader<'_> {
             let left = self.value()?;
             self.test_of(left)
         }
+    }
+
+    /// What stands after the IS of a bracketed condition: NOT or none, then TRUE, FALSE or UNKNOWN.
+    fn truth_test(&mut self, inner: Place) -> Result<Place, Refusal> {
+        let not = self.follows(Token::Word(Word::Not));
+        let kind = match (self.next()?, not) {
+            (Token::Word(Word::True), false) => IS_TRUE,
+            (Token::Word(Word::True), true) => IS_NOT_TRUE,
+            (Token::Word(Word::False), false) => IS_FALSE,
+            (Token::Word(Word::False), true) => IS_NOT_FALSE,
+            (Token::Word(Word::Unknown), false) => IS_UNKNOWN,
+            (Token::Word(Word::Unknown), true) => IS_NOT_UNKNOWN,
+            _ => return Err(refusal::GRAMMAR),
+        };
+        self.uses_twice |= matches!(kind, IS_UNKNOWN | IS_NOT_UNKNOWN);
+        Ok(self.add(Node::Truth(kind, inner)))
     }
 
     /// What stands after the first value of a test. IN is SOME with `=`; NOT IN is ALL with `<>`.

@@ -1,4 +1,4 @@
-//! Entry rules with blanks: the six calls of document 01 in plain Rust.
+//! Entry rules with blanks: the six calls of document 01 in plain Rust, with the truth tests of document 02 (Point 1).
 //!
 //! The modules follow the sections of the paper. A rule goes from the text to tokens (`text`), from tokens to a tree
 //! (`grammar`), from the tree to parts (`rule`). Parts have a three-valued meaning (`meaning`) and a translation without

@@ -1,4 +1,4 @@
-//! The three-valued meaning of parts (section "Meaning").
+//! The three-valued meaning of parts (section "Meaning"; document 02, Point 1, for truth tests).
 
 use crate::comparison;
 use crate::part::{self, Part};
@@ -65,8 +65,19 @@ impl Judge<'_> {
             part::IS_NOT_NULL => Truth::known(self.tables.value(part.left, levels).is_some()),
             part::EXISTS => self.exists(at, level, levels),
             part::SOME => self.listed(Truth::True, at, level, levels),
+            part::IS_TRUE => self.is(Truth::True, at, level, levels),
+            part::IS_NOT_TRUE => self.is(Truth::True, at, level, levels).not(),
+            part::IS_FALSE => self.is(Truth::False, at, level, levels),
+            part::IS_NOT_FALSE => self.is(Truth::False, at, level, levels).not(),
+            part::IS_UNKNOWN => self.is(Truth::Unknown, at, level, levels),
+            part::IS_NOT_UNKNOWN => self.is(Truth::Unknown, at, level, levels).not(),
             _ => self.listed(Truth::False, at, level, levels),
         }
+    }
+
+    /// A truth test: whether the inner condition is this one of the three. The outcome is never unknown, as in SQL-92.
+    fn is(&self, truth: Truth, at: usize, level: usize, levels: &mut Levels) -> Truth {
+        Truth::known(self.part(at + 1, level, levels) == truth)
     }
 
     /// AND is false if one side is false, else unknown if one is unknown; OR is its mirror, decided by a true side.

@@ -1,4 +1,4 @@
-//! The record of one part and the numbers of its kinds (section "Rule text", the paragraph on parts).
+//! The record of one part and the numbers of its kinds (section "Rule text", the paragraph on parts; document 02, Point 1).
 
 use crate::value::Value;
 
@@ -20,11 +20,24 @@ pub const EXISTS: u8 = 7;
 pub const SOME: u8 = 8;
 /// Left value compared with the selected value of every retained row.
 pub const ALL: u8 = 9;
+/// The inner part is true.
+pub const IS_TRUE: u8 = 10;
+/// The inner part is false or unknown.
+pub const IS_NOT_TRUE: u8 = 11;
+/// The inner part is false.
+pub const IS_FALSE: u8 = 12;
+/// The inner part is true or unknown.
+pub const IS_NOT_FALSE: u8 = 13;
+/// The inner part is unknown.
+pub const IS_UNKNOWN: u8 = 14;
+/// The inner part is true or false.
+pub const IS_NOT_UNKNOWN: u8 = 15;
 
 /// One part of an accepted rule: an OR, an AND, a NOT or a test. Unused fields are 0.
 #[derive(Clone, Copy, Debug, Default, PartialEq, Eq)]
 pub struct Part {
-    /// 1 and, 2 or, 3 not, 4 comparison, 5 IS NULL, 6 IS NOT NULL, 7 exists, 8 some, 9 all.
+    /// 1 and, 2 or, 3 not, 4 comparison, 5 IS NULL, 6 IS NOT NULL, 7 exists, 8 some, 9 all, 10 IS TRUE, 11 IS NOT TRUE,
+    /// 12 IS FALSE, 13 IS NOT FALSE, 14 IS UNKNOWN, 15 IS NOT UNKNOWN.
     pub kind: u8,
     /// 1 `=`, 2 `<>`, 3 `<`, 4 `<=`, 5 `>`, 6 `>=`; used by kinds 4, 8 and 9.
     pub comparison: u8,

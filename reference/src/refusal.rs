@@ -1,6 +1,6 @@
-//! The twelve refusals (section "Gate says why not").
+//! The refusals: 1 to 12 (section "Gate says why not"), and 13 (document 02, Point 1).
 
-/// The number of a refusal, 1 to 12. Of those that apply to the whole input the first in the call's order is given.
+/// The number of a refusal, 1 to 13. Of those that apply to the whole input the first in the call's order is given.
 pub type Refusal = u32;
 
 /// Tables: sizes or length wrong.
@@ -27,3 +27,5 @@ pub const OTHER_TABLES: Refusal = 10;
 pub const ROW: Refusal = 11;
 /// The lent buffer is shorter than the whole answer.
 pub const BUFFER: Refusal = 12;
+/// The sum of entries is over 192. It belongs to reading and comes after 8, so before 11 and 12.
+pub const SUM: Refusal = 13;

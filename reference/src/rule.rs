@@ -59,6 +59,10 @@ impl Writer<'_> {
             Node::Null(kind, value) => Part { left: self.value(value)?, ..Part::of(kind) },
             Node::Exists(subquery) => self.exists(subquery)?,
             Node::List(list) => self.list(list)?,
+            Node::Truth(kind, inner) => {
+                self.part(inner)?;
+                Part::of(kind)
+            }
         };
         let end = self.parts.len() as u8;
         self.parts[number] = Part { end, ..part };

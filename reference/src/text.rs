@@ -1,4 +1,4 @@
-//! Tokens of the rule text (section "Rule text", the first paragraph).
+//! Tokens of the rule text (section "Rule text", the first paragraph; document 02, Point 1, for three of the words).
 
 use crate::comparison::{AT_LEAST, AT_MOST, EQUAL, LESS, MORE, NOT_EQUAL};
 use crate::refusal::{self, Refusal};
@@ -25,6 +25,9 @@ pub enum Word {
     Select,
     From,
     Where,
+    True,
+    False,
+    Unknown,
 }
 
 /// One token of a rule text.
@@ -112,6 +115,9 @@ fn word(bytes: &[u8]) -> Option<(Token, usize)> {
         b"SELECT" => Word::Select,
         b"FROM" => Word::From,
         b"WHERE" => Word::Where,
+        b"TRUE" => Word::True,
+        b"FALSE" => Word::False,
+        b"UNKNOWN" => Word::Unknown,
         _ => return None,
     };
     Some((Token::Word(word), length))

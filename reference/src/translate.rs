@@ -1,4 +1,5 @@
-//! The translation of parts to card entries, which have no negation (section "Card", the second paragraph).
+//! The translation of parts to card entries, which have no negation (section "Card", the second paragraph; document 02,
+//! Point 1, for truth tests).
 
 use crate::card::{Entry, AND, BLANK, COMPARISON_OR_NO, COMPARISON_OR_YES, EVERY_ROW, NOT_BLANK, OR, SOME_ROW};
 use crate::comparison;
@@ -24,6 +25,21 @@ impl Sense {
         Sense { true_interpreted: false, negated }
     }
 
+    /// The false-interpretation, in either interpretation around it, and negated just where that is.
+    fn false_interpretation(self) -> Sense {
+        Sense { true_interpreted: false, ..self }
+    }
+
+    /// The true-interpretation, in either interpretation around it, and negated just where that is.
+    fn true_interpretation(self) -> Sense {
+        Sense { true_interpreted: true, ..self }
+    }
+
+    /// The negation of the same interpretation.
+    fn negation(self) -> Sense {
+        Sense { negated: !self.negated, ..self }
+    }
+
     /// One kind as it is, the other where the sense is negated.
     fn choose(self, kind: u8, negated: u8) -> u8 {
         if self.negated {
@@ -34,21 +50,39 @@ impl Sense {
     }
 }
 
-/// The entries of a rule, each before its inner ones, left first.
+/// The entries of an accepted rule, whose sum is at most 192, each before its inner ones, left first.
 pub fn entries(parts: &[Part]) -> Vec<Entry> {
-    let mut translator = Translator { parts, entries: Vec::with_capacity(count(parts)) };
+    let mut translator = Translator { parts, entries: Vec::with_capacity(sum(parts)) };
     translator.part(0, Sense::of_where(false));
     translator.entries
 }
 
-/// n = parts − (parts of kind 3) + 2 × (parts of kinds 8 and 9).
-fn count(parts: &[Part]) -> usize {
-    let entries_of = |part: &Part| match part.kind {
-        part::NOT => 0,
-        part::SOME | part::ALL => 3,
-        _ => 1,
-    };
-    parts.iter().map(entries_of).sum()
+/// n = parts − (parts of kind 3) + 2 × (parts of kinds 8 and 9), where kinds 10 to 13 add nothing either, and the sum becomes 1 plus
+/// twice the inner sum at kinds 14 and 15.
+pub fn sum(parts: &[Part]) -> usize {
+    sum_between(parts, 0, parts.len())
+}
+
+/// The sum over the parts from `at` up to `end`. Each is looked at once; since the sum can double with each of 32 brackets, it
+/// stays at the highest number that a `usize` has, once there.
+fn sum_between(parts: &[Part], mut at: usize, end: usize) -> usize {
+    let mut sum = 0_usize;
+    while at < end {
+        let part = &parts[at];
+        at += 1;
+        let entries = match part.kind {
+            part::NOT | part::IS_TRUE | part::IS_NOT_TRUE | part::IS_FALSE | part::IS_NOT_FALSE => 0,
+            part::SOME | part::ALL => 3,
+            part::IS_UNKNOWN | part::IS_NOT_UNKNOWN => {
+                let inner = sum_between(parts, at, usize::from(part.end));
+                at = usize::from(part.end);
+                inner.saturating_mul(2).saturating_add(1)
+            }
+            _ => 1,
+        };
+        sum = sum.saturating_add(entries);
+    }
+    sum
 }
 
 /// The parts of an accepted rule and the entries so far. Calls nest at most once for each of the 64 parts.
@@ -68,6 +102,12 @@ impl Translator<'_> {
             part::COMPARISON => self.comparison(part, sense),
             part::IS_NULL => self.blank(sense.choose(BLANK, NOT_BLANK), part),
             part::IS_NOT_NULL => self.blank(sense.choose(NOT_BLANK, BLANK), part),
+            part::IS_TRUE => self.part(at + 1, sense.false_interpretation()),
+            part::IS_NOT_TRUE => self.part(at + 1, sense.false_interpretation().negation()),
+            part::IS_FALSE => self.part(at + 1, sense.true_interpretation().negation()),
+            part::IS_NOT_FALSE => self.part(at + 1, sense.true_interpretation()),
+            part::IS_UNKNOWN => self.unknown(at, sense),
+            part::IS_NOT_UNKNOWN => self.unknown(at, sense.negation()),
             _ => self.rows(at, sense),
         }
     }
@@ -77,6 +117,15 @@ impl Translator<'_> {
         let entry = self.open(kind, 0);
         self.part(at + 1, sense);
         self.part(usize::from(self.parts[at + 1].end), sense);
+        self.close(entry);
+    }
+
+    /// IS UNKNOWN gives and, then the negated false-interpretation, then the true-interpretation; IS NOT UNKNOWN is the negation
+    /// of that.
+    fn unknown(&mut self, at: usize, sense: Sense) {
+        let entry = self.open(sense.choose(AND, OR), 0);
+        self.part(at + 1, sense.false_interpretation().negation());
+        self.part(at + 1, sense.true_interpretation());
         self.close(entry);
     }
 

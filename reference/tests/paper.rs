@@ -62,6 +62,27 @@ fn column(tag: u8, number: i32) -> Value {
     Value { tag, number }
 }
 
+/// The six truth tests, in the order of their kinds 10 to 15.
+const TRUTH_TESTS: [&str; 6] = ["IS TRUE", "IS NOT TRUE", "IS FALSE", "IS NOT FALSE", "IS UNKNOWN", "IS NOT UNKNOWN"];
+
+/// The kinds of the parts of an accepted text on the paper's tables.
+fn part_kinds(text: &str) -> Vec<u8> {
+    parts_of(text, &paper_tables()).unwrap().iter().map(|part| part.kind).collect()
+}
+
+/// The kind and the comparison of each entry of the card of a text on the paper's three tables.
+fn entry_kinds(text: &str) -> Vec<(u8, u8)> {
+    let bytes = card_of(text, &paper_tables()).unwrap();
+    let count = usize::from(bytes[0]);
+    let comparison = |entry: usize| bytes[6 + count + 14 * entry + 3];
+    (0..count).map(|entry| (bytes[6 + entry], comparison(entry))).collect()
+}
+
+/// A condition in `count` truth tests UNKNOWN, nested in one another.
+fn unknowns(count: usize, condition: &str) -> String {
+    format!("{}{condition}{}", "(".repeat(count), ") IS UNKNOWN".repeat(count))
+}
+
 const WORKED: [u8; 19] = [1, 0, 1, 3, 5, 1, 0, 0, 6, 0, 2, 0, 0, 0, 0xFF, 5, 0, 0, 0];
 
 #[test]
@@ -132,6 +153,7 @@ fn the_examples_of_the_refusal_table() {
     let mut buffer = [7; 18];
     assert_eq!(card(b"NOT m.2 < 5", &three_columns(), &mut buffer), Err(12));
     assert_eq!(buffer, [7; 18]);
+    assert_eq!(refused(unknowns(7, "1 = 1").as_bytes()), 13);
 }
 
 #[test]
@@ -158,6 +180,65 @@ fn the_first_refusal_over_the_whole_input() {
 }
 
 #[test]
+fn the_sum_is_refused_after_names_and_before_row_and_buffer() {
+    let tables = paper_tables();
+    // a name within the seven, and one after them
+    let within = unknowns(7, "k.1 = 1");
+    let after = format!("{} OR m.3 = 1", unknowns(7, "1 = 1"));
+    let limit = format!("{}{}", "NOT ".repeat(57), unknowns(7, "1 = 1"));
+    for (text, number) in [(&within, 8), (&after, 8), (&limit, 7), (&unknowns(7, "1 = 1"), 13)] {
+        assert_eq!(read(text.as_bytes(), &tables, &mut []), Err(number), "{text}");
+        assert_eq!(judge(text.as_bytes(), &tables, 99), Err(number), "{text}");
+        assert_eq!(card(text.as_bytes(), &tables, &mut []), Err(number), "{text}");
+    }
+    let six = unknowns(6, "1 = 1");
+    assert_eq!(read(six.as_bytes(), &tables, &mut []), Err(12));
+    assert_eq!(judge(six.as_bytes(), &tables, 99), Err(11));
+    assert_eq!(card(six.as_bytes(), &tables, &mut []), Err(12));
+    // n = 127: 3 + T + 15n bytes
+    assert_eq!(card(six.as_bytes(), &tables, &mut [0; 1_910]), Err(12));
+    assert_eq!(card(six.as_bytes(), &tables, &mut [0; 1_911]), Ok(1_911));
+    let mut spoilt = tables.clone();
+    *spoilt.last_mut().unwrap() = 2;
+    assert_eq!(read(unknowns(7, "1 = 1").as_bytes(), &spoilt, &mut []), Err(2));
+}
+
+#[test]
+fn the_sum_at_its_limit() {
+    let tables = paper_tables();
+    let length = |text: &str| card_of(text, &tables).map(|bytes| (bytes.len() - 6) / 15);
+    // 127 + 63 + 1, then one more for EXISTS
+    let odd = format!("{} AND {}", unknowns(6, "m.2 > 0"), unknowns(5, "m.1 = 1"));
+    let even = format!("EXISTS (FROM 2 v WHERE {odd})");
+    assert_eq!((length(&odd), length(&even)), (Ok(191), Ok(192)));
+    assert_eq!((refused(even.as_bytes()), refused(format!("{odd} AND 1 = 1").as_bytes())), (0, 13));
+    assert_eq!(refused(format!("EXISTS (FROM 2 v WHERE {even})").as_bytes()), 13);
+    // kind 15 counts as 14 does; kinds 3 and 10 to 13 add nothing to 192
+    assert_eq!(length(&even.replace("IS UNKNOWN", "IS NOT UNKNOWN")), Ok(192));
+    TRUTH_TESTS[..4].iter().for_each(|test| assert_eq!(length(&format!("NOT ({even}) {test}")), Ok(192), "{test}"));
+    TRUTH_TESTS[4..].iter().for_each(|test| assert_eq!(length(&format!("({even}) {test}")), Err(13), "{test}"));
+    // a list adds its own 3 within the doubling: 1 + 2 × (3 + 1)
+    assert_eq!(length("(m.1 IN (SELECT v.1 FROM 2 v WHERE v.1 = 1)) IS UNKNOWN"), Ok(9));
+    // 9 × 4 + 2 + 1 for the tests, 9 OR and an AND; then 1 + 2 × 49, then 1 + 2 × 99
+    let list = "m.1 IN (SELECT v.1 FROM 2 v WHERE 1 = 1)";
+    let joined = [list; 9].join(" OR ") + " OR EXISTS (FROM 3 v WHERE 1 = 1) AND NOT 1 = 1";
+    assert_eq!((length(&joined), length(&unknowns(1, &joined)), length(&unknowns(2, &joined))), (Ok(49), Ok(99), Err(13)));
+}
+
+#[test]
+fn the_sum_may_double_at_every_bracket() {
+    let deep = unknowns(32, "1 = 1");
+    assert_eq!(refused(deep.as_bytes()), 13);
+    assert_eq!(refused(format!("({deep})").as_bytes()), 5);
+    assert_eq!(refused(deep.replace("IS UNKNOWN", "IS NOT UNKNOWN").as_bytes()), 13);
+    // 64 parts: the innermost condition has 32
+    let wide = unknowns(32, &format!("NOT {}", vec!["1 = 1"; 16].join(" OR ")));
+    assert_eq!((refused(wide.as_bytes()), refused(wide.replacen("NOT", "NOT NOT", 1).as_bytes())), (13, 7));
+    let sides = format!("{} AND {}", unknowns(30, "1 = 1"), unknowns(31, "m.1 = 1"));
+    assert_eq!((refused(sides.as_bytes()), refused(format!("NOT {sides}").as_bytes())), (13, 7));
+}
+
+#[test]
 fn tokens() {
     let accepted = ["m.1=1", "\n m . 1 = 1 \n", "1<-1", "1=0000000001", "m.0000000001=-0", "1=-2147483648", "1IS NOT NULL"];
     let no_tokens = ["1 = 00000000001", "1 = -2147483649", "1 = -", "1 = - 1", "1 = --1", "1\t= 1", "1 = 1\r", "NOTNOT 1 = 1"];
@@ -173,6 +254,113 @@ fn tokens() {
     assert_eq!(refused(b"1 = \0"), 4);
     assert_eq!(refused("1 = 1 \u{2212}1".as_bytes()), 4);
     assert_eq!(refused(&[b' '; 4_096]), 6);
+}
+
+#[test]
+fn where_truth_tests_may_stand() {
+    let accepted = ["(1=1)IS TRUE", "(1 = 1)\nIS NOT\nUNKNOWN", "((1 = 1) IS TRUE) IS TRUE", "((1 = 1)) IS NOT FALSE"];
+    let exists = "EXISTS (FROM 2 v WHERE 1 = 1) IS TRUE";
+    let list = "m.1 IN (SELECT v.1 FROM 2 v WHERE 1 = 1) IS TRUE";
+    let after_others = ["1 = 1 IS TRUE", "(1 = 1) IS TRUE IS TRUE", "m.1 IS TRUE", "1 IS NULL IS TRUE", "(m.1) IS TRUE", exists, list];
+    let unfinished = ["(1 = 1) IS", "(1 = 1) IS NOT", "(1 = 1) NOT", "(1 = 1) TRUE", "(1 = 1) NOT TRUE", "(1 = 1 IS TRUE)"];
+    let other_words = ["(1 = 1) IS NULL", "(1 = 1) IS NOT NULL", "(1 = 1) IS NOT NOT TRUE", "(1 = 1) IS 1", "(1 = 1) IS (1 = 1)"];
+    let alone = ["TRUE", "FALSE", "UNKNOWN", "NOT TRUE", "(TRUE)", "(TRUE) IS TRUE", "m.1 = TRUE", "m.1 = UNKNOWN", "IS TRUE"];
+    let no_tokens = ["(1 = 1) IS TRU", "(1 = 1) IS TRUEFALSE", "(1 = 1) ISTRUE", "(1 = 1) IS UNKNOWNS", "(1 = 1) IS NOTTRUE"];
+    accepted.iter().for_each(|text| assert_eq!(refused(text.as_bytes()), 0, "{text}"));
+    let ungrammatical = [&after_others[..], &unfinished, &other_words, &alone].concat();
+    ungrammatical.iter().for_each(|text| assert_eq!(refused(text.as_bytes()), 6, "{text}"));
+    no_tokens.iter().for_each(|text| assert_eq!(refused(text.as_bytes()), 4, "{text}"));
+    assert_eq!(refused(b"(1 = 1) IS true"), 6);
+}
+
+#[test]
+fn truth_tests_are_parts() {
+    for (number, test) in TRUTH_TESTS.iter().enumerate() {
+        let kind = 10 + number as u8;
+        assert_eq!(part_kinds(&format!("(1 = 1) {test}")), [kind, 4], "{test}");
+        assert_eq!(part_kinds(&format!("((1 = 1) {test} AND 1 IS NULL) {test}")), [kind, 1, kind, 4, 5], "{test}");
+    }
+    assert_eq!(part_kinds("NOT (1 = 1) IS FALSE"), [3, 12, 4]);
+    assert_eq!(part_kinds("(NOT 1 = 1) IS FALSE"), [12, 3, 4]);
+    assert_eq!(part_kinds("((1 = 1)) IS TRUE"), [10, 4]);
+    assert_eq!(part_kinds("((1 = 1) IS TRUE)"), [10, 4]);
+    assert_eq!(part_kinds("(1 = 1) AND (1 = 1) IS UNKNOWN"), [1, 4, 14, 4]);
+    assert_eq!(part_kinds("(1 = 1 OR 1 = 1) IS NOT TRUE OR 1 = 1"), [2, 11, 2, 4, 4, 4]);
+    assert_eq!(part_kinds("m.1 IN (SELECT v.1 FROM 2 v WHERE (v.1 = 1) IS NOT FALSE)"), [8, 13, 4]);
+    // kind and end alone
+    let comparison = |end: u8| Part { kind: 4, comparison: 1, end, left: constant(1), right: constant(1), ..Part::default() };
+    let unused = |kind: u8, end: u8| Part { kind, end, ..Part::default() };
+    let parts = vec![unused(1, 6), unused(15, 5), unused(2, 5), comparison(4), comparison(5), comparison(6)];
+    assert_eq!(parts_of("(1 = 1 OR 1 = 1) IS NOT UNKNOWN AND 1 = 1", &paper_tables()), Ok(parts));
+    // each is counted in the 64
+    let tests = |count: usize| format!("{}({}1 = 1{})", "NOT ".repeat(32), "(".repeat(count), ") IS TRUE".repeat(count));
+    assert_eq!((refused(tests(31).as_bytes()), refused(format!("NOT {}", tests(31)).as_bytes())), (0, 7));
+}
+
+#[test]
+fn truth_tests_on_each_of_the_three_values() {
+    let tables = paper_tables();
+    // on true, unknown and false, which `m.2 > 0` is on rows 0, 1 and 2
+    let values = [[T, F, F], [F, T, T], [F, F, T], [T, T, F], [F, T, F], [T, F, T]];
+    let reverse = |truth: Truth| if truth == T { F } else { T };
+    for (test, truths) in TRUTH_TESTS.iter().zip(values) {
+        let same = [
+            format!("(m.2 > 0) {test}"),
+            format!("NOT NOT (m.2 > 0) {test}"),
+            format!("((m.2 > 0) {test}) IS TRUE"),
+            format!("((m.2 > 0) {test}) IS NOT FALSE"),
+            format!("EXISTS (FROM 2 v WHERE (m.2 > 0) {test})"),
+            format!("1 = SOME (SELECT 1 FROM 2 v WHERE (m.2 > 0) {test})"),
+        ];
+        let reversed = [
+            format!("NOT (m.2 > 0) {test}"),
+            format!("((m.2 > 0) {test}) IS FALSE"),
+            format!("((m.2 > 0) {test}) IS NOT TRUE"),
+            format!("0 = ALL (SELECT 1 FROM 2 v WHERE (m.2 > 0) {test})"),
+        ];
+        let never = format!("((m.2 > 0) {test}) IS UNKNOWN");
+        let texts = same.iter().map(|text| (text, truths));
+        let texts = texts.chain(reversed.iter().map(|text| (text, truths.map(reverse)))).chain([(&never, [F; 3])]);
+        for (text, truths) in texts {
+            let bytes = card_of(text, &tables).unwrap();
+            assert_eq!(check(&bytes), Ok(()), "{text}");
+            for (row, &truth) in truths.iter().enumerate() {
+                assert_eq!(judge(text.as_bytes(), &tables, row), Ok(truth), "{text}, row {row}");
+                assert_eq!(run(&bytes, &tables, row), Ok(truth == T), "{text}, row {row}");
+            }
+        }
+    }
+}
+
+#[test]
+fn cards_of_truth_tests() {
+    // kind 5 or 6, with `>` (5) or `<=` (4); and (1) and or (2) use no comparison
+    let cards: [&[(u8, u8)]; 6] = [&[(5, 5)], &[(6, 4)], &[(5, 4)], &[(6, 5)], &[(1, 0), (6, 4), (6, 5)], &[(2, 0), (5, 5), (5, 4)]];
+    for (number, test) in TRUTH_TESTS.iter().enumerate() {
+        assert_eq!(entry_kinds(&format!("(m.2 > 0) {test}")), cards[number], "{test}");
+        assert_eq!(entry_kinds(&format!("NOT (m.2 > 0) {test}")), cards[number ^ 1], "{test}");
+        // true-interpreted around it, negated or not
+        assert_eq!(entry_kinds(&format!("((m.2 > 0) {test}) IS NOT FALSE")), cards[number], "{test}");
+        assert_eq!(entry_kinds(&format!("((m.2 > 0) {test}) IS FALSE")), cards[number ^ 1], "{test}");
+        let inner = format!("EXISTS (FROM 2 v WHERE (v.1 > 0) {test})");
+        assert_eq!(entry_kinds(&inner), [&[(3, 0)], cards[number]].concat(), "{test}");
+        assert_eq!(entry_kinds(&format!("NOT {inner}")), [&[(4, 0)], cards[number ^ 1]].concat(), "{test}");
+    }
+    let blank_third = tables_file(&[(3, vec![vec![None; 3], vec![Some(1); 3], vec![Some(0); 3]])]);
+    let bytes = card_of("(m.3 > 0) IS UNKNOWN", &blank_third).unwrap();
+    let and = [3, 0, 0, 0, 0, 0, 0, 0, 0, 0, 0, 0, 0, 0];
+    let at_most = [2, 0, 0, 4, 0, 3, 0, 0, 0, 255, 0, 0, 0, 0];
+    let more = [3, 0, 0, 5, 0, 3, 0, 0, 0, 255, 0, 0, 0, 0];
+    assert_eq!(bytes, card_with(&[(1, and), (6, at_most), (6, more)]));
+    let mut rows = [9; 2];
+    assert_eq!((list(&bytes, &blank_third, &mut rows), rows), (Ok(1), [0, 9]));
+    // the negated false-interpretation of EXISTS is every row over its negated WHERE
+    let exists = "(EXISTS (FROM 2 v WHERE v.1 > 0)) IS UNKNOWN";
+    assert_eq!(entry_kinds(exists), [(1, 0), (4, 0), (6, 4), (3, 0), (5, 5)]);
+    let list = "(m.1 = SOME (SELECT v.1 FROM 2 v WHERE v.1 > 0)) IS NOT UNKNOWN";
+    let some = [(3, 0), (1, 0), (5, 5), (5, 1)];
+    let every = [(4, 0), (2, 0), (6, 4), (5, 2)];
+    assert_eq!(entry_kinds(list), [&[(2, 0)], &some[..], &every].concat());
 }
 
 #[test]
@@ -365,7 +553,7 @@ impl Dice {
     fn condition(&mut self, size: u64, letters: &[&str]) -> String {
         let left = self.value(letters);
         let comparison = self.pick(&["=", "<>", "<", "<=", ">", ">="]);
-        match self.below(if size == 0 { 3 } else { 12 }) {
+        match self.below(if size == 0 { 3 } else { 15 }) {
             0 => format!("{left} IS NULL"),
             1 => format!("{left} IS NOT NULL"),
             2 => format!("{left} {comparison} {}", self.value(letters)),
@@ -376,7 +564,30 @@ impl Dice {
             8 => format!("{left} {comparison} SOME {}", self.subquery(size - 1, letters, true)),
             9 => format!("{left} {comparison} ALL {}", self.subquery(size - 1, letters, true)),
             10 => format!("{left} IN {}", self.subquery(size - 1, letters, true)),
+            11..=13 => format!("({}) {}", self.condition(size - 1, letters), self.pick(&TRUTH_TESTS)),
             _ => format!("{left} NOT IN {}", self.subquery(size - 1, letters, true)),
+        }
+    }
+
+    /// A test with its number of parts and its sum, as its form gives them.
+    fn summed(&mut self, size: u64) -> (String, usize, usize) {
+        if size == 0 {
+            return match self.below(3) {
+                0 => ("m.2 IN (SELECT v.1 FROM 2 v WHERE v.1 = 1)".to_string(), 2, 4),
+                1 => ("EXISTS (FROM 2 v WHERE v.1 > m.2)".to_string(), 2, 2),
+                _ => ("m.2 > 0".to_string(), 1, 1),
+            };
+        }
+        let (inner, parts, sum) = self.summed(size - 1);
+        match self.below(6) {
+            0 => (format!("NOT {inner}"), parts + 1, sum),
+            1 => (format!("({inner}) {}", self.pick(&TRUTH_TESTS[..4])), parts + 1, sum),
+            2 | 3 => (format!("({inner}) {}", self.pick(&TRUTH_TESTS[4..])), parts + 1, 1 + 2 * sum),
+            _ => {
+                let smaller = self.below(size);
+                let (other, more_parts, more) = self.summed(smaller);
+                (format!("({inner} {} {other})", self.pick(&["AND", "OR"])), parts + more_parts + 1, sum + more + 1)
+            }
         }
     }
 
@@ -387,6 +598,17 @@ impl Dice {
     }
 }
 
+/// The sum n: the entries of each part by itself, doubled for each part of kind 14 or 15 around it.
+fn sum_of(parts: &[Part]) -> usize {
+    let own = |kind: u8| match kind {
+        3 | 10..=13 => 0,
+        8 | 9 => 3,
+        _ => 1,
+    };
+    let doublings = |at: usize| parts[..at].iter().filter(|part| part.kind >= 14 && usize::from(part.end) > at).count();
+    (0..parts.len()).map(|at| own(parts[at].kind) << doublings(at)).sum()
+}
+
 #[test]
 fn the_card_says_yes_exactly_where_the_rule_is_true() {
     let mut dice = Dice(0x9E37_79B9_7F4A_7C15);
@@ -395,11 +617,20 @@ fn the_card_says_yes_exactly_where_the_rule_is_true() {
         let tables = [dice.table(), dice.table(), dice.table()];
         let text = dice.condition(8, &["m"]);
         let file = tables_file(&tables);
-        let Ok(parts) = parts_of(&text, &file) else { continue };
+        let parts = match parts_of(&text, &file) {
+            Ok(parts) => parts,
+            Err(number) => {
+                assert!(matches!(number, 7 | 13), "{number}: {text}");
+                continue;
+            }
+        };
         accepted += 1;
         let bytes = card_of(&text, &file).unwrap();
         let of_kind = |kinds: &[u8]| parts.iter().filter(|part| kinds.contains(&part.kind)).count();
-        assert_eq!(bytes.len(), 6 + 15 * (parts.len() - of_kind(&[3]) + 2 * of_kind(&[8, 9])), "{text}");
+        if of_kind(&[10, 11, 12, 13, 14, 15]) == 0 {
+            assert_eq!(sum_of(&parts), parts.len() - of_kind(&[3]) + 2 * of_kind(&[8, 9]), "{text}");
+        }
+        assert_eq!(bytes.len(), 6 + 15 * sum_of(&parts), "{text}");
         assert_eq!(check(&bytes), Ok(()), "{text}");
         // later tables: the same columns, other rows
         let later = [dice.table(), dice.table(), dice.table()];
@@ -416,9 +647,31 @@ fn the_card_says_yes_exactly_where_the_rule_is_true() {
 }
 
 #[test]
+fn the_sum_of_any_form_decides() {
+    let mut dice = Dice(0xD1B5_4A32_D192_ED03);
+    let tables = paper_tables();
+    let (mut within, mut over) = (0, 0);
+    for _ in 0..4_000 {
+        let (text, parts, sum) = dice.summed(10);
+        let expected = match (parts, sum) {
+            (65.., _) => Err(7),
+            (_, 193..) => Err(13),
+            _ => Ok(6 + 15 * sum),
+        };
+        within += u32::from(expected.is_ok_and(|length| length > 1_500));
+        over += u32::from(expected == Err(13));
+        assert_eq!(card_of(&text, &tables).map(|bytes| bytes.len()), expected, "{text}");
+        assert_eq!(parts_of(&text, &tables).map(|list| list.len()), expected.map(|_| parts), "{text}");
+        assert_eq!(judge(text.as_bytes(), &tables, 3), Err(expected.err().unwrap_or(11)), "{text}");
+    }
+    assert!(within > 200 && over > 200, "{within} long cards, {over} sums over 192");
+}
+
+#[test]
 fn any_bytes_give_an_answer() {
     let mut dice = Dice(0x2545_F491_4F6C_DD1D);
     let words = ["(", ")", "NOT ", "m", ".", "1", "=", "IN", " AND ", " OR ", "SELECT ", " FROM ", "EXISTS", " WHERE ", "v", "\t", " "];
+    let words = [&words[..], &[" IS ", "TRUE", "FALSE ", "UNKNOWN", "(1 = 1) IS "]].concat();
     for _ in 0..20_000 {
         let text: String = (0..dice.below(30)).map(|_| dice.pick(&words)).collect();
         refused(text.as_bytes());

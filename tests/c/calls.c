@@ -1,4 +1,5 @@
-/* The six calls from C: document 01's cases and worked card, the examples of its refusals, and buffers around and below what is needed. */
+/* The six calls from C: document 01's cases and worked card, the examples of its refusals, document 02's truth tests and their card, and buffers around and
+ * below what is needed. */
 #include "expect.h"
 #include <stdlib.h>
 
@@ -18,8 +19,38 @@ static const struct { const char *text, *values; } cases[] = {
     {"m.2 = SOME " ALL3, "FFF"},
     {"EXISTS (FROM 2 v WHERE v.1 > 1)", "FFF"},
     {"NOT EXISTS (FROM 2 v WHERE v.1 > 1)", "TTT"},
-    {"m.1 = SOME (SELECT m.1 FROM 2 m WHERE m.1 = 1)", "TFF"}};
+    {"m.1 = SOME (SELECT m.1 FROM 2 m WHERE m.1 = 1)", "TFF"},
+    /* truth tests behind NOT, around others, and in a WHERE; all rows of table 1 are retained where a condition that is never unknown IS NOT UNKNOWN */
+    {"NOT (m.2 > 0) IS FALSE", "TTF"},
+    {"(NOT m.2 > 0) IS FALSE", "TFF"},
+    {"((m.2 > 0) IS UNKNOWN) IS UNKNOWN", "FFF"},
+    {"((1 = 1) IS TRUE) IS TRUE", "TTT"},
+    {"(m.2 > 0) IS UNKNOWN OR m.2 > 0", "TTF"},
+    {"(m.2 > 0) IS UNKNOWN AND m.2 > 0", "FUF"},
+    {"(m.1 NOT IN " ALL2 ") IS UNKNOWN", "FTT"},
+    {"m.1 = ALL (SELECT v.1 FROM 2 v WHERE (v.1 = 1) IS UNKNOWN)", "UUU"},
+    {"m.2 <= ALL (SELECT k.2 FROM 1 k WHERE (m.2 IS NULL) IS NOT UNKNOWN)", "FUU"},
+    {"NOT m.2 <= ALL (SELECT k.2 FROM 1 k WHERE (m.2 IS NULL) IS NOT UNKNOWN)", "TUU"},
+    {"NOT m.2 <= ALL (SELECT k.2 FROM 1 k WHERE NOT (m.2 IS NULL) IS NOT UNKNOWN)", "FFF"},
+    {"(m.2 <= ALL (SELECT k.2 FROM 1 k WHERE (m.2 IS NULL) IS NOT UNKNOWN)) IS NOT FALSE", "FTT"}};
 enum { CASES = sizeof cases / sizeof cases[0], ROWS = 3 };
+
+/* the truth tests, in the order of their kinds from 10 on, with their values on true, unknown and false: m.2 > 0 is these on rows 0, 1, 2 */
+static const struct { const char *ending, *values, *negated; } truth_tests[] = {
+    {"IS TRUE", "TFF", "FTT"},
+    {"IS NOT TRUE", "FTT", "TFF"},
+    {"IS FALSE", "FFT", "TTF"},
+    {"IS NOT FALSE", "TTF", "FFT"},
+    {"IS UNKNOWN", "FTF", "TFT"},
+    {"IS NOT UNKNOWN", "TFT", "FTF"}};
+enum { TRUTH_TESTS = sizeof truth_tests / sizeof truth_tests[0] };
+
+/* for worked_tables, the card of (m.3 > 0) IS UNKNOWN: and, then <= and >, where unknown counts as yes */
+static const uint8_t unknown_card[] = {
+    3, 0, 1, 3, 1, 6, 6,
+    3, 0, 0, 0, 0, 0, 0, 0, 0, 0, 0, 0, 0, 0,
+    2, 0, 0, 4, 0, 3, 0, 0, 0, 0xFF, 0, 0, 0, 0,
+    3, 0, 0, 5, 0, 3, 0, 0, 0, 0xFF, 0, 0, 0, 0};
 
 static const uint8_t *bytes_of(const char *text) { return (const uint8_t *)text; }
 
@@ -43,22 +74,37 @@ static void one_case(const char *text, const char *values) {
     EXPECT(place == count);
 }
 
+/* each truth test on each value, alone and under NOT; its part, of the kind that is its own, stands before the comparison in it */
+static void each_truth_test(void) {
+    size_t number;
+    for (number = 0; number < TRUTH_TESTS; number++) {
+        char text[64] = "NOT (m.2 > 0) ";
+        struct roskudla_part parts[3];
+        size_t count = 0;
+        strcat(text, truth_tests[number].ending);
+        one_case(text, truth_tests[number].negated);
+        one_case(text + strlen("NOT "), truth_tests[number].values);
+        EXPECT(roskudla_read(bytes_of(text), strlen(text), case_tables, sizeof case_tables, parts, 3, &count) == ROSKUDLA_OK && count == 3);
+        EXPECT(parts[0].kind == 3 && parts[1].kind == 10 + number && parts[2].kind == 4);
+        EXPECT(parts[0].end == 3 && parts[1].end == 3 && parts[2].end == 3);
+    }
+}
+
 /* CARD into a buffer of each length up to one more than is needed, in the middle of a larger one */
-static void card_rooms(void) {
-    static const char text[] = "NOT m.2 < 5";
-    uint8_t buffer[sizeof worked_card + 3];
+static void card_rooms(const char *text, const uint8_t *wanted, size_t wanted_len) {
+    uint8_t buffer[sizeof unknown_card + 3];
     size_t room, length;
-    for (room = 0; room <= sizeof worked_card + 1; room++) {
+    for (room = 0; room <= wanted_len + 1; room++) {
         uint32_t status;
         memset(buffer, UNTOUCHED, sizeof buffer);
         length = 77;
         status = roskudla_card(bytes_of(text), strlen(text), worked_tables, sizeof worked_tables, buffer + 1, room, &length);
         EXPECT(buffer[0] == UNTOUCHED);
-        if (room < sizeof worked_card) {
+        if (room < wanted_len) {
             EXPECT(status == ROSKUDLA_ROOM && length == 77 && untouched(buffer, sizeof buffer));
         } else {
-            EXPECT(status == ROSKUDLA_OK && length == sizeof worked_card && memcmp(buffer + 1, worked_card, length) == 0);
-            EXPECT(untouched(buffer + 1 + length, sizeof buffer - 1 - length));
+            EXPECT(status == ROSKUDLA_OK && length == wanted_len && memcmp(buffer + 1, wanted, wanted_len) == 0);
+            EXPECT(untouched(buffer + 1 + wanted_len, sizeof buffer - 1 - wanted_len));
         }
     }
     length = 77;
@@ -81,14 +127,30 @@ static void refused(uint32_t number, const void *text, size_t text_len, const vo
 
 static void refused_text(uint32_t number, const char *text) { refused(number, text, strlen(text), case_tables, sizeof case_tables); }
 
+/* an empty text, with room for one of so many bytes */
+static char *empty_text(size_t length) {
+    char *text = (char *)calloc(length + 1, 1);
+    if (text == NULL) abort();
+    return text;
+}
+
 /* so many times a word, with another between two of them */
 static char *repeated(const char *word, const char *between, size_t times) {
-    char *text = (char *)calloc(times * (strlen(word) + strlen(between)) + 1, 1);
-    if (text == NULL) abort();
+    char *text = empty_text(times * (strlen(word) + strlen(between)));
     while (times-- > 0) {
         strcat(text, word);
         if (times > 0) strcat(text, between);
     }
+    return text;
+}
+
+/* a condition within so many IS UNKNOWN around one another: each makes 1 plus twice the sum of entries in it */
+static char *within_unknowns(const char *condition, size_t times) {
+    char *opening = repeated("(", "", times), *closing = repeated(") IS UNKNOWN", "", times);
+    char *text = empty_text(strlen(opening) + strlen(condition) + strlen(closing));
+    strcat(strcat(strcat(text, opening), condition), closing);
+    free(opening);
+    free(closing);
     return text;
 }
 
@@ -107,6 +169,10 @@ static void refusal_examples(void) {
     refused_text(ROSKUDLA_GRAMMAR, "m.1 =");
     refused_text(ROSKUDLA_LIMITS, tests);
     refused_text(ROSKUDLA_NAMES, "k.1 = 1");
+    refused_text(ROSKUDLA_GRAMMAR, "(1 = 1) IS TRUE IS TRUE");
+    refused_text(ROSKUDLA_GRAMMAR, "1 = 1 IS TRUE");
+    refused_text(ROSKUDLA_GRAMMAR, "TRUE");
+    refused_text(ROSKUDLA_GRAMMAR, "EXISTS (FROM 2 v WHERE 1 = 1) IS TRUE");
     EXPECT(roskudla_judge(bytes_of("1 = 1"), 5, case_tables, sizeof case_tables, ROWS, &value) == ROSKUDLA_ROW && value == UNTOUCHED);
     EXPECT(roskudla_judge(bytes_of("1 = 1"), 5, case_tables, sizeof case_tables, (size_t)-1, &value) == ROSKUDLA_ROW && value == UNTOUCHED);
     free(spaces);
@@ -114,10 +180,36 @@ static void refusal_examples(void) {
     free(tests);
 }
 
-/* the longest card that a rule has: 13 triples of lists within one another, joined by OR, over eight tables; and the most parts */
-static void largest_answers(void) {
+/* what READ answers, JUDGE on a row that is absent, and CARD with no room */
+static void statuses(const char *text, uint32_t of_read, uint32_t of_judge, uint32_t of_card) {
+    struct roskudla_part parts[ROSKUDLA_MOST_PARTS];
+    uint8_t value = UNTOUCHED;
+    size_t count = 0, length = UNTOUCHED;
+    EXPECT(roskudla_read(bytes_of(text), strlen(text), case_tables, sizeof case_tables, parts, ROSKUDLA_MOST_PARTS, &count) == of_read);
+    EXPECT(roskudla_judge(bytes_of(text), strlen(text), case_tables, sizeof case_tables, 99, &value) == of_judge && value == UNTOUCHED);
+    EXPECT(roskudla_card(bytes_of(text), strlen(text), case_tables, sizeof case_tables, NULL, 0, &length) == of_card && length == UNTOUCHED);
+}
+
+/* 13 comes after 8, and before 11 and 12: seven IS UNKNOWN within one another make a sum of 255, six of them one of 127, which is none too high */
+static void too_many_entries(void) {
+    char *seven = within_unknowns("1 = 1", 7), *six = within_unknowns("1 = 1", 6), *unbound = within_unknowns("k.1 = 1", 7);
+    size_t count = UNTOUCHED;
+    refused_text(ROSKUDLA_ENTRIES, seven);
+    refused_text(ROSKUDLA_NAMES, unbound);
+    statuses(seven, ROSKUDLA_ENTRIES, ROSKUDLA_ENTRIES, ROSKUDLA_ENTRIES);
+    statuses(six, ROSKUDLA_OK, ROSKUDLA_ROW, ROSKUDLA_ROOM);
+    statuses(unbound, ROSKUDLA_NAMES, ROSKUDLA_NAMES, ROSKUDLA_NAMES);
+    EXPECT(roskudla_read(bytes_of(seven), strlen(seven), case_tables, sizeof case_tables, NULL, 0, &count) == ROSKUDLA_ENTRIES && count == UNTOUCHED);
+    free(seven);
+    free(six);
+    free(unbound);
+}
+
+static const uint8_t eight_tables[] = {8, 1, 0, 0, 1, 0, 0, 1, 0, 0, 1, 0, 0, 1, 0, 0, 1, 0, 0, 1, 0, 0, 1, 0, 0};
+
+/* the most parts: 13 triples of lists within one another, joined by OR; no card is longer where no IS UNKNOWN doubles anything */
+static void most_parts(void) {
     static const char triple[] = "1=SOME(SELECT 1 FROM 1 a WHERE 1=SOME(SELECT 1 FROM 1 b WHERE 1=SOME(SELECT 1 FROM 1 c WHERE 1=1)))";
-    static const uint8_t eight_tables[] = {8, 1, 0, 0, 1, 0, 0, 1, 0, 0, 1, 0, 0, 1, 0, 0, 1, 0, 0, 1, 0, 0, 1, 0, 0};
     char *text = repeated(triple, " OR ", 13);
     uint8_t card[ROSKUDLA_MOST_CARD_BYTES];
     struct roskudla_part parts[ROSKUDLA_MOST_PARTS];
@@ -129,11 +221,39 @@ static void largest_answers(void) {
     free(text);
 }
 
+/* the longest card of all, with 192 entries over eight tables: EXISTS has 1 more than its WHERE, so 2, then 191 within six IS UNKNOWN, then 192; and 193 */
+static void most_entries(void) {
+    char *inner = within_unknowns("EXISTS (FROM 1 v WHERE 1 = 1)", 6);
+    char *text = empty_text(strlen(inner) + 2 * strlen("EXISTS (FROM 1 v WHERE )"));
+    uint8_t card[ROSKUDLA_MOST_CARD_BYTES + 1];
+    size_t length = 0;
+    memset(card, UNTOUCHED, sizeof card);
+    strcat(strcat(strcat(text, "EXISTS (FROM 1 v WHERE "), inner), ")");
+    EXPECT(roskudla_card(bytes_of(text), strlen(text), eight_tables, sizeof eight_tables, card, ROSKUDLA_MOST_CARD_BYTES - 1, &length) == ROSKUDLA_ROOM);
+    EXPECT(length == 0 && untouched(card, sizeof card));
+    EXPECT(roskudla_card(bytes_of(text), strlen(text), eight_tables, sizeof eight_tables, card, ROSKUDLA_MOST_CARD_BYTES, &length) == ROSKUDLA_OK);
+    EXPECT(length == ROSKUDLA_MOST_CARD_BYTES && card[0] == 192 && card[1] == 0 && roskudla_check(card, length) == ROSKUDLA_OK);
+    EXPECT(untouched(card + length, sizeof card - length));
+    statuses(text, ROSKUDLA_OK, ROSKUDLA_ROW, ROSKUDLA_ROOM);
+    text[0] = 0;
+    strcat(strcat(strcat(text, "EXISTS (FROM 1 v WHERE EXISTS (FROM 1 v WHERE "), inner), "))");
+    statuses(text, ROSKUDLA_ENTRIES, ROSKUDLA_ENTRIES, ROSKUDLA_ENTRIES);
+    text[0] = 0;
+    strcat(strcat(text, inner), " AND 1 = 1");
+    statuses(text, ROSKUDLA_ENTRIES, ROSKUDLA_ENTRIES, ROSKUDLA_ENTRIES);
+    free(inner);
+    free(text);
+}
+
 int main(void) {
     size_t number;
     for (number = 0; number < CASES; number++) one_case(cases[number].text, cases[number].values);
-    card_rooms();
+    each_truth_test();
+    card_rooms("NOT m.2 < 5", worked_card, sizeof worked_card);
+    card_rooms("(m.3 > 0) IS UNKNOWN", unknown_card, sizeof unknown_card);
     refusal_examples();
-    largest_answers();
+    too_many_entries();
+    most_parts();
+    most_entries();
     return report("calls");
 }

@@ -2,7 +2,7 @@
  * no two fields are equal in all parts, and no two bytes of the large numbers are. */
 #include "expect.h"
 
-enum { MOST = 5 };
+enum { MOST = 6 };
 
 /* READ into a list of MOST parts, in the middle of a larger one; what lies around what was written has to be as it was */
 static size_t read_parts(const char *text, struct roskudla_part *parts) {
@@ -59,6 +59,18 @@ static void left_numbers(void) {
     EXPECT(is_part(parts[4], 6, 0, 0, 5) && is_value(parts[4].left, 0, 1) && is_value(parts[4].right, 0, 0));
 }
 
+static int no_values(struct roskudla_part part) { return is_value(part.left, 0, 0) && is_value(part.right, 0, 0); }
+
+/* a truth test has kind and end alone, and stands before what is in it */
+static void truth_tests(void) {
+    struct roskudla_part parts[MOST];
+    size_t count = read_parts("NOT (1 = 1) IS FALSE OR (m.1 IS NULL) IS NOT UNKNOWN", parts);
+    EXPECT(count == 6);
+    EXPECT(is_part(parts[0], 2, 0, 0, 6) && is_part(parts[1], 3, 0, 0, 4) && is_part(parts[2], 12, 0, 0, 4) && is_part(parts[3], 4, 1, 0, 4));
+    EXPECT(is_part(parts[4], 15, 0, 0, 6) && no_values(parts[4]) && is_part(parts[5], 5, 0, 0, 6) && is_value(parts[5].left, 0, 1));
+    EXPECT(no_values(parts[0]) && no_values(parts[1]) && no_values(parts[2]));
+}
+
 /* room for every number of parts up to what is needed: too little leaves every byte, the bytes between fields too */
 static void rooms(void) {
     static const char text[] = "m.1 = 1 AND NOT m.2 = 2";
@@ -89,6 +101,7 @@ int main(void) {
     widths_and_signs();
     three_parts();
     left_numbers();
+    truth_tests();
     rooms();
     no_room();
     return report("layout");

@@ -95,6 +95,17 @@ int main(void) {
     rule_within("three lists around 29 ANDs");
     times("1=SOME(SELECT 1 FROM 1 a WHERE ", 3), times("NOT ", 30), times("(", 29), times("NOT ", 30), times("1=1", 1), times(")", 32);
     rule_within("three lists, 60 NOTs and 29 brackets");
+    times("NOT (", 31), times("(1=1", 1), times(") IS TRUE", 32);
+    rule_within("32 brackets, each before IS TRUE, and 31 NOTs");
+    times("NOT (", 31), times("(1=1", 1), times(") IS UNKNOWN", 6), times(") IS TRUE", 26);
+    rule_within("32 brackets before truth tests, the inner 6 of them IS UNKNOWN, and 31 NOTs");
+    times("(", 32), times("NOT ", 31), times("1=1", 1), times(") IS TRUE", 26), times(") IS NOT UNKNOWN", 6);
+    rule_within("32 brackets before truth tests, the outer 6 of them IS NOT UNKNOWN, and 31 NOTs");
+    times("1=SOME(SELECT 1 FROM 1 a WHERE ", 3), times("NOT (", 29), times("NOT NOT 1=1", 1);
+    times(") IS UNKNOWN", 6), times(") IS NOT FALSE", 23), times(")", 3);
+    rule_within("three lists, 29 brackets before truth tests, 6 of them IS UNKNOWN, and 31 NOTs");
+    times("(1=2 OR ", 20), times("1=1", 1), times(") IS TRUE", 20);
+    rule_within("20 ORs, each in the one before and before IS TRUE");
     deepest_card();
     of_check = touched(check_card), of_run = touched(run_card), of_list = touched(list_card);
     printf("stack: the deepest card: CHECK %zu, RUN %zu, LIST %zu bytes; a thread that calls nothing: %zu\n", of_check, of_run, of_list, of_nothing);

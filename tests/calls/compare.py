@@ -17,7 +17,7 @@ class Disagreement(Exception):
 
 
 class Stated(typing.NamedTuple):
-    """A case, and the sort of answer that document 01 gives it, whatever the model says."""
+    """A case, and the sort of answer that the papers give it, whatever the model says."""
     case: cases.Case
     sort: str
 
@@ -74,7 +74,7 @@ class Comparison:
         same(case, self.answer(case), wanted)
         sort = cases.outcome_of(case, wanted)
         if stated is not None:
-            same((case, "by document 01"), sort, stated)
+            same((case, "by the papers"), sort, stated)
         return case.call, sort
 
     def groups(self, groups):

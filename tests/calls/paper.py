@@ -1,4 +1,5 @@
-"""Texts with what document 01 answers to them, worked out by hand from the paper: its own examples, and their nearest neighbours on the other side.
+"""Texts with what document 01 answers to them, and Point 1 of document 02 to those with truth tests, worked out by hand from the papers: their own examples,
+and the nearest neighbours on the other side.
 
 An example is a text, a tables file and an answer: the number of the refusal, or the numbers of the parts as they stand in the list, with a stroke between
 two parts. The numbers of a part are kind, comparison, table, end, tag and number of the left value, tag and number of the right value. Cards are written in
@@ -47,6 +48,21 @@ def under_froms(letters):
     return text.encode()
 
 
+def within_unknowns(count, text=TEST):
+    """A condition within so many IS UNKNOWN around one another. Each makes 1 plus twice the sum in it: 3, 7, 15, 31, 63, 127, 255 around one test."""
+    return b"(" * count + text + b") IS UNKNOWN" * count
+
+
+def within_exists(text):
+    """EXISTS, which adds 1 to the sum of its WHERE."""
+    return b"EXISTS (FROM 1 v WHERE " + text + b")"
+
+
+# a sum of 191: EXISTS around a test has 2, and then 5, 11, 23, 47, 95, 191
+SUM_191 = within_unknowns(6, within_exists(TEST))
+SUM_192 = within_exists(SUM_191)
+PARTS_OF_192 = "7 0 1 9 0 0 0 0 / " + "14 0 0 9 0 0 0 0 / " * 6 + "7 0 1 9 0 0 0 0 / 4 1 0 9 255 1 255 1"
+
 REFUSALS = (
     # 1
     (TEST, bytes.fromhex("00"), 1),
@@ -79,6 +95,22 @@ REFUSALS = (
     (b"m.1 =", ONE_COLUMN, 6),
     (b"m.1 = 1", ONE_COLUMN, "4 1 0 1 0 1 255 1"),
     (b"m.1 = 1)", ONE_COLUMN, 6),
+    (b"(1 = 1) IS TRUE IS TRUE", ONE_COLUMN, 6),
+    (b"((1 = 1) IS TRUE) IS TRUE", ONE_COLUMN, "10 0 0 3 0 0 0 0 / 10 0 0 3 0 0 0 0 / 4 1 0 3 255 1 255 1"),
+    (b"1 = 1 IS TRUE", ONE_COLUMN, 6),
+    (b"(1 = 1) IS TRUE", ONE_COLUMN, "10 0 0 2 0 0 0 0 / 4 1 0 2 255 1 255 1"),
+    (b"TRUE", ONE_COLUMN, 6),
+    (b"(TRUE) IS TRUE", ONE_COLUMN, 6),
+    (within_exists(TEST) + b" IS TRUE", ONE_COLUMN, 6),
+    (b"(" + within_exists(TEST) + b") IS TRUE", ONE_COLUMN, "10 0 0 3 0 0 0 0 / 7 0 1 3 0 0 0 0 / 4 1 0 3 255 1 255 1"),
+    (b"m.1 IS NULL IS FALSE", ONE_COLUMN, 6),
+    (b"(m.1 IS NULL) IS FALSE", ONE_COLUMN, "12 0 0 2 0 0 0 0 / 5 0 0 2 0 1 0 0"),
+    (b"m.1 IS UNKNOWN", ONE_COLUMN, 6),
+    (b"(m.1) IS UNKNOWN", ONE_COLUMN, 6),
+    (b"(1 = 1) IS NULL", ONE_COLUMN, 6),
+    (b"(1 = 1) IS NOT NOT TRUE", ONE_COLUMN, 6),
+    (b"(1 = 1) NOT IS TRUE", ONE_COLUMN, 6),
+    (b"(1 = 1) IS", ONE_COLUMN, 6),
     # 7
     (joined_by_or(33), ONE_COLUMN, 7),
     (joined_by_or(32), ONE_COLUMN, parts_of_32_joined(0)),
@@ -86,6 +118,8 @@ REFUSALS = (
     (b"NOT NOT " + joined_by_or(32), ONE_COLUMN, 7),
     (b"NOT " * 63 + TEST, ONE_COLUMN, "3 0 0 64 0 0 0 0 / " * 63 + "4 1 0 64 255 1 255 1"),
     (b"NOT " * 64 + TEST, ONE_COLUMN, 7),
+    (b"NOT " * 62 + b"(1 = 1) IS TRUE", ONE_COLUMN, "3 0 0 64 0 0 0 0 / " * 62 + "10 0 0 64 0 0 0 0 / 4 1 0 64 255 1 255 1"),
+    (b"NOT " * 63 + b"(1 = 1) IS TRUE", ONE_COLUMN, 7),
     (under_froms("abc"), ONE_COLUMN, "7 0 1 4 0 0 0 0 / " * 3 + "4 1 0 4 0 1 3 1"),
     (under_froms("abcd"), ONE_COLUMN, 7),
     # 8
@@ -96,11 +130,21 @@ REFUSALS = (
     (b"m.2 = 1", ONE_COLUMN, 8),
     (b"EXISTS (FROM 2 v WHERE 1 = 1)", ONE_COLUMN, 8),
     (b"EXISTS (FROM 0 v WHERE 1 = 1)", ONE_COLUMN, 8),
+    (within_unknowns(7, b"k.1 = 1"), ONE_COLUMN, 8),
+    # 13
+    (within_unknowns(7), ONE_COLUMN, 13),
+    (within_unknowns(6), ONE_COLUMN, "14 0 0 7 0 0 0 0 / " * 6 + "4 1 0 7 255 1 255 1"),
+    (SUM_192, ONE_COLUMN, PARTS_OF_192),
+    (within_exists(SUM_192), ONE_COLUMN, 13),
+    (SUM_191 + b" AND 1 = 1", ONE_COLUMN, 13),
+    (b"1 NOT IN (SELECT 1 FROM 1 v WHERE " + SUM_191 + b")", ONE_COLUMN, 13),
+    (within_unknowns(32), ONE_COLUMN, 13),
+    (b"(" * 32 + TEST + b") IS NOT FALSE" * 32, ONE_COLUMN, "13 0 0 33 0 0 0 0 / " * 32 + "4 1 0 33 255 1 255 1"),
 )
 
 
-class ProvedCase(typing.NamedTuple):
-    """A proved case: a rule, its values on rows 0, 1 and 2, its parts, and the entries of its card."""
+class WorkedCase(typing.NamedTuple):
+    """A rule over the tables of the proved cases: its values on rows 0, 1 and 2, its parts, and the entries of its card."""
     text: bytes
     values: str
     parts: str
@@ -110,31 +154,60 @@ class ProvedCase(typing.NamedTuple):
 ALL2 = b"(SELECT v.1 FROM 2 v WHERE 1 = 1)"
 ALL3 = b"(SELECT v.1 FROM 3 v WHERE 1 = 1)"
 CASES = (
-    ProvedCase(b"m.2 > 0", "TUF", "4 5 0 1 0 2 255 0", "5 1 0 5 0 2 255 0"),
-    ProvedCase(b"NOT m.2 > 0", "FUT", "3 0 0 2 0 0 0 0 / 4 5 0 2 0 2 255 0", "5 1 0 4 0 2 255 0"),
-    ProvedCase(b"m.2 > 0 OR NOT m.2 > 0", "TUT", "2 0 0 4 0 0 0 0 / 4 5 0 2 0 2 255 0 / 3 0 0 4 0 0 0 0 / 4 5 0 4 0 2 255 0",
+    WorkedCase(b"m.2 > 0", "TUF", "4 5 0 1 0 2 255 0", "5 1 0 5 0 2 255 0"),
+    WorkedCase(b"NOT m.2 > 0", "FUT", "3 0 0 2 0 0 0 0 / 4 5 0 2 0 2 255 0", "5 1 0 4 0 2 255 0"),
+    WorkedCase(b"m.2 > 0 OR NOT m.2 > 0", "TUT", "2 0 0 4 0 0 0 0 / 4 5 0 2 0 2 255 0 / 3 0 0 4 0 0 0 0 / 4 5 0 4 0 2 255 0",
                "2 3 0 0 0 0 0 0 / 5 2 0 5 0 2 255 0 / 5 3 0 4 0 2 255 0"),
-    ProvedCase(b"m.2 IS NULL", "FTF", "5 0 0 1 0 2 0 0", "7 1 0 0 0 2 0 0"),
-    ProvedCase(b"m.1 IN " + ALL2, "TUU", "8 1 2 2 0 1 1 1 / 4 1 0 2 255 1 255 1",
+    WorkedCase(b"m.2 IS NULL", "FTF", "5 0 0 1 0 2 0 0", "7 1 0 0 0 2 0 0"),
+    WorkedCase(b"m.1 IN " + ALL2, "TUU", "8 1 2 2 0 1 1 1 / 4 1 0 2 255 1 255 1",
                "3 4 2 0 0 0 0 0 / 1 4 0 0 0 0 0 0 / 5 3 0 1 255 1 255 1 / 5 4 0 1 0 1 1 1"),
-    ProvedCase(b"m.1 NOT IN " + ALL2, "FUU", "9 2 2 2 0 1 1 1 / 4 1 0 2 255 1 255 1",
+    WorkedCase(b"m.1 NOT IN " + ALL2, "FUU", "9 2 2 2 0 1 1 1 / 4 1 0 2 255 1 255 1",
                "4 4 2 0 0 0 0 0 / 2 4 0 0 0 0 0 0 / 6 3 0 2 255 1 255 1 / 5 4 0 2 0 1 1 1"),
-    ProvedCase(b"m.1 <> ALL (SELECT v.1 FROM 2 v WHERE v.1 = 1)", "FTT", "9 2 2 2 0 1 1 1 / 4 1 0 2 1 1 255 1",
+    WorkedCase(b"m.1 <> ALL (SELECT v.1 FROM 2 v WHERE v.1 = 1)", "FTT", "9 2 2 2 0 1 1 1 / 4 1 0 2 1 1 255 1",
                "4 4 2 0 0 0 0 0 / 2 4 0 0 0 0 0 0 / 6 3 0 2 1 1 255 1 / 5 4 0 2 0 1 1 1"),
-    ProvedCase(b"m.2 = ALL " + ALL3, "TTT", "9 1 3 2 0 2 1 1 / 4 1 0 2 255 1 255 1",
+    WorkedCase(b"m.2 = ALL " + ALL3, "TTT", "9 1 3 2 0 2 1 1 / 4 1 0 2 255 1 255 1",
                "4 4 3 0 0 0 0 0 / 2 4 0 0 0 0 0 0 / 6 3 0 2 255 1 255 1 / 5 4 0 1 0 2 1 1"),
-    ProvedCase(b"m.2 = SOME " + ALL3, "FFF", "8 1 3 2 0 2 1 1 / 4 1 0 2 255 1 255 1",
+    WorkedCase(b"m.2 = SOME " + ALL3, "FFF", "8 1 3 2 0 2 1 1 / 4 1 0 2 255 1 255 1",
                "3 4 3 0 0 0 0 0 / 1 4 0 0 0 0 0 0 / 5 3 0 1 255 1 255 1 / 5 4 0 1 0 2 1 1"),
-    ProvedCase(b"EXISTS (FROM 2 v WHERE v.1 > 1)", "FFF", "7 0 2 2 0 0 0 0 / 4 5 0 2 1 1 255 1", "3 2 2 0 0 0 0 0 / 5 2 0 5 1 1 255 1"),
-    ProvedCase(b"NOT EXISTS (FROM 2 v WHERE v.1 > 1)", "TTT", "3 0 0 3 0 0 0 0 / 7 0 2 3 0 0 0 0 / 4 5 0 3 1 1 255 1",
+    WorkedCase(b"EXISTS (FROM 2 v WHERE v.1 > 1)", "FFF", "7 0 2 2 0 0 0 0 / 4 5 0 2 1 1 255 1", "3 2 2 0 0 0 0 0 / 5 2 0 5 1 1 255 1"),
+    WorkedCase(b"NOT EXISTS (FROM 2 v WHERE v.1 > 1)", "TTT", "3 0 0 3 0 0 0 0 / 7 0 2 3 0 0 0 0 / 4 5 0 3 1 1 255 1",
                "4 2 2 0 0 0 0 0 / 6 2 0 4 1 1 255 1"),
-    ProvedCase(b"m.1 = SOME (SELECT m.1 FROM 2 m WHERE m.1 = 1)", "TFF", "8 1 2 2 0 1 1 1 / 4 1 0 2 1 1 255 1",
+    WorkedCase(b"m.1 = SOME (SELECT m.1 FROM 2 m WHERE m.1 = 1)", "TFF", "8 1 2 2 0 1 1 1 / 4 1 0 2 1 1 255 1",
                "3 4 2 0 0 0 0 0 / 1 4 0 0 0 0 0 0 / 5 3 0 1 1 1 255 1 / 5 4 0 1 0 1 1 1"),
 )
 
-# the proved cases 1 to 12, the rule of the card that the paper works out, and forms that are not among them
+# truth tests: each of them on true, unknown and false; with NOT before it and in it; around one another, around a list and in one
+UNDER_ALL = b"m.2 <= ALL (SELECT k.2 FROM 1 k WHERE (m.2 IS NULL) IS NOT UNKNOWN)"
+TRUTH_CASES = (
+    WorkedCase(b"(m.2 > 0) IS TRUE", "TFF", "10 0 0 2 0 0 0 0 / 4 5 0 2 0 2 255 0", "5 1 0 5 0 2 255 0"),
+    WorkedCase(b"(m.2 > 0) IS NOT TRUE", "FTT", "11 0 0 2 0 0 0 0 / 4 5 0 2 0 2 255 0", "6 1 0 4 0 2 255 0"),
+    WorkedCase(b"(m.2 > 0) IS FALSE", "FFT", "12 0 0 2 0 0 0 0 / 4 5 0 2 0 2 255 0", "5 1 0 4 0 2 255 0"),
+    WorkedCase(b"(m.2 > 0) IS NOT FALSE", "TTF", "13 0 0 2 0 0 0 0 / 4 5 0 2 0 2 255 0", "6 1 0 5 0 2 255 0"),
+    WorkedCase(b"(m.2 > 0) IS UNKNOWN", "FTF", "14 0 0 2 0 0 0 0 / 4 5 0 2 0 2 255 0",
+               "1 3 0 0 0 0 0 0 / 6 2 0 4 0 2 255 0 / 6 3 0 5 0 2 255 0"),
+    WorkedCase(b"(m.2 > 0) IS NOT UNKNOWN", "TFT", "15 0 0 2 0 0 0 0 / 4 5 0 2 0 2 255 0",
+               "2 3 0 0 0 0 0 0 / 5 2 0 5 0 2 255 0 / 5 3 0 4 0 2 255 0"),
+    WorkedCase(b"NOT (m.2 > 0) IS FALSE", "TTF", "3 0 0 3 0 0 0 0 / 12 0 0 3 0 0 0 0 / 4 5 0 3 0 2 255 0", "6 1 0 5 0 2 255 0"),
+    WorkedCase(b"(NOT m.2 > 0) IS FALSE", "TFF", "12 0 0 3 0 0 0 0 / 3 0 0 3 0 0 0 0 / 4 5 0 3 0 2 255 0", "5 1 0 5 0 2 255 0"),
+    WorkedCase(b"NOT (m.2 > 0) IS UNKNOWN", "TFT", "3 0 0 3 0 0 0 0 / 14 0 0 3 0 0 0 0 / 4 5 0 3 0 2 255 0",
+               "2 3 0 0 0 0 0 0 / 5 2 0 5 0 2 255 0 / 5 3 0 4 0 2 255 0"),
+    WorkedCase(b"((m.2 > 0) IS UNKNOWN) IS UNKNOWN", "FFF", "14 0 0 3 0 0 0 0 / 14 0 0 3 0 0 0 0 / 4 5 0 3 0 2 255 0",
+               "1 7 0 0 0 0 0 0 / 2 4 0 0 0 0 0 0 / 5 3 0 5 0 2 255 0 / 5 4 0 4 0 2 255 0 /"
+               " 1 7 0 0 0 0 0 0 / 6 6 0 4 0 2 255 0 / 6 7 0 5 0 2 255 0"),
+    WorkedCase(b"(m.1 NOT IN " + ALL2 + b") IS UNKNOWN", "FTT", "14 0 0 3 0 0 0 0 / 9 2 2 3 0 1 1 1 / 4 1 0 3 255 1 255 1",
+               "1 9 0 0 0 0 0 0 / 3 5 2 0 0 0 0 0 / 1 5 0 0 0 0 0 0 / 5 4 0 1 255 1 255 1 / 6 5 0 1 0 1 1 1 /"
+               " 4 9 2 0 0 0 0 0 / 2 9 0 0 0 0 0 0 / 6 8 0 2 255 1 255 1 / 6 9 0 2 0 1 1 1"),
+    WorkedCase(UNDER_ALL, "FUU", "9 4 1 3 0 2 1 2 / 15 0 0 3 0 0 0 0 / 5 0 0 3 0 2 0 0",
+               "4 6 1 0 0 0 0 0 / 2 6 0 0 0 0 0 0 / 1 5 0 0 0 0 0 0 / 8 4 0 0 0 2 0 0 / 7 5 0 0 0 2 0 0 / 5 6 0 4 0 2 1 2"),
+    WorkedCase(b"NOT " + UNDER_ALL, "TUU", "3 0 0 4 0 0 0 0 / 9 4 1 4 0 2 1 2 / 15 0 0 4 0 0 0 0 / 5 0 0 4 0 2 0 0",
+               "3 6 1 0 0 0 0 0 / 1 6 0 0 0 0 0 0 / 2 5 0 0 0 0 0 0 / 7 4 0 0 0 2 0 0 / 8 5 0 0 0 2 0 0 / 5 6 0 5 0 2 1 2"),
+    WorkedCase(b"(" + UNDER_ALL + b") IS NOT FALSE", "FTT", "13 0 0 4 0 0 0 0 / 9 4 1 4 0 2 1 2 / 15 0 0 4 0 0 0 0 / 5 0 0 4 0 2 0 0",
+               "4 6 1 0 0 0 0 0 / 2 6 0 0 0 0 0 0 / 1 5 0 0 0 0 0 0 / 8 4 0 0 0 2 0 0 / 7 5 0 0 0 2 0 0 / 6 6 0 4 0 2 1 2"),
+)
+
+# the proved cases 1 to 12, the truth tests, the rule of the card that the paper works out, and forms that are not among them
 THREE_LEVELS = b"EXISTS (FROM 1 a WHERE a.1 < SOME (SELECT b.1 FROM 2 b WHERE EXISTS (FROM 3 c WHERE c.1 = m.2 AND a.2 > b.1)))"
-RULES = tuple((case.text, CASE_COLUMNS, case.parts) for case in CASES) + (
+RULES = tuple((case.text, CASE_COLUMNS, case.parts) for case in CASES + TRUTH_CASES) + (
     (b"NOT m.2 < 5", THREE_COLUMNS, "3 0 0 2 0 0 0 0 / 4 3 0 2 0 2 255 5"),
     (b"1 = 1 OR 2 = 2 OR 3 = 3", ONE_COLUMN,
      "2 0 0 5 0 0 0 0 / 2 0 0 4 0 0 0 0 / 4 1 0 3 255 1 255 1 / 4 1 0 4 255 2 255 2 / 4 1 0 5 255 3 255 3"),
@@ -145,6 +218,11 @@ RULES = tuple((case.text, CASE_COLUMNS, case.parts) for case in CASES) + (
      " 1 0 0 9 0 0 0 0 / 4 6 0 6 255 3 0 1 / 2 0 0 9 0 0 0 0 / 4 3 0 8 0 1 255 1 / 4 2 0 9 0 2 0 1"),
     (THREE_LEVELS, CASE_COLUMNS,
      "7 0 1 6 0 0 0 0 / 8 3 2 6 1 1 2 1 / 7 0 3 6 0 0 0 0 / 1 0 0 6 0 0 0 0 / 4 1 0 5 3 1 0 2 / 4 5 0 6 1 2 2 1"),
+    (b"NOT (1 = 1) IS FALSE", ONE_COLUMN, "3 0 0 3 0 0 0 0 / 12 0 0 3 0 0 0 0 / 4 1 0 3 255 1 255 1"),
+    (b"(1 = 1 OR 2 = 2) IS UNKNOWN AND 3 = 3", ONE_COLUMN,
+     "1 0 0 6 0 0 0 0 / 14 0 0 5 0 0 0 0 / 2 0 0 5 0 0 0 0 / 4 1 0 4 255 1 255 1 / 4 1 0 5 255 2 255 2 / 4 1 0 6 255 3 255 3"),
+    (b"1 = 1 AND (2 = 2) IS TRUE OR 3 = 3", ONE_COLUMN,
+     "2 0 0 6 0 0 0 0 / 1 0 0 5 0 0 0 0 / 4 1 0 3 255 1 255 1 / 10 0 0 5 0 0 0 0 / 4 1 0 5 255 2 255 2 / 4 1 0 6 255 3 255 3"),
 )
 EXAMPLES = REFUSALS + RULES
 
@@ -158,9 +236,15 @@ def numbers(parts):
 
 WORKED_TEXT = b"NOT m.2 < 5"
 WORKED_CARD = bytes.fromhex("01 00 01 03 05 01 00 00 06 00 02 00 00 00 FF 05 00 00 00")
+UNKNOWN_TEXT = b"(m.3 > 0) IS UNKNOWN"
+UNKNOWN_CARD = bytes.fromhex(
+    "03 00 01 03 01 06 06"
+    " 03 00 00 00 00 00 00 00 00 00 00 00 00 00"
+    " 02 00 00 04 00 03 00 00 00 FF 00 00 00 00"
+    " 03 00 00 05 00 03 00 00 00 FF 00 00 00 00")
 
 # rules over the columns of the proved cases, and the entries of their cards: NOT over each connective, over lists and inside them, and numbers at their ends
-CARDS = tuple((case.text, case.entries) for case in CASES) + (
+CARDS = tuple((case.text, case.entries) for case in CASES + TRUTH_CASES) + (
     (b"NOT NOT m.1 = 1", "5 1 0 1 0 1 255 1"),
     (b"NOT (m.1 IS NULL AND NOT m.2 >= 3)", "2 3 0 0 0 0 0 0 / 8 2 0 0 0 1 0 0 / 5 3 0 6 0 2 255 3"),
     (b"NOT (m.1 IS NOT NULL OR m.2 <= m.1)", "1 3 0 0 0 0 0 0 / 7 2 0 0 0 1 0 0 / 5 3 0 5 0 2 0 1"),

@@ -1,4 +1,5 @@
-"""Every kind of test in every kind of place, over tables in which each cell is blank, 0 or 1: small rules, and every small file for them."""
+"""Every kind of test in every kind of place, over tables in which each cell is blank, 0 or 1: small rules, and every small file for them. Truth tests are
+tests there, and places too."""
 import itertools
 
 import library  # noqa: F401  (it adds the model's folder to the path)
@@ -52,9 +53,40 @@ def rules():
             yield outer + source.format(inner + within)
 
 
+ENDINGS = ("IS TRUE", "IS NOT TRUE", "IS FALSE", "IS NOT FALSE", "IS UNKNOWN", "IS NOT UNKNOWN")
+TESTED = (
+    "m.1=0", "m.1 IS NULL", "m.1 NOT IN(SELECT v.1 FROM 2 v WHERE v.1>=m.2)", "m.2 IS NULL", "m.2=1", "m.1<m.2", "1=0", "m.1 IS NOT NULL",
+    "EXISTS(FROM 2 v WHERE v.1=m.1)", "m.1>=SOME(SELECT v.1 FROM 2 v WHERE v.1<>m.2)")
+FEW_TESTED = TESTED[:3]
+
+
+def truth_test(condition, ending):
+    return f"({condition}){ending}"
+
+
+def in_where(condition):
+    """A condition about the row of the FROM in place of the first column of the judged row."""
+    return condition.replace("m.1", "w.1")
+
+
+def truth_rules():
+    """Each truth test of each test, alone and under NOT; of some tests, as a WHERE; of few, beside another test, in each other truth test, and as a WHERE in
+    a truth test."""
+    for test, ending, nots in itertools.product(tests(), ENDINGS, NOTS[:2]):
+        yield nots + truth_test(test, ending)
+    for test, ending, outer, source, inner in itertools.product(TESTED, ENDINGS, NOTS[:2], SOURCES, NOTS[:2]):
+        yield outer + source.format(inner + truth_test(in_where(test), ending))
+    for test, ending in itertools.product(FEW_TESTED, ENDINGS):
+        yield from (join.format(truth_test(test, ending)) for join in JOINS)
+        for nots, around in itertools.product(NOTS[:2], ENDINGS):
+            yield truth_test(nots + truth_test(test, ending), around)
+        for source, around in itertools.product(SOURCES, ENDINGS):
+            yield truth_test(source.format(truth_test(in_where(test), ending)), around)
+
+
 # ---- rules for a table 2 of two columns
 
-WHERES = ("v.2=m.2", "NOT v.2=m.2", "v.2 IS NULL OR v.2<m.2")
+WHERES = ("v.2=m.2", "NOT v.2=m.2", "v.2 IS NULL OR v.2<m.2", "(v.2=m.2)IS UNKNOWN", "(v.2=m.2)IS NOT TRUE")
 
 
 def list_rules():

@@ -1,7 +1,8 @@
-"""Stored answers: texts of random tokens and of random bytes, rules right and damaged, and texts around 4,096 bytes, with the answers that the reference
-model gave.
+"""Stored answers: texts of random tokens and of random bytes, rules right and damaged, texts around 4,096 bytes, and behind them texts with truth tests, right
+and damaged, with the answers that the reference model gave.
 
-The files are not made anew by a test; `python3 -B tests/calls/stored.py` writes them, and a change of one is to be read line by line.
+The files are not made anew by a test; `python3 -B tests/calls/stored.py` writes them, and a change of one is to be read line by line. It keeps the stored
+texts, whatever the functions that drew them would draw now, and gives each the model's answer; where a file has fewer than are wanted, it draws the others.
 A line: the number of a tables file (below), the text in hexadecimal, and the answer: the refusal; or for READ the numbers of the parts, and for JUDGE and
 CARD the values on the rows of table 1, a letter each, and the bytes of the card in hexadecimal.
 """
@@ -29,15 +30,14 @@ LETTERS = {truth: letter for letter, truth in TRUTHS.items()}
 
 
 class Store(typing.NamedTuple):
-    """A file of stored answers.
+    """A file of so many stored answers.
 
     `drawn` gives a text and the number of its tables file, `answer` the model's answer to a text and a tables file, `written` an answer that is no
     refusal as it is stored, and `had_back` the same from what is stored.
     """
     name: str
     seed: int
-    draws: int
-    long_texts: tuple
+    size: int
     drawn: typing.Callable
     answer: typing.Callable
     written: typing.Callable
@@ -46,16 +46,17 @@ class Store(typing.NamedTuple):
     def path(self):
         return pathlib.Path(__file__).with_name(self.name)
 
-    def size(self):
-        """How many answers are stored."""
-        return self.draws + len(self.long_texts)
+    def lines(self):
+        """The stored texts, the numbers of their tables files, and the answers as they are stored."""
+        for line in self.path().read_text().splitlines():
+            number, text, answer = line.split("\t")
+            yield bytes.fromhex(text), int(number), answer
 
     def answers(self):
         """The stored texts, their tables files and answers."""
-        for line in self.path().read_text().splitlines():
-            number, text, answer = line.split("\t")
+        for text, number, answer in self.lines():
             refused = answer.startswith("refused ")
-            yield bytes.fromhex(text), FILES[int(number)], model.Refused(int(answer.split()[1])) if refused else self.had_back(answer)
+            yield text, FILES[number], model.Refused(int(answer.split()[1])) if refused else self.had_back(answer)
 
     def line(self, text, number):
         answer = self.answer(text, FILES[number])
@@ -64,13 +65,22 @@ class Store(typing.NamedTuple):
 
     def write(self):
         draw = random.Random(self.seed)
-        texts = [self.drawn(draw) for _ in range(self.draws)] + [(text, 0) for text in self.long_texts]
+        texts = [(text, number) for text, number, _ in self.lines()]
+        texts += [self.drawn(draw) for _ in range(self.size - len(texts))]
         self.path().write_text("".join(self.line(text, number) for text, number in texts))
 
 
 def columns_of(number):
     """The columns of a tables file, or some for one that is refused."""
     return [2] if number in REFUSED_FILES else model.tables_of(FILES[number]).columns
+
+
+def with_truth_word(draw, drawn):
+    """The first of the texts drawn in which TRUE, FALSE or UNKNOWN stands."""
+    while True:
+        text, number = drawn(draw)
+        if any(word.encode() in text for word in model.TRUTH_WORDS):
+            return text, number
 
 
 # ---- READ
@@ -80,21 +90,19 @@ def drawn_for_reading(draw):
     columns = columns_of(number)
     sort = draw.random()
     if sort < .2:
-        return generate.loosely_spaced(draw, generate.random_tokens(draw)), number
-    if sort < .35:
-        return generate.random_bytes(draw), number
-    if sort < .6:
+        return generate.spaced(draw, generate.misplaced_truth(draw, columns)), number
+    if sort < .4:
         return generate.damaged_text(draw, columns), number
-    return generate.short_rule(draw, columns, [1, 1, 2, 2, 3, 4, 5], 140, wild=draw.choice([0, 0, .05, .15])), number
+    if sort < .45:
+        return generate.rule_near_sum(draw, columns), number
+    return generate.short_rule(draw, columns, [1, 1, 2, 2, 3, 4, 5], 140, draw.choice([0, 0, .05, .15]), truths=draw.choice([.1, .3, .5])), number
 
 
 READ = Store(
     name="stored_answers.txt",
-    seed=20261116,
-    draws=2500,
-    # few, since the file has two characters for each byte
-    long_texts=(b" " * 4097, b"m.1 = 1" + b"\n" * 4090, b"@" * 4097, b"\n" * 4091 + b"m.1=1"),
-    drawn=drawn_for_reading,
+    seed=20261201,
+    size=3104,
+    drawn=lambda draw: with_truth_word(draw, drawn_for_reading),
     answer=lambda text, file: model.read(text, file, cases.AMPLE_ROOM),
     written=lambda parts: " ".join(str(number) for number in cases.numbers_of(parts)),
     had_back=lambda answer: tuple(int(field) for field in answer.split()),
@@ -112,12 +120,15 @@ def judged_and_made(text, file):
 
 
 def drawn_for_judging(draw):
-    """Short texts; a rule is drawn again, a few times, while it has the same value on all rows."""
+    """Short texts, and few with sums near 192, since their cards are long; a rule is drawn again, a few times, while it has the same value on all rows."""
     number = draw.choice([5] * 12 + [0] * 4 + [1, 2, 3, 4])
-    if draw.random() < .1:
+    sort = draw.random()
+    if sort < .1:
         return generate.damaged_text(draw, columns_of(number)), number
+    if sort < .13:
+        return generate.rule_near_sum(draw, columns_of(number)), number
     for _ in range(4):
-        text = generate.short_rule(draw, columns_of(number), [1, 2, 2, 3], 80, wild=draw.choice([0] * 9 + [.1]))
+        text = generate.short_rule(draw, columns_of(number), [1, 2, 2, 3], 120, draw.choice([0] * 9 + [.1]), truths=draw.choice([.2, .5]))
         answer = judged_and_made(text, FILES[number])
         if isinstance(answer, model.Refused) or len(set(answer[0])) > 1:
             break
@@ -132,10 +143,9 @@ def values_and_card(answer):
 
 RULE = Store(
     name="stored_rule_answers.txt",
-    seed=20261117,
-    draws=800,
-    long_texts=(b"m.1 = 1" + b" " * 4090,),
-    drawn=drawn_for_judging,
+    seed=20261202,
+    size=1201,
+    drawn=lambda draw: with_truth_word(draw, drawn_for_judging),
     answer=judged_and_made,
     written=lambda answer: "".join(LETTERS[truth] for truth in answer[0]) + " " + answer[1].hex(),
     had_back=values_and_card,

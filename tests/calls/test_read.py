@@ -1,5 +1,6 @@
-"""READ as built, against answers worked out by hand from document 01, stored answers, and the reference model: both sides of every limit, every token next
-to every token, every set of refusals together, every byte value in small rules, lists of every length, and random draws.
+"""READ as built, against answers worked out by hand from documents 01 and 02, stored answers, and the reference model: both sides of every limit, sums of
+entries around theirs, every token next to every token, truth tests out of place, every set of refusals together, every byte value in small rules, lists of
+every length, and random draws.
 
 Exit status 0 when all answers and all lent lists agree, and every sort of answer was seen, in each group those that belong to it.
 """
@@ -11,6 +12,7 @@ import compare
 import library
 import paper
 import stored
+import sums
 import variants
 
 import cases  # noqa: E402  (library adds the model's folder to the path)
@@ -21,6 +23,8 @@ SEED = 20261115
 DRAWS = 12000
 SPACED_RULES = 150
 LONG_TEXTS = 150
+SUMMED_RULES = 600
+MISPLACED_TRUTHS = 1500
 ROOM = 70
 TABLES = cases.SOME_TABLES
 
@@ -66,14 +70,14 @@ def check_paper(reader):
     for text, file, answer in paper.EXAMPLES:
         wanted = model.Refused(answer) if isinstance(answer, int) else paper.numbers(answer)
         seen[check_written(reader, text, file, wanted)] += 1
-    compare.agreed("answers worked out by hand", seen, read_sorts(1, 2, 3, 4, 5, 6, 7, 8))
+    compare.agreed("answers worked out by hand", seen, read_sorts(1, 2, 3, 4, 5, 6, 7, 8, 13))
 
 
 def check_stored(reader):
     """The stored answers."""
     seen = collections.Counter(check_written(reader, *answer) for answer in stored.READ.answers())
-    compare.same("how many answers are stored", seen.total(), stored.READ.size())
-    compare.agreed("stored answers", seen, read_sorts(1, 2, 3, 4, 5, 6, 7, 8))
+    compare.same("how many answers are stored", seen.total(), stored.READ.size)
+    compare.agreed("stored answers", seen, read_sorts(1, 2, 3, 4, 5, 6, 7, 8, 13))
 
 
 # ---- limits, from both sides
@@ -82,10 +86,18 @@ def limit_cases():
     """These texts, and the cases of READ among the model's own targeted ones."""
     for text in variants.limit_texts():
         yield read_case(text.encode())
-    few = (cases.trap_cases, cases.bracket_cases, cases.part_limit_cases, cases.text_length_cases, cases.table_limit_cases)
+    few = (cases.trap_cases, cases.truth_test_cases, cases.truth_sum_cases, cases.bracket_cases, cases.part_limit_cases, cases.text_length_cases,
+           cases.table_limit_cases)
     for case in itertools.chain.from_iterable(group() for group in few):
         if case.call == "READ":
             yield case
+
+
+def sum_cases():
+    """Texts whose sum of entries is known, with room for all their parts, and for none: over 192 they are refused with 13 in either case."""
+    for summed in itertools.chain(sums.by_hand(), sums.drawn(random.Random(SEED), SUMMED_RULES)):
+        yield compare.Stated(cases.fitting("READ", summed.text, summed.file), summed.sort("given"))
+        yield compare.Stated(cases.Case("READ", summed.text, summed.file), summed.sort("refused 12"))
 
 
 def size_cases():
@@ -132,7 +144,9 @@ def damaged_files():
 # ---- tokens next to one another
 
 EVERY_TOKEN = tuple(model.WORDS) + tuple(model.COMPARISONS) + ("(", ")", ".", "a", "m", "z", "0", "1", "-1", "2147483647", "-2147483648", "0000000001")
-AROUND = ("{}", "1=1 AND {}", "{} OR 1=1", "NOT {}=1", "m.1 {} 1", "m{}1 = 1", "1 IN(SELECT {} FROM 1 v WHERE 1=1)")
+AROUND = (
+    "{}", "1=1 AND {}", "{} OR 1=1", "NOT {}=1", "m.1 {} 1", "m{}1 = 1", "1 IN(SELECT {} FROM 1 v WHERE 1=1)",
+    "(1=1){}", "(1=1) IS {}", "(1=1) IS TRUE {}", "m.1 {}", "EXISTS(FROM 1 v WHERE 1=1) {}")
 
 
 def token_pairs():
@@ -146,7 +160,7 @@ def spaced_rules():
     """Rules with each gap between two tokens opened and closed in turn."""
     draw = random.Random(SEED)
     for _ in range(SPACED_RULES):
-        tokens = generate.RuleMaker(draw, model.tables_of(TABLES).columns).rule(draw.choice([1, 2, 3]))
+        tokens = generate.RuleMaker(draw, model.tables_of(TABLES).columns, truths=draw.choice([0, .2])).rule(draw.choice([1, 2, 3]))
         for place in range(1, len(tokens)):
             text = " ".join(tokens[:place]), " ".join(tokens[place:])
             yield read_case("".join(text).encode())
@@ -154,10 +168,20 @@ def spaced_rules():
             yield read_case("".join(tokens[:place]).encode())
 
 
+def misplaced_truths():
+    """Truth tests behind something else than a bracketed condition, or not written as they are."""
+    draw = random.Random(SEED)
+    for _ in range(MISPLACED_TRUTHS):
+        file = generate.random_tables(draw)
+        text = generate.spaced(draw, generate.misplaced_truth(draw, model.tables_of(file).columns))
+        yield compare.Stated(cases.fitting("READ", text, file), "refused 6")
+
+
 # ---- damage
 
 SMALL_RULES = (
-    b"m.2 < -5", b"NOT m.1 IS NOT NULL", b"1<>m.1 OR 2>=2", b"m.1 NOT IN(SELECT v.1 FROM 2 v WHERE m.1=v.1)", b"EXISTS(FROM 3 m WHERE m.3<=1)AND 1=1")
+    b"m.2 < -5", b"NOT m.1 IS NOT NULL", b"1<>m.1 OR 2>=2", b"m.1 NOT IN(SELECT v.1 FROM 2 v WHERE m.1=v.1)", b"EXISTS(FROM 3 m WHERE m.3<=1)AND 1=1",
+    b"(m.1=1) IS NOT UNKNOWN", b"NOT((1=1)IS FALSE)IS TRUE")
 
 
 def damaged_rules():
@@ -171,7 +195,7 @@ def long_texts():
     draw = random.Random(SEED)
     columns = model.tables_of(TABLES).columns
     for number in range(LONG_TEXTS):
-        maker = generate.RuleMaker(draw, columns, deepest=3 + number % 6)
+        maker = generate.RuleMaker(draw, columns, deepest=3 + number % 6, truths=draw.choice([0, .2]))
         text = generate.spaced(draw, maker.rule(draw.choice([5, 20, 60])))
         while len(text) < draw.choice([200, 2000, 4097]):
             text += draw.choice([b" OR ", b" AND "]) + generate.spaced(draw, maker.rule(draw.choice([5, 20, 60])))
@@ -192,12 +216,14 @@ def drawn_cases():
 
 
 GROUPS = (
-    (limit_cases, read_sorts(1, 3, 4, 5, 6, 7, 8, 12)),
+    (limit_cases, read_sorts(1, 3, 4, 5, 6, 7, 8, 12, 13)),
+    (sum_cases, read_sorts(12, 13)),
     (size_cases, read_sorts(1, 2)),
     (column_cases, read_sorts(8)),
     (damaged_files, read_sorts(1, 2)),
     (token_pairs, read_sorts(4, 6, 8)),
     (spaced_rules, read_sorts(4, 6)),
+    (misplaced_truths, {"READ": compare.refusal_sorts(6)}),
     (damaged_rules, read_sorts(4, 6, 8)),
     (long_texts, read_sorts(3, 4, 6, 7, 8)),
     (refusal_cases, WANTED),
@@ -209,7 +235,8 @@ GROUPS = (
 
 def check_rooms(reader):
     """Lists with room for every number of parts around what is needed."""
-    texts = (b"1=1", b"NOT m.1=m.2", b" OR ".join([b"m.1<>-1"] * 32), b"m.1 = SOME (SELECT m.1 FROM 2 m WHERE m.1 = 1)", b"k.1=1", b"1=")
+    texts = (b"1=1", b"NOT m.1=m.2", b" OR ".join([b"m.1<>-1"] * 32), b"m.1 = SOME (SELECT m.1 FROM 2 m WHERE m.1 = 1)", b"k.1=1", b"1=",
+             b"NOT (m.1=1 OR (m.2 IS NULL) IS NOT TRUE) IS FALSE", b"NOT " * 62 + b"(1=1)IS UNKNOWN", paper.SUM_192, paper.within_unknowns(7))
     seen = collections.Counter()
     for text in texts:
         parts = model.read(text, TABLES, cases.AMPLE_ROOM)
@@ -225,7 +252,7 @@ def check_rooms(reader):
             if reader.read(text, TABLES, lent) != stated:
                 raise compare.Disagreement(f"{text} into a list of {room}")
             seen["READ", sort] += 1
-    compare.agreed("lists of every length", seen, read_sorts(6, 8, 12))
+    compare.agreed("lists of every length", seen, read_sorts(6, 8, 12, 13))
 
 
 def check_all(reader):

@@ -1,6 +1,7 @@
-"""JUDGE and CARD as built, against answers worked out by hand from document 01, stored answers, and the reference model: both sides of every limit, buffers
-of every length, numbers at their ends, levels and letters, every set of refusals together, damaged texts and tables, random draws. And what demand 3
-compares, from end to end: the cards that CARD makes, checked, run and listed as built with later tables, against the model's values of the rule.
+"""JUDGE and CARD as built, against answers worked out by hand from documents 01 and 02, stored answers, and the reference model: both sides of every limit,
+sums of entries around theirs, buffers of every length, numbers at their ends, levels and letters, every set of refusals together, damaged texts and tables,
+random draws. And what demand 3 compares, from end to end: the cards that CARD makes, checked, run and listed as built with later tables, against the model's
+values of the rule.
 
 Exit status 0 when all answers and all lent buffers agree, and every sort of answer was seen, in each group those that belong to it.
 """
@@ -14,6 +15,7 @@ import library
 import paper
 import small
 import stored
+import sums
 import variants
 
 import cases  # noqa: E402  (library adds the model's folder to the path)
@@ -23,7 +25,9 @@ import model
 SEED = 20261118
 DRAWS_OF_EACH_CALL = 5000
 DRAWS_OF_EACH_TRUTH = 300
+SUMMED_RULES = 400
 LATER_RULES = 1200
+LATER_SUMMED_RULES = 100
 LATER_FILES = 3
 TABLES = cases.SOME_TABLES
 
@@ -89,20 +93,24 @@ class Written:
 
 
 def check_paper(rules):
-    """The proved cases, the worked card, other cards, and the examples of the refusal table, as they are worked out by hand."""
+    """The proved cases, the truth tests, the worked cards, other cards, and the examples of the refusal table, as they are worked out by hand."""
     written = Written(rules)
-    for case in paper.CASES:
+    for case in paper.CASES + paper.TRUTH_CASES:
         for row, letter in enumerate(case.values):
             written.judge(case.text, paper.CASE_TABLES, row, stored.TRUTHS[letter])
         written.judge(case.text, paper.CASE_TABLES, 3, model.Refused(11))
     for text, entries in paper.CARDS:
         for file in (paper.CASE_TABLES, paper.CASE_COLUMNS):
             written.card(text, file, 100 + len(text), paper.card([2, 1, 1], entries))
-    for room, wanted in ((18, model.Refused(12)), (19, paper.WORKED_CARD), (21, paper.WORKED_CARD)):
-        written.card(paper.WORKED_TEXT, paper.THREE_COLUMNS, room, wanted)
+    for text, sheet, length in ((paper.WORKED_TEXT, paper.WORKED_CARD, 19), (paper.UNKNOWN_TEXT, paper.UNKNOWN_CARD, 49)):
+        for room, wanted in ((0, model.Refused(12)), (length - 1, model.Refused(12)), (length, sheet), (length + 2, sheet)):
+            written.card(text, paper.THREE_COLUMNS, room, wanted)
     for text, file, answer in paper.REFUSALS:
         if isinstance(answer, int):
             written.refused(text, file, answer)
+        else:
+            written.judge(text, file, variants.LAST_ROW, model.Refused(11))
+            written.card(text, file, 0, model.Refused(12))
     compare.agreed("answers worked out by hand", written.seen, WANTED)
 
 
@@ -121,7 +129,7 @@ def check_stored(rules):
         written.judge(text, file, len(values), model.Refused(11))
         for room, wanted in ((len(sheet) - 1, model.Refused(12)), (len(sheet), sheet), (len(sheet) + 2, sheet)):
             written.card(text, file, room, wanted)
-    compare.same("how many answers are stored", lines, stored.RULE.size())
+    compare.same("how many answers are stored", lines, stored.RULE.size)
     compare.agreed("stored answers", written.seen, WANTED)
 
 
@@ -131,9 +139,23 @@ def limit_cases():
     """Texts at the limits, and those of the model's own targeted cases, with each call."""
     for text in variants.limit_texts():
         yield from both_calls(text.encode(), TABLES, row=1, more=2)
-    few = (cases.trap_cases, cases.bracket_cases, cases.part_limit_cases, cases.text_length_cases, cases.table_limit_cases)
+    few = (cases.trap_cases, cases.truth_test_cases, cases.truth_sum_cases, cases.bracket_cases, cases.part_limit_cases, cases.text_length_cases,
+           cases.table_limit_cases)
     for case in itertools.chain.from_iterable(group() for group in few):
         yield from both_calls(case.source, case.file, case.row)
+
+
+def sum_cases():
+    """Texts whose sum of entries is known. Over 192 they are refused with 13, whatever the row or the room; else the sum says how long the card is."""
+    for summed in itertools.chain(sums.by_hand(), sums.drawn(random.Random(SEED), SUMMED_RULES)):
+        accepted = summed.sort("given") == "given"
+        for row in range(3):
+            judge = cases.Case("JUDGE", summed.text, summed.file, row=row)
+            yield judge if accepted and row < cases.row_count(summed.file) else compare.Stated(judge, summed.sort("refused 11"))
+        yield compare.Stated(cases.Case("JUDGE", summed.text, summed.file, row=99), summed.sort("refused 11"))
+        length = summed.card_length() if accepted else 100
+        for room, otherwise in ((0, "refused 12"), (length - 1, "refused 12"), (length, "given"), (length + 1, "given")):
+            yield compare.Stated(cases.Case("CARD", summed.text, summed.file, buffer=cases.lent("CARD", room)), summed.sort(otherwise))
 
 
 def size_cases():
@@ -204,16 +226,19 @@ FORMS = (" IN", " NOT IN", "<SOME", ">=ALL", "<>SOME")
 
 
 def largest_text(count):
-    """So many of these joined, so five parts for each, less one; with 13 of them a rule has 64 parts, and no other rule has a longer card."""
+    """So many of these joined, so five parts for each, less one; with 13 of them a rule has 64 parts, and none without truth tests has a longer card."""
     texts = [three_lists(FORMS[number % len(FORMS)]) for number in range(count)]
     return "".join(text + (" OR ", " AND ")[number % 2] for number, text in enumerate(texts[:-1])) + texts[-1]
 
 
 EIGHT_TABLES = generate.tables_file([(16, [])] * 8)
 LARGEST = largest_text(13).encode()
+# 192 entries: an EXISTS has 2, which six IS UNKNOWN make 191, and the EXISTS around them has one more
+MOST_ENTRIES = paper.within_exists(paper.within_unknowns(6, b"EXISTS(FROM 2 w WHERE w.1=m.1)"))
 ROOM_TEXTS = (
     paper.WORKED_TEXT, b"m.1 IS NULL OR NOT m.2<>-1", paper.CASES[11].text, b"NOT EXISTS(FROM 2 v WHERE v.1<=ALL(SELECT w.1 FROM 3 w WHERE w.3 IS NULL))",
-    b"NOT " * 63 + b"1=1", largest_text(12).encode(), LARGEST)
+    b"NOT " * 63 + b"1=1", largest_text(12).encode(), LARGEST,
+    b"(m.2>0)IS UNKNOWN", b"NOT(NOT(m.1=1 OR m.2=1)IS NOT UNKNOWN)IS FALSE", b"m.1 NOT IN(SELECT v.1 FROM 2 v WHERE(v.1<m.2)IS NOT TRUE)", MOST_ENTRIES)
 
 
 def check_rooms(rules):
@@ -223,16 +248,17 @@ def check_rooms(rules):
         sheet = model.card(text, file, cases.AMPLE_ROOM)
         for room in range(len(sheet) + 3):
             written.card(text, file, room, model.Refused(12) if room < len(sheet) else sheet)
-    longest = 3 + 8 + 15 * (64 + 2 * 39)  # by document 01's sum, for 64 parts of which 39 are lists
-    written.card(LARGEST, EIGHT_TABLES, longest - 1, model.Refused(12))
-    written.card(LARGEST, EIGHT_TABLES, longest, model.card(LARGEST, EIGHT_TABLES, longest))
+    # by the published sum: for 64 parts of which 39 are lists, and for 192 entries
+    for text, longest in ((LARGEST, 3 + 8 + 15 * (64 + 2 * 39)), (MOST_ENTRIES, 3 + 8 + 15 * 192)):
+        written.card(text, EIGHT_TABLES, longest - 1, model.Refused(12))
+        written.card(text, EIGHT_TABLES, longest, model.card(text, EIGHT_TABLES, longest))
     compare.agreed("buffers of every length", written.seen, {"CARD": card_sorts(12)})
 
 
 def large_rules():
-    """Rules around the most parts: lists, NOTs, and tests joined by turns; with one part too many they are refused."""
+    """Rules around the most parts: lists, NOTs, truth tests, and tests joined by turns; with one part too many they are refused."""
     file = generate.tables_file([(1, [[0], [1], [None]])])
-    tests = ("m.1=1", "m.1 IS NULL", "NOT m.1<1", "m.1>=SOME(SELECT v.1 FROM 1 v WHERE v.1=m.1)")
+    tests = ("m.1=1", "m.1 IS NULL", "NOT m.1<1", "m.1>=SOME(SELECT v.1 FROM 1 v WHERE v.1=m.1)", "(m.1>0)IS UNKNOWN", "NOT(m.1<1)IS TRUE")
     for count in (1, 2, 12, 13, 14):
         yield from both_calls(largest_text(count).encode(), file, row=1)
         yield from both_calls(b"NOT " + largest_text(count).encode(), file, row=1)
@@ -241,6 +267,8 @@ def large_rules():
             yield from both_calls(f" {word} ".join([test] * count).encode(), file, row)
     for count in range(60, 66):
         yield from both_calls(b"NOT " * count + b"m.1=0", file, count % 2)
+    for ending, count, row in itertools.product(cases.TRUTH_ENDINGS[:4], range(29, 34), range(3)):
+        yield from both_calls(cases.nested_truths(count, b"NOT " * (63 - count) + b"m.1=0", ending), file, row)
 
 
 # ---- levels and letters
@@ -253,6 +281,7 @@ def level_texts():
     for first, second, left, selected, inside in itertools.product("mv", repeat=5):
         yield f"EXISTS(FROM 2 {first} WHERE {left}.1<=ALL(SELECT {selected}.1 FROM 3 {second} WHERE {inside}.1<>1))"
         yield f"NOT {left}.1 IN(SELECT {selected}.1 FROM 2 {first} WHERE EXISTS(FROM 1 {second} WHERE {inside}.1=1))"
+        yield f"({left}.1>=ALL(SELECT {selected}.1 FROM 2 {first} WHERE ({inside}.1=1)IS NOT TRUE))IS UNKNOWN OR ({left}.1=1)IS FALSE"
 
 
 def level_cases():
@@ -271,7 +300,7 @@ SMALL_FILE = generate.tables_file([(2, [[1, None]])])
 
 def damaged_cases():
     """A small rule and a small tables file, with every byte at every value and at every length; the rule also with bytes left out or doubled."""
-    for text in variants.damaged_texts(b"NOT m.2<1"):
+    for text in itertools.chain(variants.damaged_texts(b"NOT m.2<1"), variants.damaged_texts(b"(m.2<1)IS NOT FALSE")):
         yield from both_calls(text, SMALL_FILE)
     for text in variants.damaged_texts(b"1<>ALL(SELECT 1FROM 1v WHERE v.1=1)"):
         yield cases.fitting("CARD", text, SMALL_FILE)
@@ -296,12 +325,13 @@ def drawn_cases():
 
 
 GROUPS = (
-    (limit_cases, both_sorts(1, 3, 4, 5, 6, 7, 8)),
+    (limit_cases, both_sorts(1, 3, 4, 5, 6, 7, 8, 13)),
+    (sum_cases, {"JUDGE": judge_sorts(11, 13), "CARD": card_sorts(12, 13)}),
     (size_cases, {"JUDGE": ("given true", "given false") + compare.refusal_sorts(1, 2, 11), "CARD": card_sorts(1, 2)}),
     (row_cases, {"JUDGE": judge_sorts(11)}),
     (cell_cases, {"JUDGE": ("given true", "given false")}),
     (end_cases, both_sorts()),
-    (large_rules, both_sorts(7)),
+    (large_rules, both_sorts(5, 7)),
     (level_cases, both_sorts(8)),
     (damaged_cases, both_sorts(1, 2, 4, 6, 8)),
     (refusal_cases, {"JUDGE": ("given true",) + compare.refusal_sorts(*cases.REFUSALS_OF["JUDGE"]), "CARD": WANTED["CARD"]}),
@@ -322,9 +352,9 @@ RUN_WANTED = {"RUN": ("given True", "given False", "refused 11")}
 
 
 def check_small(rules, gate):
-    """Every kind of test in every kind of place, on every small file."""
+    """Every kind of test in every kind of place, truth tests among the tests and among the places, on every small file."""
     seen = collections.Counter()
-    for texts, columns in ((small.rules(), 1), (small.list_rules(), 2)):
+    for texts, columns in ((small.rules(), 1), (small.truth_rules(), 1), (small.list_rules(), 2)):
         files = [(file, model.tables_of(file)) for file in small.files(columns)]
         for text in texts:
             rule = end_to_end.Rule(rules, gate, text.encode(), files[0][0])
@@ -339,7 +369,8 @@ def check_small(rules, gate):
 def accepted_rule(draw, file, sizes):
     """A drawn rule that is accepted with a tables file."""
     while True:
-        text = generate.spaced(draw, generate.RuleMaker(draw, model.tables_of(file).columns).rule(draw.choice(sizes)))
+        maker = generate.RuleMaker(draw, model.tables_of(file).columns, truths=draw.choice([0, .1, .3]))
+        text = generate.spaced(draw, maker.rule(draw.choice(sizes)))
         if not isinstance(model.read(text, file, cases.AMPLE_ROOM), model.Refused):
             return text
 
@@ -358,16 +389,18 @@ def check_later(rules, gate):
     """Drawn rules, each on the file that it is accepted with and on later ones."""
     draw = random.Random(SEED)
     seen = collections.Counter()
-    for _ in range(LATER_RULES):
-        file = generate.random_tables(draw)
-        text = accepted_rule(draw, file, [1, 2, 3, 5, 8, 12])
+    files = [generate.random_tables(draw) for _ in range(LATER_RULES)]
+    drawn = [(accepted_rule(draw, file, [1, 2, 3, 5, 8, 12]), file) for file in files]
+    drawn += [(summed.text, summed.file) for summed in sums.drawn(draw, LATER_SUMMED_RULES) if summed.total <= sums.MOST]
+    for text, file in drawn:
         later = [generate.later_tables(draw, model.tables_of(file).columns) for _ in range(LATER_FILES)]
         seen += follow(rules, gate, text, file, [file] + later)
     compare.agreed("later tables", seen, GATE_WANTED | RUN_WANTED)
 
 
 LONG_RULES = (
-    b"m.1<m.2 OR NOT m.1 IS NULL AND m.2>=0", b"m.1 IN(SELECT v.1 FROM 2 v WHERE v.1<>m.2)", b"NOT EXISTS(FROM 2 v WHERE v.1>m.1)", b"m.2 IS NULL", b"1=1")
+    b"m.1<m.2 OR NOT m.1 IS NULL AND m.2>=0", b"m.1 IN(SELECT v.1 FROM 2 v WHERE v.1<>m.2)", b"NOT EXISTS(FROM 2 v WHERE v.1>m.1)", b"m.2 IS NULL", b"1=1",
+    b"(m.1<m.2)IS UNKNOWN", b"NOT(m.1 NOT IN(SELECT v.1 FROM 2 v WHERE(v.1<>m.2)IS NOT FALSE))IS FALSE")
 
 
 def check_long(rules, gate):

@@ -1,4 +1,4 @@
-"""Texts, numbers and row numbers at the limits of document 01, and bytes that are changed in every place."""
+"""Texts, numbers and row numbers at the limits of documents 01 and 02, and bytes that are changed in every place."""
 import itertools
 
 
@@ -11,8 +11,13 @@ def nested(count, text, letter="v"):
     return text
 
 
+def truth_tested(count, text, ending):
+    """Text in so many brackets, each before a truth test."""
+    return "(" * count + text + f"){ending}" * count
+
+
 def limit_texts():
-    """Texts on both sides of the limits of digits, numbers, columns, tables, FROMs and parts."""
+    """Texts on both sides of the limits of digits, numbers, columns, tables, FROMs, parts and entries."""
     for digits in (1, 9, 10, 11, 12):
         yield from ("1=" + "0" * (digits - 1) + "7", "1=-" + "0" * (digits - 1) + "7", "7" * digits + "=1")
     for number in (-2**31 - 1, -2**31, -2**31 + 1, -1, 0, 1, 2**31 - 1, 2**31, 9999999999):
@@ -32,6 +37,12 @@ def limit_texts():
             yield f" {word} ".join(["1=1"] * tests)
             yield f" {word} ".join(["(1=1)"] * tests)
         yield "1=1" + " AND 2=2 OR 3=3" * (tests // 2)
+    for tests, core in itertools.product((5, 6, 7, 8, 15, 16, 31, 32, 33), ("1=1", "NOT m.2>0", nested(1, "v.2=m.2"), "k.1=1", "1=")):
+        for ending in ("IS UNKNOWN", "IS NOT UNKNOWN", "IS TRUE", "IS NOT FALSE"):
+            yield truth_tested(tests, core, ending)
+            yield f"m.2 IS NOT NULL AND({truth_tested(tests - 1, core, ending)})IS NOT TRUE"
+    for tests in (20, 21, 22, 31, 32):
+        yield from (" AND ".join([test] * tests) for test in ("(m.1>0)IS NOT UNKNOWN", "((m.2>0)IS UNKNOWN)IS FALSE"))
 
 
 # ---- columns, numbers, and row numbers

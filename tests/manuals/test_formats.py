@@ -1,9 +1,9 @@
 """docs/FORMATS.md against the library as built, and against the model of document 01.
 
 The manual is read as it stands: its tables by their headers, its formulas and bytes in backticks, the clauses of a sound card by their numbers, the worked
-examples by their names in bold (File F, Card A, Card B, Rule C), and its code, which is run. The bytes of a worked example are those of its table, row by row,
-and each row's meaning has to be what the bytes mean there. Every answer is asked of the model and of the library, and has to be the same. The order of each
-call's refusals is compared with the definitions, the header and the wrappers too.
+examples by their names in bold (File F, Cards A, B and D, Rules C and E), and its code, which is run. The bytes of a worked example are those of its table, row
+by row, and each row's meaning has to be what the bytes mean there. Every answer is asked of the model and of the library, and has to be the same. The order of
+each call's refusals is compared with the definitions, the header and the wrappers too.
 
 Exit status 0 when all of it agrees, and nothing that the manual should have is missing. Every table of the manual has to have been compared.
 """
@@ -38,7 +38,7 @@ DRAWN_CARDS = 400
 DRAWN_RULES = 400
 BYTE_VALUES = range(256)
 AMPLE_ROOM = 3000
-TABLE_COUNT = 15
+TABLE_COUNT = 18
 
 SIGNS = {"=": operator.eq, "<>": operator.ne, "<": operator.lt, "<=": operator.le, ">": operator.gt, ">=": operator.ge}
 LOWEST, HIGHEST = -2**31, 2**31 - 1
@@ -916,15 +916,29 @@ def check_limits_said_twice(manual, known, clauses):
 
 
 def check_card_of_no_rule(manual, ask, known):
-    """The sound card that is said to come from no rule."""
-    name, new, old, place = manual.said(3, r"Card ([A-Z]) below with `(..)` in place of `(..)` at offset (\d+) is sound, and no rule has it\.")
-    sheet = known[name]
-    same("the byte that is replaced", sheet[int(place)], from_hex(old)[0])
-    other = changed_at(sheet, int(place), from_hex(new)[0])
-    same("the card that no rule has", ask.check(other), model.SOUND)
-    for nots in range(4):
-        text = b"NOT " * nots + (b"m.2 >= 5" if nots % 2 == 0 else b"m.2 < 5")
-        demand(f"{text} does not have it", ask.card(text, *known["A was made with"]) != other)
+    """The sound cards that are said to come from no rule, or to ask for something else.
+
+    Each comparison of the first one has a number of its own, so each comes from a part of its own, and none of the entries between them from IS UNKNOWN or IS
+    NOT UNKNOWN, which have the same comparisons on both sides: no rule of fewer parts has it.
+    """
+    tests, joins, kind, entries, parts = manual.numbers_said(
+        3, r"(\d+) comparisons of a column with different numbers, joined by (\d+) entries of kind (\d), are a sound card of (\d+) entries, "
+           r"and no rule has it: the rule would have (\d+) parts\.")
+    leaves = [model.comparison_entry(5, 1, model.TaggedValue(0, 1), model.TaggedValue(255, number)) for number in range(tests)]
+    sheet = model.card_bytes(functools.reduce(functools.partial(model.pair_entry, kind), leaves), [1])
+    same("the card that no rule has", (joins, entries, sheet[0], ask.check(sheet)), (tests - 1, tests + joins, entries, model.SOUND))
+    word = {1: b" AND ", 2: b" OR "}[kind]
+    text = word.join(b"m.1 = %d" % number for number in range(tests))
+    same("the parts of its rule", len(model.parts_of(model.condition_of(model.tokens_of(text)))), parts)
+    same("its rule", ask.card(text, sized_file([(1, 0)]), AMPLE_ROOM), model.Refused(7))
+    fewer = word.join(b"m.1 = %d" % number for number in range(tests - 1))
+    same("a rule with one comparison less", ask.check(ask.card(fewer, sized_file([(1, 0)]), AMPLE_ROOM)), model.SOUND)
+
+    name, new, place = manual.said(3, r"card ([A-Z]) below with `(..)` at offset (\d+) is sound too, and asks for another number\.")
+    other = changed_at(known[name], int(place), from_hex(new)[0])
+    same("the card that asks for another number", ask.check(other), model.SOUND)
+    numbers = [model.sound_card(sheet)[1][0].right.number for sheet in (known[name], other)]
+    demand(f"other numbers: {numbers}", numbers[0] != numbers[1])
 
 
 def check_depth(manual, ask, clauses):
@@ -1057,7 +1071,8 @@ def check_call_examples(manual, ask, known):
     wanted = {("CHECK", "sound"), ("CHECK", "refusal 9"), ("RUN", "yes"), ("RUN", "no"), ("LIST", "no rows"), ("LIST", "refusal 12")}
     wanted |= {("RUN", f"refusal {number}") for number in (1, 2, 9, 10, 11)}
     demand(f"calls with these answers: {wanted - set(seen)}", wanted <= set(seen))
-    demand("at least 17 examples of calls", len(rows) >= 17)
+    demand("at least 20 examples of calls", len(rows) >= 20)
+    same("the calls of card D", sorted(row[4] for row in rows if row[1] == "D"), ["no", "sound", "yes"])
     same("examples of calls that are there twice", [row for row, count in collections.Counter(row[:4] for row in rows).items() if count > 1], [])
     demand("document 01's examples of 9, 10 and 11", {("CHECK", "`00 00`", "", "", "refusal 9"), ("RUN", "A", "`01 02 00 00`", "row 0", "refusal 10"),
                                                      ("RUN", "B", "F", "row 3", "refusal 11")} <= set(rows))
@@ -1079,7 +1094,7 @@ OTHER = {FALSE: TRUE, TRUE: FALSE}
 
 def part_kinds_of(manual):
     table = manual.table(5, "Kind of part", "Part", "Inner parts", "False-interpreted", "True-interpreted")
-    same("the kinds of parts", [int(row[0]) for row in table.rows], list(range(1, 10)))
+    same("the kinds of parts", [int(row[0]) for row in table.rows], list(range(1, 16)))
     inner_parts = {row[2]: 0 if row[2] == "none" else len(row[2].split(", ")) for row in table.rows}
     return {int(number): PartKind(tuple(names.split(", ")), inner_parts[inner], {FALSE: in_backticks(no), TRUE: in_backticks(yes)})
             for number, names, inner, no, yes in table.rows}
@@ -1110,9 +1125,9 @@ class Translation:
             entry, rest = self.expression(rest, parts, number, interpretation)
             return self.negated(entry), rest
         inner = number + 1
-        if first in "ABPW":
-            place = parts[inner].end if first == "B" else inner
-            return self.entry_of(parts, place, {"A": interpretation, "B": interpretation, "P": OTHER[interpretation], "W": FALSE}[first]), rest
+        interpretations = {"A": interpretation, "B": interpretation, "P": OTHER[interpretation], "W": FALSE, "N": FALSE, "Y": TRUE}
+        if first in interpretations:
+            return self.entry_of(parts, parts[inner].end if first == "B" else inner, interpretations[first]), rest
         inside = []
         if rest and rest[0] == "(":
             while rest[0] in "(,":
@@ -1128,43 +1143,73 @@ class Translation:
         return model.Entry(kind, part.table if "table" in used else 0, part.comparison if "comparison" in used else 0, *values, inner)
 
 
+class Sum:
+    """How many entries a card has, by the sum of section 5."""
+
+    def __init__(self, manual):
+        self.formula = manual.said(5, r"has `n = ([^`]*)` entries")
+        alone, first, last = manual.numbers_said(5, r"In this sum, dropped are the parts of kinds (\d+) and (\d+) to (\d+), which have no entry of their own,")
+        self.dropped = {alone, *range(first, last + 1)}
+        self.lists = set(manual.numbers_said(5, r"and lists those of kinds (\d+) and (\d+)\."))
+        self.repeated = set(manual.numbers_said(5, r"A card has the condition of a part of kinds (\d+) and (\d+) twice: "
+                                                   r"repeated is the sum of the entries of these conditions, each worked out by the same sum\."))
+
+    def terms(self, parts):
+        """The numbers in the sum for all of some parts."""
+        @functools.cache
+        def terms_of(start, end):
+            kinds = [part.kind for part in parts[start:end]]
+            repeated = [number for number in range(start, end) if parts[number].kind in self.repeated]
+            return {"parts": len(kinds), "dropped": sum(kind in self.dropped for kind in kinds), "lists": sum(kind in self.lists for kind in kinds),
+                    "repeated": sum(worked_out(self.formula, **terms_of(number + 1, parts[number].end)) for number in repeated)}
+        return terms_of(0, len(parts))
+
+    def entries(self, parts):
+        return worked_out(self.formula, **self.terms(parts))
+
+
+TRUTH_TESTS = {f"IS{' NOT' * has_not} {word}": kinds[has_not] for word, kinds in model.TRUTH_KINDS.items() for has_not in (False, True)}
+
+
 def drawn_rules(draws):
-    """Tables files with rules for them: drawn ones, and every kind of test under NOTs, in lists and in EXISTS."""
+    """Tables files with rules for them: drawn ones, and every kind of test under NOTs, in truth tests, in lists and in EXISTS."""
     tests = ["m.1 < 2", "m.1 IS NULL", "m.1 IS NOT NULL", "EXISTS (FROM 1 v WHERE v.1 = m.1)", "m.1 >= SOME (SELECT v.1 FROM 2 v WHERE v.2 > 1)",
              "m.1 NOT IN (SELECT v.2 FROM 2 v WHERE v.1 <= m.1)", "(m.1 = 1 AND m.1 <> 2)", "(m.1 = 1 OR NOT m.1 > 2)"]
+    tests += [f"(m.1 > 2) {ending}" for ending in TRUTH_TESTS]
     around = ["{}", "NOT {}", "NOT NOT {}", "EXISTS (FROM 2 w WHERE {})", "NOT EXISTS (FROM 2 w WHERE NOT {})", "m.1 = ALL (SELECT w.2 FROM 2 w WHERE {})",
               "NOT m.1 > ALL (SELECT w.2 FROM 2 w WHERE NOT {})", "m.1 <> SOME (SELECT w.2 FROM 2 w WHERE {})",
               "NOT m.1 <= SOME (SELECT w.2 FROM 2 w WHERE {})",
-              "NOT ({} AND NOT 1 = m.1)", "NOT (m.1 IS NULL OR {})"]
+              "NOT ({} AND NOT 1 = m.1)", "NOT (m.1 IS NULL OR {})", "NOT (m.1 = 1 AND {}) IS UNKNOWN"]
+    around += [f"({{}}) {ending}" for ending in TRUTH_TESTS]
     file = generate.tables_file([(1, []), (2, [])])
     rules = [(outer.format(test).encode(), file) for outer, test in itertools.product(around, tests)]
     for _ in range(DRAWN_RULES):
         tables = generate.random_tables(draws)
-        rules.append((generate.short_rule(draws, model.tables_of(tables).columns, [1, 2, 3, 4, 6, 8], 400), tables))
+        rules.append((generate.short_rule(draws, model.tables_of(tables).columns, [1, 2, 3, 4, 6, 8], 400, truths=draws.choice([0, .2, .4])), tables))
     return [(text, tables) for text, tables in rules if not isinstance(model.read(text, tables, 64), model.Refused)]
 
 
-def check_sums(example, parts, table_count, length):
+def check_sums(manual, example, parts, table_count, length):
     """The sums that are written out for an example."""
-    kinds = [part.kind for part in parts]
-    lists = kinds.count(8) + kinds.count(9)
-    n = len(kinds) - kinds.count(3) + 2 * lists
-    sums = re.findall(r"n = (\d+) − (\d+) \+ 2 × (\d+) = (\d+)", example), re.findall(r"3 \+ (\d+) \+ 15 × (\d+) = (\d+) bytes", example)
-    same(f"the sums in: {example}", sums, ([tuple(map(str, (len(kinds), kinds.count(3), lists, n)))], [tuple(map(str, (table_count, n, length)))]))
+    total = Sum(manual)
+    terms, n = total.terms(parts), total.entries(parts)
+    same(f"the entries in: {example}", n, model.entry_sum(parts))
+    sums = re.findall(r"n = (\d+) − (\d+) \+ 2 × (\d+) \+ (\d+) = (\d+)", example), re.findall(r"3 \+ (\d+) \+ 15 × (\d+) = (\d+) bytes", example)
+    same(f"the sums in: {example}", sums, ([tuple(map(str, (*terms.values(), n)))], [tuple(map(str, (table_count, n, length)))]))
     COUNTS["sums"] += 2
 
 
 def check_worked_cards(manual, ask, known):
-    """Cards A and B: their bytes, their meanings, and what is said of them."""
+    """Cards A, B and D: their bytes, their meanings, and what is said of them."""
     examples = worked_examples(manual, 5)
-    same("the worked cards", [example.name for example in examples], ["Card A", "Card B"])
+    same("the worked cards", [example.name for example in examples], ["Card A", "Card B", "Card D"])
     for example in examples:
         text = re.search(r"The rule `([^`]*)`", example.about)[1].encode()
         source = re.search(r"with the tables file `([^`]*)`|with file ([A-Z]):", example.about)
         file = from_hex(source[1]) if source[1] else known[source[2]]
         same(f"{example.name} by CARD", ask.card(text, file, AMPLE_ROOM), example.whole)
         check_meanings(example, card_meanings(example.whole, known["kinds"], known["comparisons"], known["record"]))
-        check_sums(example.about, ask.read(text, file, 64), file[0], len(example.whole))
+        check_sums(manual, example.about, ask.read(text, file, 64), file[0], len(example.whole))
         known[example.name[-1]] = example.whole
         known[f"{example.name[-1]} was made with"] = (file, AMPLE_ROOM)
         same_card = re.search(r"`([^`]*)` has the same parts and the same card\.", example.about)
@@ -1182,19 +1227,75 @@ def check_worked_cards(manual, ask, known):
     same("CARD of A with little room", answers, [model.Refused(12), model.Refused(12), known["A"]])
 
 
+def check_truth_tests(manual, ask, translation, known):
+    """What is said of truth tests: their entries in both interpretations, one as the negation of another, how many they are, and what card D's answer."""
+    total, file = Sum(manual), known["F"]
+    first, last = manual.numbers_said(5, r"A truth test, kinds (\d+) to (\d+), is never unknown: its entries are the same in both interpretations\.")
+    same("the kinds of truth tests", list(range(first, last + 1)), sorted(TRUTH_TESTS.values()))
+    other, kind = manual.numbers_said(5, r"Those of kind (\d+) are the negation of those of kind (\d+)\.")
+    twice = manual.said(5, r"So a part of kind (\d+) or (\d+) has `([^`]*)` entries, where c are those of its condition\.")
+    same("the parts with a condition twice", {int(number) for number in twice[:2]}, total.repeated)
+    for condition in (b"m.2 > 0", b"m.1 NOT IN (SELECT v.1 FROM 2 v WHERE v.1 > m.2)", b"NOT (m.1 = 1 AND (m.2 < 3) IS NOT UNKNOWN)"):
+        inner = total.entries(ask.read(condition, file, 64))
+        entries = {}
+        for ending, number in TRUTH_TESTS.items():
+            text = b"(" + condition + b") " + ending.encode()
+            parts = ask.read(text, file, 64)
+            same(f"the kind of {text}", parts[0].kind, number)
+            entries[number] = translation.entry_of(parts, 0, FALSE)
+            same(f"{text} in both interpretations", entries[number], translation.entry_of(parts, 0, TRUE))
+            if str(number) in twice[:2]:
+                same(f"the entries of {text}", total.entries(parts), worked_out(twice[2], c=inner))
+        same("the negation of a truth test", entries[other], translation.negated(entries[kind]))
+
+    text, column = manual.said(5, r"Entry 1 is `([^`]*)` false-interpreted and negated, entry 2 the same true-interpreted\. "
+                                  r"Where column (\d+) is blank both answer yes; where it holds a number exactly one of them does\.")
+    file = known["D was made with"][0]
+    parts = ask.read(text.encode(), file, 64)
+    wanted = (translation.negated(translation.entry_of(parts, 0, FALSE)), translation.entry_of(parts, 0, TRUE))
+    columns = model.tables_of(file).columns
+    same("entries 1 and 2 of card D", model.card_bytes(model.pair_entry(1, *wanted), columns), known["D"])
+    for cell in CELLS:
+        row = generate.tables_file([(columns[0], [[cell if number == int(column) else 7 for number in range(1, columns[0] + 1)]])])
+        answers = [ask.run(model.card_bytes(entry, columns), row, 0) for entry in wanted]
+        same(f"what entries 1 and 2 of card D answer on {cell}", sorted(answers), [True, True] if cell is None else [False, True])
+
+
+def check_too_many(manual, ask, known):
+    """Texts with their sums: refused with 13 by all three calls where the sum is over the limit, and else not."""
+    refusal, most = manual.numbers_said(5, r"Refusal (\d+): n is over (\d+)\. It belongs to reading: READ, JUDGE and CARD refuse such a rule,")
+    same("the most entries", most, known["card limits"]["n"][1])
+    total, seen = Sum(manual), set()
+    for written, n, said in manual.table(5, "Text", "n", "Refusal").rows:
+        text = in_backticks(written).encode()
+        parts = model.parts_of(model.condition_of(model.tokens_of(text)))
+        same(f"the sum of {text}", (total.entries(tuple(parts)), model.entry_sum(parts)), (int(n), int(n)))
+        refused = None if said == "none" else int(said)
+        same(f"the refusal of {text}", refused, refusal if int(n) > most else None)
+        got = ask.read(text, known["F"], 0), ask.judge(text, known["F"], 1000), ask.card(text, known["F"], 0)
+        same(f"{text} without room, on a row that is not there", got, tuple(model.Refused(refused or number) for number in (12, 11, 12)))
+        if refused is None:
+            same(f"the card of {text}", int.from_bytes(ask.card(text, known["F"], AMPLE_ROOM)[:2], "little"), int(n))
+        seen.add((int(n), refused))
+    demand(f"six and seven IS UNKNOWN, and one without an entry more: {seen}", {(127, None), (255, 13), (1, None)} <= seen)
+
+
 def check_translation(manual, ask, draws, known):
     part_kinds = known["part kinds"] = part_kinds_of(manual)
     translation = Translation(part_kinds, known)
-    entries = manual.said(5, r"has `n = ([^`]*)` entries")
+    total = Sum(manual)
     length = manual.said(5, r"and so `([^`]*)` bytes")
-    same("NOTs and lists", manual.said(5, r"where NOTs are the parts of kind (\d), and lists those of kinds (\d) and (\d),"), ("3", "8", "9"))
+    same("the length with truth tests", manual.said(5, r"and the length of `([^`]*)` bytes\."), length)
+    same("the length in section 2", manual.said(2, r"The card has exactly `([^`]*)` bytes"), length)
+    check_truth_tests(manual, ask, translation, known)
+    check_too_many(manual, ask, known)
     rules = known["rules"] = drawn_rules(draws) + [(text, known["F"]) for text in CASES]
     seen = collections.Counter()
     for text, file in rules:
         parts = ask.read(text, file, 64)
         columns = model.tables_of(file).columns
         kinds = [part.kind for part in parts]
-        n = worked_out(entries, parts=len(parts), NOTs=kinds.count(3), lists=kinds.count(8) + kinds.count(9))
+        n = total.entries(parts)
         size = worked_out(length, T=len(columns), n=n)
         wanted = model.card_bytes(translation.entry_of(parts, 0, FALSE), columns)
         same(f"the length of the card of {text}", len(wanted), size)
@@ -1251,6 +1352,10 @@ def check_record_layout(manual, ask, known):
                     held[name].add(wanted[name])
             check_part_end(number, parts, known["part kinds"])
     same("the kinds that use each field", uses, seen)
+    first, last = manual.numbers_said(6, r"Kinds (\d+) to (\d+) use kind and end alone\.")
+    same("the kinds that use kind and end alone", sorted(set(TRUTH_TESTS.values())), list(range(first, last + 1)))
+    for kind in range(first, last + 1):
+        same(f"what kind {kind} uses", {name for name in uses if kind in uses[name]}, {"kind", "end"})
     same("what kind, comparison and end hold", {name: (min(held[name]), max(held[name])) for name in ranges}, ranges)
     for side in ("left.tag", "right.tag"):
         same(f"what {side} holds", held[side], {constant, *range(low, high + 1)})
@@ -1276,6 +1381,7 @@ PART_TEXTS = {
     "AND": "1 = 1 AND 1 = 1", "OR": "1 = 1 OR 1 = 1", "NOT": "NOT 1 = 1", "comparison": "1 = 1", "IS NULL": "m.1 IS NULL", "IS NOT NULL": "m.1 IS NOT NULL",
     "EXISTS": "EXISTS (FROM 1 v WHERE 1 = 1)", "SOME": "1 < SOME (SELECT 1 FROM 1 v WHERE 1 = 1)", "IN": "1 IN (SELECT 1 FROM 1 v WHERE 1 = 1)",
     "ALL": "1 < ALL (SELECT 1 FROM 1 v WHERE 1 = 1)", "NOT IN": "1 NOT IN (SELECT 1 FROM 1 v WHERE 1 = 1)"}
+PART_TEXTS |= {ending: f"(1 = 1) {ending}" for ending in TRUTH_TESTS}
 
 
 def check_parts(manual, ask, known):
@@ -1289,22 +1395,36 @@ def check_parts(manual, ask, known):
     same("IN and NOT IN", lists, tuple(str(number) for name in ("IN", "NOT IN") for number in (first[name].kind, first[name].comparison)))
     check_record_layout(manual, ask, known)
 
-    table = manual.table(6, "Part", "Text", "Kind", "Comparison", "Table", "End", "Left", "Right")
-    text, letter, count = re.match(r"\*\*Rule C\.\*\* `([^`]*)` with file ([A-Z]) has (\d+) parts;", table.before).groups()
-    parts = ask.read(text.encode(), known[letter], 64)
-    same("how many parts C has", (int(count), len(table.rows)), (len(parts), len(parts)))
+    tables = manual.tables(6, "Part", "Text", "Kind", "Comparison", "Table", "End", "Left", "Right")
+    same("the worked rules", [check_worked_rule(manual, ask, known, table) for table in tables], ["Rule C", "Rule E"])
+    same("the kinds of parts in the header", kinds_in_header(), {number: kind.names[0].lower() for number, kind in part_kinds.items()})
+
+
+def check_worked_rule(manual, ask, known, table):
+    """A rule whose parts are written out, with what is said of its card; its name."""
+    name, text, letter, count = re.match(r"\*\*(Rule [A-Z])\.\*\* `([^`]*)` with file ([A-Z]) has (\d+) parts[;.]", table.before).groups()
+    parts, part_kinds = ask.read(text.encode(), known[letter], 64), known["part kinds"]
+    same(f"how many parts {name} has", (int(count), len(table.rows)), (len(parts), len(parts)))
     for number, (part, row) in enumerate(zip(parts, table.rows)):
         values = [model.TaggedValue(*numbers_in(value)) for value in row[6:]]
-        same(f"part {number} of C", (int(row[0]), model.Part(int(row[2]), int(row[3]), int(row[4]), int(row[5]), *values)), (number, part))
+        same(f"part {number} of {name}", (int(row[0]), model.Part(int(row[2]), int(row[3]), int(row[4]), int(row[5]), *values)), (number, part))
         written = row[1].strip("`")
-        demand(f"{row[1]} stands in C", written in text)
-        demand(f"{row[1]} is a part of kind {part.kind}", any(name in written for name in part_kinds[part.kind].names) or (part.kind == 4 and "`" in row[1]))
+        demand(f"{row[1]} stands in {name}", written in text)
+        demand(f"{row[1]} is a part of kind {part.kind}", any(one in written for one in part_kinds[part.kind].names) or (part.kind == 4 and "`" in row[1]))
         COUNTS["worked parts"] += 1
-    after = next(block for block in manual.blocks[6] if isinstance(block, str) and block.startswith("Its card has"))
+    after = manual.blocks[6][manual.blocks[6].index(table) + 1]
+    demand(f"what is said of the card of {name}", after.startswith("Its card has"))
     sheet = ask.card(text.encode(), known[letter], AMPLE_ROOM)
-    check_sums(after.replace("8 entries and", "8, and"), parts, known[letter][0], len(sheet))
+    check_sums(manual, re.sub(r"(\d+) entries and", r"\1, and", after), parts, known[letter][0], len(sheet))
     kinds = from_hex(re.search(r"its kinds are `([^`]*)`", after)[1])
-    same("the kinds of C's card", kinds, sheet[3 + sheet[2]:3 + sheet[2] + sheet[0]])
+    same(f"the kinds of the card of {name}", kinds, sheet[3 + sheet[2]:3 + sheet[2] + sheet[0]])
+    return name
+
+
+def kinds_in_header():
+    """The kinds of parts with their names, in small letters, as the header has them."""
+    comment = re.search(r"uint8_t kind; +/\* (.*?) \*/", HEADER.read_text(), flags=re.DOTALL)[1]
+    return {int(number): name.lower() for number, name in re.findall(r"(\d+) ([A-Za-z ]+)", comment)}
 
 
 # ---- section 7
@@ -1329,26 +1449,48 @@ def header_functions():
 
 
 def published_orders():
-    """The order of each call's refusals in the definitions; that the calls follow it is proved."""
+    """The order of each call's refusals in the definitions, where it may begin with an order that several calls share; that the calls follow it is proved."""
     found = {}
     for path in (ROOT / "crates").glob("*/specs/Calls.antt"):
-        for call, numbers in re.findall(r"^(\w+)Order = ((?:\d+ ∷ )+)\[\]$", path.read_text(), flags=re.MULTILINE):
-            found[call.upper()] = tuple(int(number) for number in re.findall(r"\d+", numbers))
-    return found
+        for name, shared, numbers in re.findall(r"^(\w+)Order = (?:(\w+)Order \+\+ )?\(?((?:\d+ ∷ )+)\[\]\)?$", path.read_text(), flags=re.MULTILINE):
+            found[name] = shared, tuple(int(number) for number in re.findall(r"\d+", numbers))
+    shared_orders = {shared for shared, _ in found.values()}
+
+    def whole(name):
+        return (whole(found[name][0]) if found[name][0] else ()) + found[name][1]
+    return {name.upper(): whole(name) for name in found if name not in shared_orders}
+
+
+def said_to_rise(text, calls):
+    """The calls in whose orders a text says that the numbers rise, or that the lowest is given: those that the sentence names, or all if it names none."""
+    said = set()
+    for sentence in re.split(r"(?<=[.;]) ", " ".join(text.split())):
+        if "numbers rise" in sentence or "it is the lowest" in sentence:
+            said |= {call for call in calls if re.search(rf"\b{call}\b", sentence)} or set(calls)
+    return said
 
 
 def check_orders(manual, orders):
     """The order of each call's refusals, as the manual's table has it: the same in the definitions, the model, the header and the wrappers, of which Python's
-    lends room for every answer. Where the orders are called rising, they rise."""
+    lends room for every answer. The manual says of exactly those orders that they rise which do, and the header and the wrappers of no other."""
     room_aside = {call: tuple(number for number in order if number != 12) for call, order in orders.items()}
     same("the orders in the definitions", published_orders(), orders)
     same("the orders in the model", cases.REFUSALS_OF, orders)
-    rising = all(order == tuple(sorted(order)) for order in orders.values())
-    same("the manual says that the orders rise", "the numbers rise in each of these orders, so it is the lowest" in " ".join(manual.sections[0].split()), rising)
+    rising = {call for call, order in orders.items() if order == tuple(sorted(order))}
+    same("the orders that the manual says to rise", said_to_rise(manual.sections[0], orders), rising)
+    names, *numbers = manual.said(0, r"In those of ([^.]*), (\d+) comes right after (\d+), before (\d+) and (\d+)\.")
+    late, before, *behind = (int(number) for number in numbers)
+    same("the orders in which the numbers do not rise", set(re.findall("[A-Z]+", names)), set(orders) - rising)
+    found = set()
+    for order in (orders[call] for call in set(orders) - rising):
+        place = order.index(late)
+        same(f"what {late} comes right after in {order}", order[place - 1], before)
+        found |= set(order[place + 1:])
+    same(f"what {late} comes before", found, set(behind))
     for path, wanted in ((HEADER, orders), (RUST_WRAPPER, orders), (PYTHON_WRAPPER, room_aside)):
         text = without_breaks(path)
         same(f"the orders in {path.name}", stated_refusals(text), wanted)
-        same(f"{path.name} says that the orders rise", "numbers rise" in text, rising)
+        same(f"the orders that {path.name} says to rise and that do not", said_to_rise(text, orders) - rising, set())
         COUNTS["orders stated"] += len(wanted)
 
 
@@ -1390,7 +1532,7 @@ SENTENCES = (
     (0, "A signed field has # bytes in two's complement,", (4,)),
     (0, "Tables and columns are numbered from #; rows, cells, entries, parts and levels from #.", (1, 0)),
     (0, "A refusal is a number from # to #.", (min(roskudla.REASONS), max(roskudla.REASONS))),
-    (0, "Where several refusals of a call apply, the first in the call's order in section # is given;", (7,)),
+    (0, "Where several refusals of a call apply, the first in the call's order in section # is given.", (7,)),
     (1, "A table without rows has no cells; its columns are still # to #.", (1, model.MOST_COLUMNS)),
     (1, "Refusal #: T, the columns or the rows of a table, or C is not within these limits, or the length is not exactly this.", (1,)),
     (1, "Every call that takes a tables file looks for #, then for #, before anything else.", (1, 2)),
@@ -1414,15 +1556,20 @@ SENTENCES = (
     (5, "CARD translates the parts of a rule (section #).", (6,)),
     (5, "`#` alone is an entry of kind #, and `#(x)` and `#(x, y)` are entries with their inner entries.", (5, 5, 3, 1)),
     (5, "Negating an entry replaces its kind, and in kinds # and # its comparison, by the number under Negated in section #,", (5, 6, 2)),
+    (5, "What sections # to # say of cards is the same with truth tests as without: the kinds # to #, which cards are sound, what they answer, and the length",
+     (2, 4, model.PAIR_AND, model.NOT_BLANK)),
+    (5, "Refusal #: n is over #.", (13, model.MOST_ENTRIES)),
+    (5, "Rules without parts of kinds # and # never get it.", model.INNER_TWICE),
     (5, "With any later tables file that is not refused with # or # and has the same T and the same columns,", (1, 2)),
     (5, "CARD refuses with # where the lent buffer has fewer bytes than the card,", (12,)),
     (5, "Entry # is the negated WHERE, entry # the comparison with the selected value.", (2, 3)),
     (6, "so compare parts field by field; see # in [DECISIONS.md]", (29,)),
     (6, "Fields that a kind does not use are #. In kinds # and # the right value is the selected one,", (0, model.KIND_SOME, model.KIND_ALL)),
+    (6, "A truth test is one part, of kinds # to #; the condition in its brackets is its inner part.", (model.KIND_IS_TRUE, model.KIND_IS_NOT_UNKNOWN)),
     (6, "The names and the inner parts of the kinds are in the table of section #.", (5,)),
     (6, "The list's letter is `m` again, so `m.#` is level # left of the list, and level # in SELECT and WHERE.", (1, 0, 1)),
     (7, "A C function returns #, or the number of the refusal,", (0,)),
-    (7, "Refusals # to # are about the text of a rule:", (3, 8)),
+    (7, "Refusals # to # and # are about the text of a rule:", (3, 8, 13)),
 )
 
 

@@ -12,6 +12,7 @@ A fenced block, a table, a column or an example of any other sort is a fault, an
 Exit status 0 when everything that the manual says of its examples is so on the model and on the library. The last line has the counts.
 """
 import collections
+import functools
 import itertools
 import pathlib
 import random
@@ -35,18 +36,22 @@ import model  # noqa: E402
 NAME = "docs/RULES.md"
 SEED = 20261116
 DERIVED_TEXTS = 1500
+LATER_FILES = 25
+NEVER_UNKNOWN = 150
 TRUTHS = {"T": model.TRUE, "U": model.UNKNOWN, "F": model.FALSE}
 TESTS = {"T": "1 = 1", "U": "m.1 = 1", "F": "1 = 2"}  # with these values where m.1 is blank
-READING_REFUSALS = range(1, 9)
+TRUTH_TESTS = tuple(f"IS{' NOT' * has_not} {word}" for word in model.TRUTH_WORDS for has_not in (False, True))
+READING_REFUSALS = (*range(1, 9), 13)
 
 # how many examples of each sort a section has to have; every section stands here
 AT_LEAST = {
-    "Start": {"values": 3},
-    "How a rule is written": {"tokens": 23, "answers": 6, "grammar": 1, "readings": 9, "limits": 7, "parts": 4},
-    "Blanks": {"values": 16, "cases": 12, "connectives": 21, "lists": 42},
+    "Start": {"values": 4},
+    "How a rule is written": {"tokens": 26, "answers": 19, "grammar": 1, "readings": 11, "limits": 8, "parts": 10, "entries": 10, "hints": 6},
+    "Blanks": {"values": 28, "cases": 12, "connectives": 21, "lists": 42, "truth tests": 18},
     "NOT IN with a blank in the list": {"values": 8},
-    "Refusals": {"refusals": 12, "answers": 43, "written instead": 8},
-    "Rules ready to use": {"ready rules": 4, "values": 7},
+    "Blanks that IS UNKNOWN does not find": {"values": 8, "worked rows": 5},
+    "Refusals": {"refusals": 13, "answers": 53, "written instead": 11, "hints": 1, "same values": 5},
+    "Rules ready to use": {"ready rules": 6, "values": 11},
 }
 WHOLE = "the manual as a whole"
 
@@ -85,6 +90,10 @@ class Model:
         """READ's parts."""
         return model.read(text, file, model.MOST_PARTS)
 
+    def entries(self, text, file):
+        """How many entries CARD's card has."""
+        return int.from_bytes(model.card(text, file, end_to_end.LONGEST_CARD)[:2], "little")
+
     def values(self, text, file):
         """JUDGE on each row of table 1."""
         return [model.judge(text, file, row) for row in range(cases.row_count(file))]
@@ -118,6 +127,10 @@ class Library:
     def parts(self, text, file):
         count, after = self.rules.read(text, file, cases.lent("READ", model.MOST_PARTS))
         return count if isinstance(count, model.Refused) else list(after[:count])
+
+    def entries(self, text, file):
+        _, after = self.rules.card(text, file, cases.lent("CARD", end_to_end.LONGEST_CARD))
+        return int.from_bytes(bytes(after[:2]), "little")
 
     def values(self, text, file):
         """JUDGE on each row of table 1; the card that CARD makes has to be sound, and RUN and LIST have to admit the rows where JUDGE says true."""
@@ -302,6 +315,24 @@ def most_open(text):
     return max(itertools.accumulate(steps))
 
 
+def entry_count(text):
+    """How many entries the card of a text would have, if it is over 192 too."""
+    return model.entry_sum(model.parts_of(condition_in(text)))
+
+
+@functools.cache
+def most_entries(parts, froms):
+    """The most entries of a condition of so many parts, with up to so many FROMs around one another, that has neither IS UNKNOWN nor IS NOT UNKNOWN: of a test
+    alone, and of NOT, AND or OR, or a list around others. No other part adds more than these."""
+    if parts == 1:
+        return entry_count(b"1 = 1")
+    around = [entry_count(b"NOT 1 = 1") - 1 + most_entries(parts - 1, froms)]
+    around += [entry_count(b"1 = 1 OR 1 = 1") - 2 + most_entries(left, froms) + most_entries(parts - 1 - left, froms) for left in range(1, parts - 1)]
+    if froms > 0:
+        around.append(entry_count(b"1 IN (SELECT 1 FROM 1 v WHERE 1 = 1)") - 1 + most_entries(parts - 1, froms - 1))
+    return max(around)
+
+
 def written_numbers(text):
     """The numbers of a text, as they are written."""
     return [number.decode() for number in re.findall(rb"-?[0-9]+", text)]
@@ -316,12 +347,19 @@ MEASURES = {
     "more `(` than `)`": (most_open, 1),
     "parts": (lambda text: part_count(condition_in(text)), 1),
     "FROMs": (lambda text: from_depth(condition_in(text)), 1),
+    "entries": (entry_count, 1),
 }
 # those that sentences of the manual state too, where a text has at most so many, or is refused with over so many
-IN_SENTENCES = ("bytes", "digits", "more `(` than `)`", "parts", "FROMs")
+IN_SENTENCES = ("bytes", "digits", "more `(` than `)`", "parts", "FROMs", "entries")
 RANGE_SENTENCE = r"(−[\d,]+) to ([\d,]+)"
 ORDER_SENTENCE = "Where several apply, the first in the order of this table is given"
-RISING_SENTENCE = "the numbers rise in it, so it is the lowest"
+EXCEPTION_SENTENCE = r"The numbers rise in it, but for (\d+), which comes right after (\d+)\."
+NOT_THE_TEXT_SENTENCE = r"Refusals (\d+) to (\d+) concern the card, the row and the room, not the text"
+FEW_ENTRIES_SENTENCE = "A rule with neither of them never has too many."
+NEVER_UNKNOWN_SENTENCES = (
+    "`(EXISTS (FROM ..)) IS UNKNOWN` is always false",
+    "So is `IS UNKNOWN` behind every condition that has only `EXISTS`, `IS NULL`, `IS NOT NULL` and truth tests, with `AND`, `OR` and `NOT`.")
+WORKED_SENTENCE = r"For member (\d+), in row (\d+), it is worked out like this:"
 TABLES_SENTENCE = r"There are (\d+) to (\d+) tables, with (\d+) to (\d+) columns and (\d+) to ([\d,]+) rows each, and at most ([\d,]+) cells in all\."
 
 
@@ -342,7 +380,7 @@ SIZES = {
 
 # words of SQL that a rule might be thought to have
 SQL_WORDS = (
-    "ANY BETWEEN LIKE TRUE FALSE UNKNOWN DECLINED DISTINCT UNIQUE OVERLAPS MATCH UNION EXCEPT INTERSECT GROUP BY HAVING ORDER ASC DESC COUNT SUM MIN MAX "
+    "ANY BETWEEN LIKE DECLINED DISTINCT UNIQUE OVERLAPS MATCH UNION EXCEPT INTERSECT GROUP BY HAVING ORDER ASC DESC COUNT SUM MIN MAX "
     "AVG CASE WHEN THEN ELSE END CAST COALESCE NULLIF VALUES TABLE JOIN ON USING AS CROSS INNER OUTER LEFT RIGHT FULL NATURAL LIMIT DATE CURRENT XOR").split()
 
 
@@ -457,8 +495,26 @@ def damaged(draw, tokens):
 ROW_HEADING = re.compile(r"row (\d+)")
 FILE_HEADING = "Tables file, in hexadecimal"
 # the columns of a table with a column "Rule": what is tried, and what is explanation
-RULE_COLUMNS = ("Rule", "Case", "Answer", "Parts", "Is read as", "Not as", "Write instead", FILE_HEADING)  # and "row 0", "row 1", ..
+FEWER_HEADING = "Same values, fewer entries"
+RULE_COLUMNS = ("Rule", "Case", "Answer", "Parts", "Entries", "Is read as", "Not as", "Write instead", FEWER_HEADING, FILE_HEADING)  # and "row 0", "row 1", ..
 EXPLANATIONS = ("In words", "Why", "Why, and what to do")
+
+
+def never_unknown(draw, maker, size):
+    """Tokens of a condition of EXISTS, IS NULL, IS NOT NULL and truth tests, whatever is inside them, joined by AND, OR and NOT."""
+    scope = [("m", 1)]
+    sort = draw.choice(("exists", "exists", "null", "truth", "not", "pair", "pair") if size > 1 else ("exists", "exists", "null", "truth"))
+    if sort == "exists":
+        source, inner_scope = maker.row_source(scope)
+        return ["EXISTS", "("] + source + maker.condition(inner_scope, draw.choice([1, 2]), 1) + [")"]
+    if sort == "null":
+        return maker.value(scope) + draw.choice([["IS", "NULL"], ["IS", "NOT", "NULL"]])
+    if sort == "truth":
+        return ["("] + maker.condition(scope, draw.choice([1, 2]), 1) + [")"] + generate.truth_ending(draw)
+    if sort == "not":
+        return ["NOT", "("] + never_unknown(draw, maker, size - 1) + [")"]
+    left, right = (never_unknown(draw, maker, size - 1) for _ in range(2))
+    return ["("] + left + [draw.choice(["AND", "OR"])] + right + [")"]
 
 
 class Manual:
@@ -470,10 +526,11 @@ class Manual:
         self.section, self.sections = WHOLE, []
         self.file, self.first_file, self.rule = b"", b"", None
         self.letters, self.comparisons = set(), ()
-        self.most, self.refused, self.fronts, self.order = {}, set(), set(), []
+        self.most, self.refused, self.fronts, self.bracketed, self.order = {}, set(), set(), set(), []
+        self.worked_row, self.worked_rows = None, []
         self.sorts = {
-            "Token": self.try_tokens, "Limit": self.try_limits, "In front": self.try_connectives,
-            "Values in the list": self.try_lists, "Refusal": self.try_refusals}
+            "Token": self.try_tokens, "Limit": self.try_limits, "In front": self.try_connectives, "In the brackets": self.try_truth_tests,
+            "Values in the list": self.try_lists, "Row of table 2": self.try_worked_rows, "Refusal": self.try_refusals}
 
     def fault(self, line, what):
         self.faults.append(f"{NAME}:{line}: {what}")
@@ -513,6 +570,8 @@ class Manual:
         self.tried(1, "sentences", self.try_sentences)
         self.tried(1, "sentences", self.try_order)
         self.tried(1, "sentences", self.try_tables_sentence)
+        self.tried(1, "sentences", self.try_few_entries)
+        self.tried(1, "sentences", self.try_never_unknown)
         for target in re.findall(r"\]\(([^)]+)\)", self.text):
             self.tried(1, "links", self.try_link, target)
         self.demand()
@@ -528,6 +587,8 @@ class Manual:
             self.try_fence(block)
         elif isinstance(block, Table):
             self.try_table(block)
+        elif isinstance(block, Text) and re.fullmatch(WORKED_SENTENCE, block.text):
+            self.tried(block.line, "worked", self.take_worked_row, *re.fullmatch(WORKED_SENTENCE, block.text).groups())
 
     def try_fence(self, fence):
         if fence.info == "tables":
@@ -571,7 +632,7 @@ class Manual:
         unknown = [heading for heading in table.headings if heading not in RULE_COLUMNS + EXPLANATIONS and heading not in rows]
         if unknown or rows != [f"row {number}" for number in range(len(rows))]:
             self.fault(table.line, f"columns of no known sort: {unknown or rows}")
-        if not (rows or {"Answer", "Parts", "Is read as"} & set(table.headings)):
+        if not (rows or {"Answer", "Parts", "Entries", "Is read as", FEWER_HEADING} & set(table.headings)):
             self.fault(table.line, "nothing is said of these rules")
         for line, cells in table.rows:
             if rows:
@@ -582,6 +643,12 @@ class Manual:
                 self.tried(line, "answers", self.try_answer, cells)
             if "Parts" in cells:
                 self.tried(line, "parts", self.try_parts, cells)
+            if "Entries" in cells:
+                self.tried(line, "entries", self.try_entries, cells)
+            if FEWER_HEADING in cells:
+                self.tried(line, "same values", self.try_same_values, cells)
+            for hint in re.findall(f"\\bwrite ({CODE})", cells.get("Why", "") + cells.get("Why, and what to do", "")):
+                self.tried(line, "hints", self.try_hint, hint[0])
             if "Is read as" in cells:
                 self.tried(line, "readings", self.try_reading, cells)
             if "Write instead" in cells:
@@ -603,8 +670,9 @@ class Manual:
         text = text_of(cells["Rule"])
         self.answers(text, file, refusal)
         self.refused.add(refusal)
-        for number, name in re.findall(r"(\d+) (more|parts)", cells.get("Why, and what to do", "")):
-            compare.same(f"what is said of {text}: {name}", int(number), MEASURES["more `(` than `)`" if name == "more" else name][0](text))
+        for number, name in re.findall(r"(\d+) (more|parts|entry|entries)", cells.get("Why, and what to do", "")):
+            measure = {"more": "more `(` than `)`", "entry": "entries"}.get(name, name)
+            compare.same(f"what is said of {text}: {name}", int(number), MEASURES[measure][0](text))
 
     def try_instead(self, cells):
         self.answers(text_of(cells["Write instead"]), self.file, None)
@@ -613,6 +681,28 @@ class Manual:
         text = text_of(cells["Rule"])
         self.answers(text, self.file, None)
         self.each(text, lambda judge: len(judge.parts(text, self.file)), int(cells["Parts"]))
+
+    def try_entries(self, cells):
+        text = text_of(cells["Rule"])
+        self.answers(text, self.file, None)
+        self.each(text, lambda judge: judge.entries(text, self.file), int(cells["Entries"]))
+
+    def try_hint(self, written):
+        """A rule that is to be written instead of another; it is accepted."""
+        self.answers(text_of(written), self.file, None)
+
+    def try_same_values(self, cells):
+        """Two rules with the same values on the section's tables and on others with the same columns, of which the second has fewer entries."""
+        draw, text, other = random.Random(SEED), text_of(cells["Rule"]), text_of(cells[FEWER_HEADING])
+        columns = model.tables_of(self.file).columns
+        for file in [self.file] + [generate.later_tables(draw, columns) for _ in range(LATER_FILES)]:
+            for judge in self.judges:
+                values = judge.values(text, file)
+                if values != judge.values(other, file):
+                    raise Fault(f"{judge.name} gives {text} the values {values}, and {other} others, with {model.tables_of(file)}")
+        for judge in self.judges:
+            if judge.entries(other, self.file) >= judge.entries(text, self.file):
+                raise Fault(f"{judge.name}: {other} does not have fewer entries than {text}")
 
     def try_reading(self, cells):
         """Two rules with the same parts, and one with others."""
@@ -696,6 +786,43 @@ class Manual:
             self.tried(line, "connectives", self.values, text.encode(), file, [cells.get(heading)])
         self.fronts.add(cells["In front"])
 
+    def try_truth_tests(self, line, cells):
+        """What a truth test says of the value in its brackets, on a row whose column is blank."""
+        file = generate.tables_file([(1, [[None]])])
+        inside = cells["In the brackets"]
+        if {f"`{ending}`" for ending in TRUTH_TESTS} != set(cells) - {"In the brackets"}:
+            self.fault(line, f"not the six truth tests: {sorted(cells)}")
+        for ending in TRUTH_TESTS:
+            text = f"({TESTS.get(inside, '')}) {ending}"
+            self.tried(line, "truth tests", self.values, text.encode(), file, [cells.get(f"`{ending}`")])
+        self.bracketed.add(inside)
+
+    def take_worked_row(self, member, row):
+        """The judged row that the next table works out."""
+        self.worked_row, self.worked_rows = model.tables_of(self.file).rows_of(1)[int(row)], []
+        compare.same("the member in the worked row", self.worked_row[0], int(member))
+
+    def try_worked_rows(self, line, cells):
+        self.tried(line, "worked rows", self.try_worked, cells)
+
+    def try_worked(self, cells):
+        """A row of table 2 with the judged row: the value of each condition, which joined by AND are the WHERE of a rule of the manual, and whether the row is
+        retained. The rows are those of table 2, in their order."""
+        tables = model.tables_of(self.file)
+        row = [cell_from(cell) for cell in cells["Row of table 2"].strip("()").split(", ")]
+        self.worked_rows.append(row)
+        compare.same("the rows of table 2 so far", self.worked_rows, tables.rows_of(2)[:len(self.worked_rows)])
+        conditions = {heading: code_in(heading)[0] for heading in cells if code_in(heading)}
+        conditions["`WHERE`"] = where = " AND ".join(condition for condition in conditions.values() if condition != "WHERE")
+        if f"`EXISTS (FROM 2 w WHERE {where})`" not in self.text:
+            raise Fault(f"the manual has no EXISTS with the WHERE {where}")
+        file = generate.tables_file([(tables.columns[0], [self.worked_row]), (tables.columns[1], [row])])
+        for heading, condition in conditions.items():
+            for letter, truth in TRUTHS.items():
+                self.values(f"EXISTS (FROM 2 w WHERE ({condition}) IS {truth.upper()})".encode(), file, ["T" if letter == cells[heading] else "F"])
+            truth_from(cells[heading])
+        self.values(f"EXISTS (FROM 2 w WHERE {where})".encode(), file, {"yes": "T", "no": "F"}[cells["Retained"]])
+
     def try_lists(self, line, cells):
         """The test that a heading begins, with a list of these values, on a row whose column is blank."""
         written = cells["Values in the list"]
@@ -720,13 +847,14 @@ class Manual:
 
     def try_grammar(self, lines):
         """Drawn conditions of the manual's grammar are conditions, those of the tests' own generator are in the manual's grammar, and of damaged ones
-        exactly those that are not in it are refused with 6."""
+        exactly those that are not in it are refused with 6; those with a truth test in a wrong place are not in it."""
         grammar, draw = Grammar(lines, self.comparisons), random.Random(SEED)
-        maker = generate.RuleMaker(draw, [2, 1, 1])
+        makers = [generate.RuleMaker(draw, [2, 1, 1], truths=truths) for truths in (0, .25)]
         seen = collections.Counter()
         for _ in range(DERIVED_TEXTS):
-            own, made = grammar.derived(draw, "condition", draw.randint(4, 12)), maker.rule(draw.choice([1, 2, 3, 4]))
-            for sort, tokens in (("own", own), ("made", made), ("damaged", damaged(draw, own)), ("damaged", damaged(draw, made))):
+            own, made = grammar.derived(draw, "condition", draw.randint(4, 12)), draw.choice(makers).rule(draw.choice([1, 2, 3, 4]))
+            misplaced = generate.misplaced_truth(draw, [2, 1, 1])
+            for sort, tokens in (("own", own), ("made", made), ("damaged", damaged(draw, own)), ("damaged", damaged(draw, made)), ("misplaced", misplaced)):
                 if len(tokens) > 60:
                     continue
                 text = " ".join(tokens).encode()
@@ -736,9 +864,12 @@ class Manual:
                     if refusal in (4, 5) or (refusal == 6) == in_grammar:
                         raise Fault(f"{text}: {judge.name} says {refusal}, and by the manual it is {'a' if in_grammar else 'no'} condition")
                 seen[sort, in_grammar] += 1
+                seen.update((sort, "truth test") for word in model.TRUTH_WORDS if in_grammar and word in tokens)
         compare.same("conditions that the manual's own grammar does not hold", seen["own", False], 0)
         compare.same("conditions that the manual's grammar does not hold", seen["made", False], 0)
-        compare.demand("the grammar", seen, {"own": (True,), "made": (True,), "damaged": (True, False)})
+        compare.same("faults about truth tests that the manual's grammar holds", seen["misplaced", True], 0)
+        compare.demand("the grammar", seen, {
+            "own": (True, "truth test"), "made": (True, "truth test"), "damaged": (True, False, "truth test"), "misplaced": (False,)})
 
     # ---- the manual as a whole
 
@@ -754,12 +885,22 @@ class Manual:
         compare.same("the range of numbers", set(ends), {(self.most["smallest number"], self.most["largest number"])})
 
     def try_order(self):
-        """The table of refusals has those of every call, in the order of every call; it is said that they rise exactly where they do."""
+        """The table of refusals has those of every call, in the order of every call. Only where they rise it is said that the lowest is given, and else which
+        one does not rise, and what it comes after."""
         compare.same("the refusals of the table", sorted(self.order), sorted(set(itertools.chain(*cases.REFUSALS_OF.values()))))
         for call, refusals in cases.REFUSALS_OF.items():
             compare.same(f"the order of {call}", tuple(number for number in self.order if number in refusals), refusals)
         compare.same(f"the order is said once: {ORDER_SENTENCE}", self.text.count(ORDER_SENTENCE), 1)
-        compare.same(f"it is said: {RISING_SENTENCE}", RISING_SENTENCE in self.text, self.order == sorted(self.order))
+        rising = self.order == sorted(self.order)
+        compare.same("it is said that the lowest is given", "lowest" in self.text, rising)
+        exceptions = re.findall(EXCEPTION_SENTENCE, self.text)
+        compare.same("sentences on the number that does not rise", len(exceptions), 0 if rising else 1)
+        for late, before in exceptions:
+            others = [number for number in self.order if number != int(late)]
+            compare.same(f"the numbers but for {late}", others, sorted(others))
+            compare.same(f"what {late} comes after", self.order[self.order.index(int(late)) - 1], int(before))
+        first, last = re.search(NOT_THE_TEXT_SENTENCE, self.text).groups()
+        compare.same("the refusals that do not concern the text", set(range(int(first), int(last) + 1)), set(self.order) - set(READING_REFUSALS))
 
     def try_tables_sentence(self):
         """The limits of tables, from both sides."""
@@ -769,6 +910,34 @@ class Manual:
         for name, least, most in (("tables", *numbers[:2]), ("columns", *numbers[2:4]), ("rows", *numbers[4:6]), ("cells", 0, numbers[6])):
             for count in {least - 1, least, most, most + 1} - {-1}:
                 self.answers(b"1 = 1", cases.zero_tables(SIZES[name](count)), None if least <= count <= most else 1)
+
+    def try_few_entries(self):
+        """Without IS UNKNOWN and IS NOT UNKNOWN a rule has at most 192 entries; one that has as many as there can be is accepted."""
+        compare.same(f"it is said once: {FEW_ENTRIES_SENTENCE}", self.text.count(FEW_ENTRIES_SENTENCE), 1)
+        parts, froms = self.most["parts"], self.most["FROMs"]
+        most = max(most_entries(count, froms) for count in range(1, parts + 1))
+        if most > self.most["entries"]:
+            raise Fault(f"a rule with neither may have {most} entries")
+        lists = b"1 IN (SELECT 1 FROM 1 v WHERE " * froms + b"1 = 1" + b")" * froms
+        text = b" OR ".join([lists] * ((parts + 1) // (froms + 2)))
+        compare.same("the parts and entries of the largest rule", (part_count(condition_in(text)), entry_count(text)), (parts, most))
+        self.each(text, lambda judge: judge.entries(text, self.file), most)
+
+    def try_never_unknown(self):
+        """Conditions that are said to be never unknown, alone and with IS UNKNOWN behind them, on drawn tables."""
+        for sentence in NEVER_UNKNOWN_SENTENCES:
+            compare.same(f"it is said once: {sentence}", self.text.replace("\n", " ").count(sentence), 1)
+        draw, seen = random.Random(SEED), collections.Counter()
+        maker = generate.RuleMaker(draw, [2, 1, 1], truths=.15)
+        for number in range(NEVER_UNKNOWN):
+            condition = generate.spaced(draw, never_unknown(draw, maker, 1 if number % 3 == 0 else 3))
+            file = generate.filled_tables(draw, [(2, 3), (1, 2), (1, 1)], .5)
+            for judge in self.judges:
+                values = judge.values(condition, file)
+                seen.update(values)
+                compare.same(f"{condition} is never unknown by {judge.name}", [value for value in values if value not in (model.TRUE, model.FALSE)], [])
+                compare.same(f"{condition} with IS UNKNOWN behind it", judge.values(b"(" + condition + b") IS UNKNOWN", file), [model.FALSE] * len(values))
+        compare.same("the values of what is never unknown", set(seen), {model.TRUE, model.FALSE})
 
     def try_link(self, target):
         """A link to a file that is there, or to a heading of the manual."""
@@ -787,8 +956,9 @@ class Manual:
                     self.fault(1, f"section {section}: {self.counts[section][sort]} {sort}, and there should be {least}")
         if not self.refused >= set(READING_REFUSALS):
             self.fault(1, f"no example of refusals {sorted(set(READING_REFUSALS) - self.refused)}")
-        if self.fronts != set(TESTS):
-            self.fault(1, f"of the truth values, {sorted(self.fronts)} alone stand in front of AND, OR and NOT")
+        for place, letters in (("in front of AND, OR and NOT", self.fronts), ("in the brackets of a truth test", self.bracketed)):
+            if letters != set(TESTS):
+                self.fault(1, f"of the truth values, {sorted(letters)} alone stand {place}")
 
 
 def faults_of(text, judges):

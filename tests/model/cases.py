@@ -1,4 +1,7 @@
-"""Cases of the six calls, with the model's answers: random draws, and targeted cases at the limits of document 01."""
+"""Cases of the six calls, with the model's answers: random draws, and targeted cases at the limits of document 01.
+
+The truth tests of document 02's Point 1 are among them.
+"""
 import itertools
 from dataclasses import dataclass
 
@@ -124,8 +127,11 @@ def drawn_text(random, call, columns):
     """A text for READ, JUDGE or CARD: more often a right one for the calls that answer more."""
     if random.random() < .01:
         return bytes([random.choice(b" \n(@")]) * random.choice([4096, 4097, 5000])
+    if random.random() < .02:
+        return generate.rule_near_sum(random, columns)
     if random.random() < {"READ": .45, "JUDGE": .8, "CARD": .75}[call]:
-        return generate.short_rule(random, columns, [1, 1, 2, 2, 3, 4, 5], 140, wild=random.choice([0, 0, 0, .05, .15]))
+        wild, truths = random.choice([0, 0, 0, .05, .15]), random.choice([0, .1, .3])
+        return generate.short_rule(random, columns, [1, 1, 2, 2, 3, 4, 5], 140, wild, truths)
     return generate.damaged_text(random, columns)
 
 
@@ -161,7 +167,7 @@ def drawn_card(random, columns, bad):
         return generate.random_card(random, columns, bad)
     file = generate.tables_file([(count, []) for count in columns])
     while True:
-        text = generate.short_rule(random, columns, [1, 1, 2, 3, 4], 140)
+        text = generate.short_rule(random, columns, [1, 1, 2, 3, 4], 140, truths=random.choice([0, .2]))
         sheet = model.card(text, file, 250)
         if not isinstance(sheet, model.Refused):
             return sheet
@@ -213,7 +219,7 @@ def drawn_truths(random, count):
             columns = random.choice([1, 2, 3])
             rows = [[random.choice(cells) for _ in range(columns)] for _ in range(random.choice([1, 2, 3]))]
             tables.append((columns, rows))
-        text = generate.short_rule(random, [columns for columns, _ in tables], [1, 2, 3, 5], 250)
+        text = generate.short_rule(random, [columns for columns, _ in tables], [1, 2, 3, 5], 250, truths=random.choice([0, .2]))
         case = Case("JUDGE", text, generate.tables_file(tables), row=random.randrange(len(tables[0][1])))
         truth = expected(case).result
         if missing.get(truth, 0) > 0:
@@ -255,6 +261,19 @@ TRAP_TEXTS = (
     b"1=1 OR", b"OR 1=1", b"1=1 1=1", b"1 OR 1", b"NOT", b"NOT NOT 1=1", b"1=1 OR 1=1 OR 1=1", b"1=1 OR (1=1 OR 1=1)",
     b"1=1 AND 2=2 AND 3=3", b"1=1 AND 2=2 OR 3=3 AND 4=4 OR 5=5", b"1 = 1 AND (2 = 2 OR NOT (3 = 3))", b"1=1 WHERE",
     b"1=1 OR x",
+    # truth tests
+    b"(1=1) IS TRUE", b"(1=1)IS TRUE", b"(1=1) ISTRUE", b"(1=1) IS NOTTRUE", b"(1=1) IS\nNOT\nTRUE", b"(1=1) IS NOT NOT TRUE",
+    b"(1=1) NOT IS TRUE", b"(1=1) IS", b"(1=1) IS NOT", b"(1=1) TRUE", b"(1=1) = TRUE", b"(1=1) IS NULL", b"(1=1) IS NOT NULL",
+    b"(1=1) IS TRUE IS TRUE", b"((1=1) IS TRUE) IS TRUE", b"(1=1) IS TRUE = 1", b"((1=1) IS TRUE) = 1", b"(1=1) IS TRUE NULL",
+    b"1=1 IS TRUE", b"(1=1 IS TRUE)", b"1 IS TRUE", b"m.1 IS UNKNOWN", b"m.1 IS NOT FALSE", b"(m.1) IS TRUE", b"() IS TRUE",
+    b"m.1 IS NULL IS TRUE", b"(m.1 IS NULL) IS NOT FALSE", b"IS TRUE", b"TRUE", b"NOT TRUE", b"(TRUE)", b"(TRUE) IS TRUE",
+    b"1 = TRUE", b"m.UNKNOWN = 1", b"(1=1) IS UNKNOW", b"(1=1) IS UNKNOWNS", b"(1=1) IS true", b"(1=1) IS T",
+    b"EXISTS (FROM 1 v WHERE 1=1) IS TRUE", b"(EXISTS (FROM 1 v WHERE 1=1)) IS TRUE", b"EXISTS (FROM 1 v WHERE (v.2=1) IS UNKNOWN)",
+    b"EXISTS (FROM 1 v WHERE v.2=1 IS UNKNOWN)", b"m.1 IN (SELECT 1 FROM 1 v WHERE 1=1) IS TRUE",
+    b"(m.1 IN (SELECT 1 FROM 1 v WHERE 1=1)) IS UNKNOWN", b"m.1 IN (SELECT 1 FROM 1 v WHERE 1=1) IS NULL",
+    b"m.1 IN (SELECT (1=1) IS TRUE FROM 1 v WHERE 1=1)", b"NOT (1=1) IS FALSE", b"(NOT 1=1) IS FALSE", b"NOT (NOT 1=1) IS FALSE",
+    b"NOT NOT (m.2=1) IS NOT UNKNOWN", b"1=1 AND (1=1) IS TRUE OR 1=1", b"(1=1 OR m.2=1) IS UNKNOWN AND 1=1", b"((m.2=1)) IS FALSE",
+    b"((m.2=1) IS UNKNOWN)", b"(m.2=1) IS UNKNOWN OR", b"(k.1=1) IS TRUE", b"(m.3=1) IS TRUE", b"(1=1) IS TRUE)", b"((1=1) IS TRUE",
 )
 
 
@@ -271,6 +290,108 @@ def trap_cases():
     return cases
 
 
+TRUTH_ENDINGS = (b" IS TRUE", b" IS NOT TRUE", b" IS FALSE", b" IS NOT FALSE", b" IS UNKNOWN", b" IS NOT UNKNOWN")
+TESTED_CONDITIONS = (
+    b"m.2 > 0", b"m.2 > 0 OR NOT m.1 < 0", b"m.1 NOT IN (SELECT v.1 FROM 2 v WHERE 1=1)", b"(m.2 > 0) IS UNKNOWN AND m.1 = 1",
+    b"m.1 = SOME (SELECT v.1 FROM 2 v WHERE v.1 = 1)", b"EXISTS (FROM 2 v WHERE v.1 = m.1)")
+AROUND_TRUTH_TESTS = (
+    b"%s", b"NOT %s", b"(%s) IS NOT FALSE", b"EXISTS (FROM 1 m WHERE NOT %s)",
+    b"m.1 <> ALL (SELECT k.1 FROM 1 k WHERE %s)", b"NOT -2 = SOME (SELECT m.1 FROM 1 m WHERE %s)")
+
+
+def truth_test_cases():
+    """The six truth tests over several conditions and within several others: their parts, values and cards."""
+    cases = []
+    for ending, condition in itertools.product(TRUTH_ENDINGS, TESTED_CONDITIONS):
+        test = b"(" + condition + b")" + ending
+        cases.append(fitting("READ", test, SOME_TABLES))
+        for around in AROUND_TRUTH_TESTS:
+            cases.append(Case("JUDGE", around % test, SOME_TABLES, row=len(cases) % 3))
+            if condition == TESTED_CONDITIONS[0]:
+                cases.append(fitting("CARD", around % test, SOME_TABLES))
+    return cases
+
+
+def nested_truths(count, text=b"1=1", ending=b" IS UNKNOWN"):
+    """A condition within as many truth tests of one sort, around one another."""
+    return b"(" * count + text + (b")" + ending) * count
+
+
+def sub_exists(text):
+    """EXISTS over table 2, which adds 1 to the sum of its WHERE."""
+    return b"EXISTS(FROM 2 v WHERE " + text + b")"
+
+
+# A condition of sum 189: 127 + 31 + 15 + 7 + 3 + 1 under five ORs
+SUM_189 = b" OR ".join(nested_truths(count) for count in (6, 4, 3, 2, 1, 0))
+
+# Texts with the sum of entries, worked out by hand
+STATED_SUMS = (
+    (b"1=1", 1),
+    (b"(1=1) IS TRUE", 1),
+    (b"(1=1) IS UNKNOWN", 3),
+    (b"(1=1) IS NOT UNKNOWN", 3),
+    (b"NOT (NOT 1=1) IS NOT UNKNOWN", 3),
+    (b"(1=1 OR 2=2) IS UNKNOWN AND 3=3", 9),
+    (b"(1 NOT IN (SELECT 1 FROM 2 v WHERE (1=1) IS UNKNOWN)) IS UNKNOWN", 13),
+    (nested_truths(5), 63),
+    (nested_truths(6), 127),
+    (nested_truths(6, ending=b" IS NOT UNKNOWN"), 127),
+    (nested_truths(7), 255),
+    (nested_truths(7, ending=b" IS NOT UNKNOWN"), 255),
+    (nested_truths(8), 511),
+    # kinds 10 to 13 add nothing, however many
+    (nested_truths(32, ending=b" IS TRUE"), 1),
+    (nested_truths(32, ending=b" IS NOT TRUE"), 1),
+    (nested_truths(32, ending=b" IS FALSE"), 1),
+    (nested_truths(32, ending=b" IS NOT FALSE"), 1),
+    (nested_truths(6, nested_truths(20, ending=b" IS FALSE")), 127),
+    (nested_truths(20, nested_truths(6), b" IS NOT FALSE"), 127),
+    (nested_truths(20, nested_truths(7), b" IS NOT TRUE"), 255),
+    # up to 192 and over it
+    (nested_truths(6, sub_exists(b"1=1")), 191),
+    (nested_truths(5, b"1=1 AND 2=2 AND 3=3"), 191),
+    (SUM_189, 189),
+    (SUM_189 + b" OR 1=1", 191),
+    (SUM_189 + b" OR " + sub_exists(b"1=1"), 192),
+    (SUM_189 + b" OR (1=1) IS UNKNOWN", 193),
+    (SUM_189 + b" OR NOT (1=1) IS NOT FALSE", 191),
+    (sub_exists(nested_truths(6, sub_exists(b"1=1"))), 192),
+    (b"NOT " + sub_exists(nested_truths(6, sub_exists(b"1=1"))), 192),
+    (nested_truths(4, sub_exists(nested_truths(6, sub_exists(b"1=1"))), b" IS FALSE"), 192),
+    (sub_exists(sub_exists(nested_truths(6, sub_exists(b"1=1")))), 193),
+    (nested_truths(6, sub_exists(b"1=1")) + b" AND 1=1", 193),
+    (nested_truths(6, sub_exists(sub_exists(b"1=1"))), 255),
+    (b"1 IN (SELECT 1 FROM 2 v WHERE " + SUM_189 + b")", 192),
+    (b"1 NOT IN (SELECT 1 FROM 2 v WHERE " + SUM_189 + b")", 192),
+    (b"1 < ALL (SELECT 1 FROM 2 v WHERE " + SUM_189 + b" OR 1=1)", 194),
+    (sub_exists(b"1 > SOME (SELECT 1 FROM 2 v WHERE " + SUM_189 + b")"), 193),
+    (nested_truths(5) + b" OR " + nested_truths(6), 191),
+    (nested_truths(6) + b" OR " + nested_truths(6), 255),
+    # what is left of the sum in 8, 16 and 32 bits is at most 192
+    (nested_truths(7) + b" OR 1=1", 2**8 + 1),
+    (nested_truths(15) + b" OR 1=1", 2**16 + 1),
+    (b"1=1 AND " + nested_truths(31), 2**32 + 1),
+    (nested_truths(32), 2**33 - 1),
+    (nested_truths(32) + b" OR 1=1", 2**33 + 1),
+)
+
+
+def truth_sum_cases():
+    """Sums around 192 and far over it, with a row that is absent, with no room, and with just as much as the card takes."""
+    cases = []
+    for text, total in STATED_SUMS:
+        cases += [fitting("READ", text, SOME_TABLES), Case("JUDGE", text, SOME_TABLES, row=3), Case("CARD", text, SOME_TABLES)]
+        if 189 <= total <= 192:
+            cases.append(Case("JUDGE", text, SOME_TABLES, row=0))
+        if total == 192:
+            cases += [fitting("CARD", text, SOME_TABLES, more) for more in (-1, 0)]
+    for text in (nested_truths(7, b"k.1=1"), nested_truths(7, b"1=1 OR k.1=1"), nested_truths(7) + b" OR", nested_truths(7) + b" @",
+                 nested_truths(33), nested_truths(32, b"(1=1)"), nested_truths(7) + b" OR 1=1" * 28, nested_truths(7) + b" OR 1=1" * 29):
+        cases += [fitting("READ", text, SOME_TABLES), Case("JUDGE", text, SOME_TABLES, row=3), Case("CARD", text, SOME_TABLES)]
+    return cases
+
+
 def bracket_cases():
     """Opening less closing brackets around 32, also where the difference was below 0 before."""
     texts = []
@@ -283,6 +404,7 @@ def bracket_cases():
             b"1=1 OR" + b"(" * opened + b"1=1" + b")" * before + b"(" * before + b")" * opened,
             b"EXISTS(FROM 1 v WHERE " + b"(" * (opened - 1) + b"1=1" + b")" * opened + b")" * before,
             b"1 IN(SELECT 1 FROM 1 v WHERE " + b"(" * (opened - 1) + b"1=1" + b")" * opened + b")" * before,
+            b"(" * opened + b"1=1" + b")IS FALSE" * opened + b")" * before,
         ]
     return [fitting("READ", text, SOME_TABLES) for text in texts]
 
@@ -294,7 +416,11 @@ def part_limit_cases():
         chain = word.join([b"1=1"] * count)
         texts += [chain + tail for tail in (b"", b" OR", b" @", b")", b" OR k.1=1", b" OR NOT 1=1")]
     for count in (62, 63, 64, 200):
-        texts += [b"NOT " * count + tail for tail in (b"1=1", b"", b"k.1=1", b"m.1 IS NOT NULL")]
+        texts += [b"NOT " * count + tail for tail in (b"1=1", b"", b"k.1=1", b"m.1 IS NOT NULL", b"(1=1) IS TRUE")]
+    for count in (30, 31, 32):
+        texts += [b" OR ".join([b"1=1"] * count) + tail for tail in (b" OR (1=1) IS TRUE", b" OR (1=1) IS UNKNOWN")]
+    for count in (21, 22):
+        texts.append(b" AND ".join([b"(1=1) IS NOT FALSE"] * count))
     cases = [fitting("READ", text, SOME_TABLES) for text in texts]
     cases += [fitting("CARD", b"NOT " * count + b"m.2 < 5", SOME_TABLES) for count in (62, 63, 64)]
     cases += [fitting("CARD", b" OR ".join([b"1=1"] * count), SOME_TABLES) for count in (32, 33)]
@@ -464,8 +590,10 @@ def columns_cases():
 # ---- targeted cases: several refusals at once
 
 def text_refused_with(refusals):
-    """A text to which these of the refusals 3 to 8 apply."""
+    """A text to which these of the refusals 3 to 8 and 13 apply."""
     text = b"k.1=1" if 8 in refusals else b"1=1"
+    if 13 in refusals:
+        text = nested_truths(7, text)
     if 7 in refusals:
         text += b" OR 1=1" * 32
     if 6 in refusals:
@@ -506,10 +634,11 @@ def refusal_set_case(call, refusals):
     return Case(call, source, file, buffer=lent(call, room))
 
 
+# The refusals of each call, in the order in which they go before one another
 REFUSALS_OF = {
-    "READ": (1, 2, 3, 4, 5, 6, 7, 8, 12),
-    "JUDGE": (1, 2, 3, 4, 5, 6, 7, 8, 11),
-    "CARD": (1, 2, 3, 4, 5, 6, 7, 8, 12),
+    "READ": (1, 2, 3, 4, 5, 6, 7, 8, 13, 12),
+    "JUDGE": (1, 2, 3, 4, 5, 6, 7, 8, 13, 11),
+    "CARD": (1, 2, 3, 4, 5, 6, 7, 8, 13, 12),
     "CHECK": (9,),
     "RUN": (1, 2, 9, 10, 11),
     "LIST": (1, 2, 9, 10, 12),
@@ -531,5 +660,5 @@ def refusal_set_cases(random):
 
 def targeted(random):
     """All targeted cases."""
-    return (trap_cases() + bracket_cases() + part_limit_cases() + text_length_cases() + table_limit_cases()
-            + card_byte_cases() + card_limit_cases() + row_number_cases() + columns_cases() + refusal_set_cases(random))
+    return (trap_cases() + truth_test_cases() + truth_sum_cases() + bracket_cases() + part_limit_cases() + text_length_cases()
+            + table_limit_cases() + card_byte_cases() + card_limit_cases() + row_number_cases() + columns_cases() + refusal_set_cases(random))

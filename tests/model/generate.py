@@ -1,4 +1,4 @@
-"""Random rules, tables and cards, right and damaged, over the grammar and the layouts of document 01.
+"""Random rules, tables and cards, right and damaged, over the grammar and the layouts of document 01, with document 02's truth tests.
 
 Every function takes a random.Random first, so that a seed fixes what is drawn. Rules are drawn as lists of written tokens,
 and `spaced` makes a text of them.
@@ -12,9 +12,11 @@ EDGE_CELLS = (-2**31, 2**31 - 1, 2**31 - 2, 255, 256, 65536, -256)
 LOOSE_TOKENS = tuple(sorted(model.WORDS)) + SIGNS + (
     "(", ")", ".", "m", "v", "1", "2", "-1", "m", "1", "(", ")")
 NO_TOKENS = (
-    "AN", "NOTNOT", "ANDOR", "ISNULL", "A", "@", "\t", "\r", "\x00", "\xff", "-", "--1", "2147483648", "-2147483649",
+    "AN", "NOTNOT", "ANDOR", "ISNULL", "ISTRUE", "NOTFALSE", "UNKNOW", "TRUES", "A", "@", "\t", "\r", "\x00", "\xff", "-", "--1", "2147483648", "-2147483649",
     "00000000001", "12345678901", "==", "!=", ",", "+1", "[", "Z", "`", "{", "/", ":", "'")
-TEXT_BYTES = b"ANDORTISEXULFMW mv.12-0()<>=\n 19"
+TEXT_BYTES = b"ANDORTISEXULFMWK mv.12-0()<>=\n 19"
+# Sums of entries around the limit of 192, and some that eight bits would not hold
+NEAR_SUMS = (63, 127, 188, 189, 190, 191, 191, 192, 192, 192, 193, 193, 193, 194, 195, 196, 255, 257, 300, 511)
 
 
 def chance(random, probability):
@@ -32,6 +34,11 @@ def number_token(random):
     return str(random.randint(-2**31, 2**31 - 1))
 
 
+def truth_ending(random, words=model.TRUTH_WORDS):
+    """What makes a truth test of a bracketed condition, with one of the words."""
+    return ["IS"] + random.choice([[], ["NOT"]]) + [random.choice(words)]
+
+
 # ---- rules
 
 class RuleMaker:
@@ -40,10 +47,11 @@ class RuleMaker:
     `quantified`: whether SOME and ALL are drawn beside IN and NOT IN. `wild`: how often a name is drawn that may be absent.
     `constants`: how often a value is a number. `outer`: how often a column's letter is any that is bound, and not surely the
     innermost. `even`: whether the tests without a FROM are drawn alike in all places; otherwise, where no FROM may follow, most
-    of them are IS NULL. A scope is a list of letters and the tables that they range over, the innermost last.
+    of them are IS NULL. `truths`: how often a factor is a truth test, below 1. A scope is a list of letters and the tables that
+    they range over, the innermost last.
     """
 
-    def __init__(self, random, columns, quantified=True, wild=0.0, deepest=3, constants=.3, outer=.5, even=False):
+    def __init__(self, random, columns, quantified=True, wild=0.0, deepest=3, constants=.3, outer=.5, even=False, truths=0.0):
         self.random = random
         self.columns = columns
         self.quantified = quantified
@@ -52,6 +60,7 @@ class RuleMaker:
         self.constants = constants
         self.outer = outer
         self.even = even
+        self.truths = truths
 
     def rule(self, size):
         return self.condition([("m", 1)], size, self.deepest)
@@ -79,6 +88,8 @@ class RuleMaker:
         return self.joined("AND", self.factor, scope, size, froms)
 
     def factor(self, scope, size, froms):
+        if self.truths > 0 and chance(self.random, self.truths):
+            return ["("] + self.condition(scope, size, froms) + [")"] + truth_ending(self.random)
         if chance(self.random, .25):
             return ["NOT"] + self.factor(scope, size, froms)
         if size <= 1 and chance(self.random, .1):
@@ -96,6 +107,10 @@ class RuleMaker:
             return self.value(scope) + self.before_list() + self.listed(scope, max(1, size - 1), froms)
         if self.even:
             draw = self.random.uniform(.72, 1)
+        return self.plain_test(scope, draw)
+
+    def plain_test(self, scope, draw):
+        """A test without a FROM: a number from .72 to 1 chooses among all of them, and one below is IS NULL."""
         if draw < .82:
             return self.value(scope) + ["IS", "NULL"]
         if draw < .87:
@@ -136,6 +151,47 @@ class RuleMaker:
         return [letter, ".", str(column)]
 
 
+class SumMaker(RuleMaker):
+    """Draws rules whose sum of entries is a given one, mostly by IS UNKNOWN and IS NOT UNKNOWN around one another.
+
+    Without a FROM every sum is odd, so that an even one is drawn only where a FROM may still follow.
+    """
+
+    def rule_of_sum(self, total):
+        return self.factor_of_sum([("m", 1)], total, self.deepest)
+
+    def factor_of_sum(self, scope, total, froms):
+        draw = self.random.random()
+        if draw < .1:
+            return ["NOT"] + self.factor_of_sum(scope, total, froms)
+        if draw < .2:
+            return ["("] + self.factor_of_sum(scope, total, froms) + [")"] + truth_ending(self.random, ("TRUE", "FALSE"))
+        if total == 1:
+            return self.plain_test(scope, self.random.uniform(.72, 1))
+        odd = total % 2 == 1
+        half = total // 2
+        if odd and (froms > 0 or half % 2 == 1) and draw < (.85 if total > 20 else .6):
+            return ["("] + self.factor_of_sum(scope, half, froms) + [")"] + truth_ending(self.random, ("UNKNOWN",))
+        if total == 2 or froms > odd and draw > (.9 if odd else .6):
+            return self.row_source_of_sum(scope, total, froms)
+        return self.join_of_sum(scope, total, froms)
+
+    def row_source_of_sum(self, scope, total, froms):
+        """A list, which adds 3 to the sum of its WHERE, or EXISTS, which adds 1."""
+        source, inner_scope = self.row_source(scope)
+        if total > 3 and chance(self.random, .5):
+            where = self.factor_of_sum(inner_scope, total - 3, froms - 1)
+            return self.value(scope) + self.before_list() + ["(", "SELECT"] + self.value(inner_scope) + source + where + [")"]
+        return ["EXISTS", "("] + source + self.factor_of_sum(inner_scope, total - 1, froms - 1) + [")"]
+
+    def join_of_sum(self, scope, total, froms):
+        """Two factors in brackets, at least one of an odd sum; AND and OR add 1."""
+        first = self.random.randrange(1, total - 1, 2)
+        sides = [self.factor_of_sum(scope, share, froms) for share in (first, total - 1 - first)]
+        self.random.shuffle(sides)
+        return ["("] + sides[0] + [self.random.choice(["AND", "OR"])] + sides[1] + [")"]
+
+
 def needs_gap(before, after):
     """Whether two tokens would read as something else without a gap between them."""
     if before[0].isupper() and after[0].isupper():
@@ -162,9 +218,9 @@ def spaced(random, tokens, gaps=None):
     return text.encode("latin1")
 
 
-def short_rule(random, columns, sizes, longest, wild=0.0):
+def short_rule(random, columns, sizes, longest, wild=0.0, truths=0.0):
     """The text of a rule that is not longer than `longest` bytes."""
-    maker = RuleMaker(random, columns, wild=wild)
+    maker = RuleMaker(random, columns, wild=wild, truths=truths)
     while True:
         text = spaced(random, maker.rule(random.choice(sizes)))
         if len(text) <= longest:
@@ -246,7 +302,81 @@ def damaged_bytes(random, text):
     return bytes(changed)
 
 
+def misplaced_truths(random, columns):
+    """Texts, as tokens, with one fault each, in what stands before or behind a truth test or in the truth test itself."""
+    maker = RuleMaker(random, columns, truths=.15)
+    scope = [("m", 1)]
+    value = maker.value(scope)
+    source, inner_scope = maker.row_source(scope)
+    bracketed = ["("] + maker.rule(2) + [")"]
+    word = random.choice(model.TRUTH_WORDS)
+    ending = truth_ending(random)
+    return [
+        # behind a test without brackets, or behind a value
+        value + [random.choice(SIGNS)] + maker.value(scope) + ending,
+        ["EXISTS", "("] + source + maker.condition(inner_scope, 1, 2) + [")"] + ending,
+        value + maker.before_list() + maker.listed(scope, 1, 3) + ending,
+        value + ["IS", "NULL"] + ending,
+        value + ending,
+        ["("] + value + [")"] + ending,
+        ["(", ")"] + ending,
+        # behind another truth test
+        bracketed + ending + truth_ending(random),
+        # another order, and words too many or too few
+        bracketed + ["IS", "NOT", "NOT", word],
+        bracketed + ["NOT", "IS", word],
+        bracketed + ["NOT", word],
+        bracketed + ["IS", word, word],
+        bracketed + ["IS", word, "NOT"],
+        bracketed + ["IS"],
+        bracketed + ["IS", "NOT"],
+        bracketed + [word],
+        bracketed + ["IS", "NULL"],
+        bracketed + ["IS", "NOT", "NULL"],
+        # a truth word as a value or as a test
+        [word],
+        ["(", word, ")"] + ending,
+        value + [random.choice(SIGNS), word],
+        bracketed + ["=", word],
+        bracketed + ending + ["=", "1"],
+    ]
+
+
+def misplaced_truth(random, columns):
+    """One of these faults, alone or within something that is right; refusal 6 in every place."""
+    fault = random.choice(misplaced_truths(random, columns))
+    right = RuleMaker(random, columns, truths=.15).factor([("m", 1)], 1, 1)
+    return random.choice([
+        fault,
+        ["NOT"] + fault,
+        ["("] + fault + [")"],
+        fault + [random.choice(["AND", "OR"])] + right,
+        right + [random.choice(["AND", "OR"])] + fault,
+        ["("] + fault + [")"] + truth_ending(random),
+        ["EXISTS", "(", "FROM", "1", "v", "WHERE"] + fault + [")"],
+        ["1", "NOT", "IN", "(", "SELECT", "1", "FROM", "1", "v", "WHERE"] + fault + [")"],
+    ])
+
+
 # ---- texts near a limit
+
+def many_truths(random):
+    """Truth tests around one another, with a sum near 192 or far above it, and near 32 brackets."""
+    only_ending = random.choice([" IS UNKNOWN", " IS NOT UNKNOWN", " IS TRUE", None, None])
+    text = random.choice(["1=1", "m.1=1", "m.1 IS NULL", "1=1 OR m.1<0", "EXISTS(FROM 1 v WHERE v.1=m.1)", "k.1=1", "1="])
+    for _ in range(random.choice([3, 5, 6, 6, 7, 7, 8, 15, 16, 30, 31, 32, 33])):
+        if chance(random, .05):
+            text = "NOT " + text
+        text = "(" + text + ")" + (only_ending or " " + " ".join(truth_ending(random)))
+    if chance(random, .4):
+        text += random.choice([" OR 1=1", " AND 1=1", " AND m.1=1", " OR k.1=1", " OR", " @", ")", " IS TRUE", " OR 1=1" * 20])
+    return text.encode()
+
+
+def rule_near_sum(random, columns):
+    """The text of a rule whose sum of entries is near 192."""
+    return spaced(random, SumMaker(random, columns).rule_of_sum(random.choice(NEAR_SUMS)))
+
 
 def long_chain(random):
     """Tests joined by AND or OR, near 64 parts."""
@@ -305,23 +435,27 @@ def deep_froms(random):
 
 def damaged_text(random, columns):
     """A text that is probably no accepted rule."""
-    maker = RuleMaker(random, columns)
+    maker = RuleMaker(random, columns, truths=random.choice([0, .2]))
     draw = random.random()
-    if draw < .12:
+    if draw < .1:
         return loosely_spaced(random, random_tokens(random))
-    if draw < .24:
+    if draw < .2:
         return random_bytes(random)
-    if draw < .5:
+    if draw < .42:
         return loosely_spaced(random, damaged_tokens(random, maker.rule(random.choice([1, 2, 3]))))[:150]
-    if draw < .66:
+    if draw < .56:
         return damaged_bytes(random, spaced(random, maker.rule(random.choice([1, 2, 3]))))[:150]
-    if draw < .72:
+    if draw < .61:
         return long_chain(random)
-    if draw < .77:
+    if draw < .65:
         return many_nots(random)
-    if draw < .87:
+    if draw < .73:
         return many_brackets(random)
-    return deep_froms(random)
+    if draw < .83:
+        return deep_froms(random)
+    if draw < .9:
+        return spaced(random, misplaced_truth(random, columns))
+    return many_truths(random) if draw < .97 else rule_near_sum(random, columns)
 
 
 # ---- tables

@@ -1,9 +1,9 @@
-"""Reference model of document 01, "Entry rules with blanks: text, tables, card".
+"""Reference model of document 01, "Entry rules with blanks: text, tables, card", with Point 1 of document 02.
 
-It is written from that document and shares nothing with the definitions and programs of crates/, so that each can be
+It is written from these documents and shares nothing with the definitions and programs of crates/, so that each can be
 compared with the other. The six calls READ, JUDGE, CARD, CHECK, RUN and LIST are the functions read, judge, card, check, run
 and list_rows. Texts, tables files and cards are bytes; rows and rooms are numbers. A call returns Refused, with a number of
-the table "Gate says why not", or its answer.
+the table "Gate says why not" or of Point 1, or its answer.
 """
 import functools
 from dataclasses import dataclass
@@ -127,7 +127,8 @@ def rows_from(sizes, cells):
 
 # ---- Rule text: tokens
 
-WORDS = ("AND", "OR", "NOT", "EXISTS", "IN", "SOME", "ALL", "IS", "NULL", "SELECT", "FROM", "WHERE")
+TRUTH_WORDS = ("TRUE", "FALSE", "UNKNOWN")
+WORDS = ("AND", "OR", "NOT", "EXISTS", "IN", "SOME", "ALL", "IS", "NULL", "SELECT", "FROM", "WHERE") + TRUTH_WORDS
 COMPARISONS = {"=": 1, "<>": 2, "<": 3, "<=": 4, ">": 5, ">=": 6}
 LONG_SIGNS = (b"<>", b"<=", b">=")
 SHORT_SIGNS = (b"(", b")", b".", b"=", b"<", b">")
@@ -223,6 +224,19 @@ KIND_NOT_NULL = 6
 KIND_EXISTS = 7
 KIND_SOME = 8
 KIND_ALL = 9
+KIND_IS_TRUE = 10
+KIND_IS_NOT_TRUE = 11
+KIND_IS_FALSE = 12
+KIND_IS_NOT_FALSE = 13
+KIND_IS_UNKNOWN = 14
+KIND_IS_NOT_UNKNOWN = 15
+
+# The kinds of the truth tests, without and with NOT behind IS
+TRUTH_KINDS = {
+    "TRUE": (KIND_IS_TRUE, KIND_IS_NOT_TRUE),
+    "FALSE": (KIND_IS_FALSE, KIND_IS_NOT_FALSE),
+    "UNKNOWN": (KIND_IS_UNKNOWN, KIND_IS_NOT_UNKNOWN),
+}
 
 
 @dataclass(frozen=True)
@@ -249,6 +263,13 @@ class Join:
 @dataclass(frozen=True)
 class Not:
     """NOT and what stands under it."""
+    inner: object
+
+
+@dataclass(frozen=True)
+class TruthTest:
+    """A bracketed condition, then IS or IS NOT, then TRUE, FALSE or UNKNOWN."""
+    kind: int
     inner: object
 
 
@@ -341,13 +362,20 @@ class Reader:
         if self.take("sign", "("):
             inner = self.condition()
             self.expect("sign", ")")
-            return inner
+            return self.truth_test(inner) if self.take("word", "IS") else inner
         if self.take("word", "EXISTS"):
             self.expect("sign", "(")
             table, letter, where = self.row_source()
             self.expect("sign", ")")
             return Exists(table, letter, where)
         return self.test_of(self.value())
+
+    def truth_test(self, inner):
+        """What follows a bracketed condition and IS. Nothing else takes it, and no second one follows it."""
+        has_not = self.take("word", "NOT")
+        word = self.any_of("word")
+        require(word in TRUTH_KINDS, 6)
+        return TruthTest(TRUTH_KINDS[word][has_not], inner)
 
     def test_of(self, left):
         """The tests that start with a value."""
@@ -407,7 +435,7 @@ def inner_conditions(condition):
     """The conditions right under a condition, left first."""
     if isinstance(condition, Join):
         return [condition.left, condition.right]
-    if isinstance(condition, Not):
+    if isinstance(condition, (Not, TruthTest)):
         return [condition.inner]
     if isinstance(condition, (Exists, Listed)):
         return [condition.where]
@@ -465,7 +493,7 @@ def check_names(condition, columns, letters, tables):
 
 
 def accepted(text, file):
-    """The rule and the tables, when no refusal of reading applies; refusals 1 to 8, in that order."""
+    """The rule and the tables, when no refusal of reading applies; refusals 1 to 8 and then 13, in that order."""
     tables = tables_of(file)
     require(len(text) <= MOST_TEXT_BYTES, 3)
     tokens = tokens_of(text)
@@ -473,6 +501,7 @@ def accepted(text, file):
     rule = condition_of(tokens)
     check_limits(rule)
     check_names(rule, tables.columns, ["m"], [1])
+    require(entry_sum(parts_of(rule)) <= MOST_ENTRIES, 13)
     return rule, tables
 
 
@@ -512,6 +541,8 @@ def part_of(condition, end, letters):
         return Part(condition.kind, 0, 0, end, UNUSED, UNUSED)
     if isinstance(condition, Not):
         return Part(KIND_NOT, 0, 0, end, UNUSED, UNUSED)
+    if isinstance(condition, TruthTest):
+        return Part(condition.kind, 0, 0, end, UNUSED, UNUSED)
     if isinstance(condition, Compare):
         left = tagged(condition.left, letters)
         right = tagged(condition.right, letters)
@@ -539,6 +570,31 @@ def parts_of(rule):
 
     add(rule, ["m"])
     return parts
+
+
+# What a part adds to the sum of its inner parts: 1, where nothing else is said here
+NOTHING_ADDED = (KIND_NOT, KIND_IS_TRUE, KIND_IS_NOT_TRUE, KIND_IS_FALSE, KIND_IS_NOT_FALSE)
+INNER_TWICE = (KIND_IS_UNKNOWN, KIND_IS_NOT_UNKNOWN)
+
+
+def entry_sum(parts):
+    """The sum n under Card, by the parts alone. No card is made for it: a card could double at each IS UNKNOWN around others."""
+    def summed(start, end):
+        """The sum of the parts from one place up to another."""
+        total = 0
+        while start < end:
+            kind, after = parts[start].kind, parts[start].end
+            inner = summed(start + 1, after)
+            if kind in INNER_TWICE:
+                total += 1 + 2 * inner
+            elif kind in NOTHING_ADDED:
+                total += inner
+            else:
+                total += inner + (3 if kind in (KIND_SOME, KIND_ALL) else 1)
+            start = after
+        return total
+
+    return summed(0, len(parts))
 
 
 @refusing
@@ -586,6 +642,19 @@ def opposite(truth):
     return {TRUE: FALSE, FALSE: TRUE, UNKNOWN: UNKNOWN}[truth]
 
 
+def truth_tested(kind, truth):
+    """A truth test of a truth value, which is never unknown."""
+    holds = {
+        KIND_IS_TRUE: truth == TRUE,
+        KIND_IS_NOT_TRUE: truth != TRUE,
+        KIND_IS_FALSE: truth == FALSE,
+        KIND_IS_NOT_FALSE: truth != FALSE,
+        KIND_IS_UNKNOWN: truth == UNKNOWN,
+        KIND_IS_NOT_UNKNOWN: truth != UNKNOWN,
+    }[kind]
+    return TRUE if holds else FALSE
+
+
 def cell_of(value, letters, rows):
     """What a value is, with the letters and their rows by level: a number, or None for a blank."""
     if isinstance(value, Constant):
@@ -600,6 +669,8 @@ def meaning(condition, tables, letters, rows):
         return both(sides) if condition.kind == KIND_AND else either(sides)
     if isinstance(condition, Not):
         return opposite(meaning(condition.inner, tables, letters, rows))
+    if isinstance(condition, TruthTest):
+        return truth_tested(condition.kind, meaning(condition.inner, tables, letters, rows))
     if isinstance(condition, Compare):
         left = cell_of(condition.left, letters, rows)
         right = cell_of(condition.right, letters, rows)
@@ -703,6 +774,8 @@ def interpreted(condition, letters, comparison_kind):
         return pair_entry(PAIR_AND if condition.kind == KIND_AND else PAIR_OR, *sides)
     if isinstance(condition, Not):
         return negated(interpreted(condition.inner, letters, OTHER_KIND[comparison_kind]))
+    if isinstance(condition, TruthTest):
+        return truth_test_entry(condition, letters)
     if isinstance(condition, Compare):
         left = tagged(condition.left, letters)
         right = tagged(condition.right, letters)
@@ -720,6 +793,23 @@ def interpreted(condition, letters, comparison_kind):
     if condition.kind == KIND_SOME:
         return row_entry(SOME_ROW, condition.table, pair_entry(PAIR_AND, where, comparison))
     return row_entry(EVERY_ROW, condition.table, pair_entry(PAIR_OR, negated(where), comparison))
+
+
+def truth_test_entry(test, letters):
+    """A truth test, in either interpretation around it."""
+    def inner(comparison_kind):
+        return interpreted(test.inner, letters, comparison_kind)
+
+    if test.kind == KIND_IS_TRUE:
+        return inner(UNKNOWN_IS_NO)
+    if test.kind == KIND_IS_NOT_TRUE:
+        return negated(inner(UNKNOWN_IS_NO))
+    if test.kind == KIND_IS_FALSE:
+        return negated(inner(UNKNOWN_IS_YES))
+    if test.kind == KIND_IS_NOT_FALSE:
+        return inner(UNKNOWN_IS_YES)
+    unknown = pair_entry(PAIR_AND, negated(inner(UNKNOWN_IS_NO)), inner(UNKNOWN_IS_YES))
+    return unknown if test.kind == KIND_IS_UNKNOWN else negated(unknown)
 
 
 # ---- Card: its bytes
@@ -751,9 +841,7 @@ def card_bytes(root, columns):
 
 def published_length(parts, table_count):
     """The bytes that a card takes, by the sum under Card."""
-    nots = sum(part.kind == KIND_NOT for part in parts)
-    lists = sum(part.kind in (KIND_SOME, KIND_ALL) for part in parts)
-    return 3 + table_count + 15 * (len(parts) - nots + 2 * lists)
+    return 3 + table_count + 15 * entry_sum(parts)
 
 
 @refusing

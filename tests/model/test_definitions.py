@@ -17,12 +17,15 @@ import sys
 import tempfile
 
 import cases
+import generate
 import model
 
 SEED = 20250101
 REPOSITORY = pathlib.Path(__file__).resolve().parents[2]
 DRAWS = {"READ": 110, "JUDGE": 60, "CARD": 60, "CHECK": 80, "RUN": 60, "LIST": 50}
 DRAWS_OF_EACH_TRUTH = 25
+DRAWS_OF_SUMS = 15
+DRAWS_OF_MISPLACED_TRUTHS = 40
 FACTS_OF_A_MODULE = 50
 WRONG_BUFFERS = 4
 LONGEST_PLAIN_LIST = 600
@@ -151,13 +154,33 @@ def fact_source(name, fact):
 
 # ---- which facts
 
+def drawn_sums(draw):
+    """Rules whose sums of entries are around 192, by each call that reads."""
+    chosen = []
+    for _ in range(DRAWS_OF_SUMS):
+        file = generate.random_tables(draw)
+        text = generate.rule_near_sum(draw, model.tables_of(file).columns)
+        chosen += [cases.fitting("READ", text, file), cases.Case("JUDGE", text, file, row=draw.randrange(3)), cases.fitting("CARD", text, file)]
+    return chosen
+
+
+def drawn_misplaced_truths(draw):
+    """Texts with truth tests that are out of place."""
+    chosen = []
+    for _ in range(DRAWS_OF_MISPLACED_TRUTHS):
+        file = generate.random_tables(draw)
+        text = generate.spaced(draw, generate.misplaced_truth(draw, model.tables_of(file).columns))
+        chosen.append(cases.fitting("READ", text, file))
+    return chosen
+
+
 def all_cases():
     """The targeted and the drawn cases of the seed."""
     draw = random.Random(SEED)
     chosen = cases.targeted(draw)
     for call in cases.CALLS:
         chosen += [cases.drawn(draw, call) for _ in range(DRAWS[call])]
-    return chosen + cases.drawn_truths(draw, DRAWS_OF_EACH_TRUTH)
+    return chosen + cases.drawn_truths(draw, DRAWS_OF_EACH_TRUTH) + drawn_sums(draw) + drawn_misplaced_truths(draw)
 
 
 def right_facts():
@@ -168,7 +191,7 @@ def right_facts():
 def other_results(call, result):
     """Results of a call that differ from one."""
     refused = isinstance(result, model.Refused)
-    others = [model.Refused(result.number % 12 + 1 if refused else 12)]
+    others = [model.Refused(result.number % 13 + 1 if refused else 12)]
     if call == "JUDGE":
         others += [truth for truth in (model.TRUE, model.FALSE, model.UNKNOWN) if truth != result]
     elif call == "CHECK":
@@ -210,15 +233,27 @@ def wrong_facts_of(draw, fact):
     return [Fact(fact.case, answer) for answer in answers]
 
 
+def is_refused(fact):
+    """Whether the call refuses."""
+    return isinstance(fact.stated.result, model.Refused)
+
+
+def is_truth_tested(fact):
+    """Whether a rule with a truth test is accepted: in no other accepted rule one of the three words stands."""
+    reading = fact.case.call in cases.READING_CALLS
+    return reading and not is_refused(fact) and any(word.encode() in fact.case.source for word in model.TRUTH_WORDS)
+
+
 def mixed_facts(draw, right):
-    """Right facts, of each outcome of each call, and wrong ones of the same cases: pairs of a fact and whether it is wrong."""
+    """Right facts, of each outcome of each call, where rules are accepted with truth tests and without, and wrong ones of the same cases: pairs of a fact and
+    whether it is wrong."""
     by_outcome = collections.defaultdict(list)
     for fact in right:
         lends = fact.case.call in cases.LENDING_CALLS
         if len(fact.case.source) <= LONGEST_SOURCE_STATED_WRONGLY and (fact.stated.buffer or not lends):
-            by_outcome[fact.case.call, cases.outcome(fact.case)].append(fact)
+            by_outcome[fact.case.call, cases.outcome(fact.case), is_truth_tested(fact)].append(fact)
     mixed = []
-    for (call, _), facts in by_outcome.items():
+    for (call, _, _), facts in by_outcome.items():
         # CHECK has two outcomes only
         kept = facts[-4:] if call == "CHECK" else facts[-1:]
         for fact in kept:
@@ -234,13 +269,22 @@ def outcomes_of(facts):
     return collections.Counter((fact.case.call, cases.outcome(fact.case)) for fact in facts)
 
 
-def demand_outcomes(counts):
-    """Every refusal and every answer of every call has to occur."""
+def demand_outcomes(counts, aside=()):
+    """Every refusal and every answer of every call has to occur, but for those that are put aside."""
     for call in cases.CALLS:
         refusals = [f"refused {number}" for number in cases.REFUSALS_OF[call]]
         for wanted in GIVEN[call] + refusals:
-            if counts[call, wanted] == 0:
+            if counts[call, wanted] == 0 and wanted not in aside:
                 raise Failure(f"{call}: '{wanted}' never occurred")
+
+
+def demand_kinds(facts):
+    """Every kind of part has to occur in what READ gives."""
+    given = [fact.stated for fact in facts if fact.case.call == "READ" and not is_refused(fact)]
+    found = {part.kind for stated in given for part in stated.buffer[:stated.result]}
+    missing = set(range(1, 16)) - found
+    if missing:
+        raise Failure(f"READ: parts of the kinds {sorted(missing)} never occurred")
 
 
 def report_outcomes(counts):
@@ -349,8 +393,11 @@ def run():
     print(f"definitions: seed {SEED}, {len(right)} facts")
     report_outcomes(counts)
     demand_outcomes(counts)
+    demand_kinds(right)
     mixed = mixed_facts(random.Random(SEED), right)
     wrong = [fact for fact, is_wrong in mixed if is_wrong]
+    # a text that is too long or has too many parts is over LONGEST_SOURCE_STATED_WRONGLY
+    demand_outcomes(outcomes_of(wrong), aside=["refused 3", "refused 7"])
     with tempfile.TemporaryDirectory() as folder:
         copy_repository(pathlib.Path(folder))
         check_right(pathlib.Path(folder), right)

@@ -1,21 +1,26 @@
-"""Tests of the reference model: document 01's own cases, and random rules against SQLite.
+"""Tests of the reference model: document 01's own cases, hand-worked truth tests, and random rules against SQLite.
 
 Exit status 0 when all agree. The rules without SOME and ALL are given to SQLite token by token, so that its own grammar,
-scopes and grouping are compared; those with all nine forms are given through the model's reading of them.
+scopes and grouping are compared; those with all forms are given through the model's reading of them. SQLite has no IS UNKNOWN:
+IS NULL stands for it there.
 """
 import collections
 import random
 import sqlite3
 import sys
 
+import cases
 import generate
 import model
 
 SEED = 20250101
 RULES_OF_EACH_SORT = 1500
+SUMMED_RULES_OF_EACH_SORT = 250
+MISPLACED_TRUTHS = 400
 AMPLE_ROOM = 10000
 SQL_TRUTHS = {None: model.UNKNOWN, 0: model.FALSE, 1: model.TRUE}
 SIGN_OF = {number: sign for sign, number in model.COMPARISONS.items()}
+SQL_TRUTH_TESTS = {10: "IS TRUE", 11: "IS NOT TRUE", 12: "IS FALSE", 13: "IS NOT FALSE", 14: "IS NULL", 15: "IS NOT NULL"}
 
 CASE_TABLES = generate.tables_file([(2, [[1, 5], [2, None], [3, 0]]), (1, [[1], [None]]), (1, [])])
 ALL_OF_2 = "(SELECT v.1 FROM 2 v WHERE 1 = 1)"
@@ -37,6 +42,106 @@ CASES = [
     ("m.1 = SOME (SELECT m.1 FROM 2 m WHERE m.1 = 1)", "TFF"),
 ]
 
+# Truth tests: the values on rows 0, 1 and 2, worked out by hand. `m.2 > 0` is T U F there.
+TRUTH_CASES = [
+    ("(m.2 > 0) IS TRUE", "TFF"),
+    ("(m.2 > 0) IS NOT TRUE", "FTT"),
+    ("(m.2 > 0) IS FALSE", "FFT"),
+    ("(m.2 > 0) IS NOT FALSE", "TTF"),
+    ("(m.2 > 0) IS UNKNOWN", "FTF"),
+    ("(m.2 > 0) IS NOT UNKNOWN", "TFT"),
+    # under NOT, and with NOT inside
+    ("NOT (m.2 > 0) IS TRUE", "FTT"),
+    ("NOT (m.2 > 0) IS FALSE", "TTF"),
+    ("NOT (m.2 > 0) IS UNKNOWN", "TFT"),
+    ("(NOT m.2 > 0) IS TRUE", "FFT"),
+    ("(NOT m.2 > 0) IS NOT FALSE", "FTT"),
+    ("(NOT m.2 > 0) IS UNKNOWN", "FTF"),
+    # with AND and OR
+    ("(m.2 > 0) IS UNKNOWN AND m.2 > 0", "FUF"),
+    ("(m.2 > 0) IS UNKNOWN OR m.2 > 0", "TTF"),
+    ("(m.2 > 0 OR NOT m.2 > 0) IS UNKNOWN", "FTF"),
+    ("(m.2 > 0 AND m.1 = 1) IS NOT UNKNOWN", "TTT"),
+    # around one another
+    ("((m.2 > 0) IS UNKNOWN) IS TRUE", "FTF"),
+    ("((m.2 > 0) IS UNKNOWN) IS UNKNOWN", "FFF"),
+    ("((m.2 > 0) IS NOT TRUE) IS NOT FALSE", "FTT"),
+    ("(((m.2 > 0) IS NOT FALSE) IS FALSE) IS NOT UNKNOWN", "TTT"),
+    ("((m.2 > 0) IS UNKNOWN OR m.2 > 0) IS FALSE", "FFT"),
+    # around subqueries
+    ("(m.1 IN " + ALL_OF_2 + ") IS UNKNOWN", "FTT"),
+    ("(m.1 NOT IN " + ALL_OF_2 + ") IS FALSE", "TFF"),
+    ("(m.1 NOT IN " + ALL_OF_2 + ") IS NOT FALSE", "FTT"),
+    ("(m.2 = ALL " + ALL_OF_3 + ") IS TRUE", "TTT"),
+    ("(m.2 = SOME " + ALL_OF_3 + ") IS UNKNOWN", "FFF"),
+    ("(EXISTS (FROM 2 v WHERE v.1 = m.1)) IS NOT UNKNOWN", "TTT"),
+    ("(EXISTS (FROM 2 v WHERE v.1 = m.1)) IS FALSE", "FTT"),
+    # inside a WHERE: the blank row of table 2 is retained or not
+    ("EXISTS (FROM 2 v WHERE (v.1 = 1) IS UNKNOWN)", "TTT"),
+    ("EXISTS (FROM 2 v WHERE (v.1 = m.1) IS FALSE)", "FTT"),
+    ("EXISTS (FROM 2 v WHERE (v.1 = m.1) IS NOT TRUE)", "TTT"),
+    ("EXISTS (FROM 2 v WHERE NOT (v.1 = m.1) IS UNKNOWN AND v.1 = m.1)", "TFF"),
+    ("m.1 = ALL (SELECT v.1 FROM 2 v WHERE (v.1 = 1) IS NOT UNKNOWN)", "TFF"),
+    ("m.1 = ALL (SELECT v.1 FROM 2 v WHERE (v.1 = 1) IS UNKNOWN)", "UUU"),
+    ("(m.1 = ALL (SELECT v.1 FROM 2 v WHERE (v.1 = 1) IS UNKNOWN)) IS UNKNOWN", "TTT"),
+    ("m.1 <> ALL (SELECT v.1 FROM 2 v WHERE (v.1 = 1) IS NOT FALSE)", "FUU"),
+    # a condition that is never unknown, in the WHERE of ALL: all three rows of table 1 are retained, or none
+    ("m.1 <> ALL (SELECT k.1 FROM 1 k WHERE (m.2 IS NULL) IS NOT UNKNOWN)", "FFF"),
+    ("m.1 <> ALL (SELECT k.1 FROM 1 k WHERE (m.2 IS NULL) IS UNKNOWN)", "TTT"),
+    ("NOT m.1 <> ALL (SELECT k.1 FROM 1 k WHERE (m.2 IS NULL) IS NOT UNKNOWN)", "TTT"),
+    ("(m.1 <> ALL (SELECT m.2 FROM 1 m WHERE (m.2 IS NULL) IS NOT UNKNOWN)) IS NOT FALSE", "TTT"),
+    ("(m.1 <= ALL (SELECT m.2 FROM 1 m WHERE (m.2 IS NULL) IS NOT TRUE)) IS FALSE", "TTT"),
+]
+
+# Truth tests: the kinds and the ends of the parts
+TRUTH_PARTS = [
+    ("(1 = 1) IS TRUE", [10, 4], [2, 2]),
+    ("((1 = 1)) IS NOT TRUE", [11, 4], [2, 2]),
+    ("((1 = 1) IS FALSE)", [12, 4], [2, 2]),
+    ("(1 = 1) IS NOT FALSE", [13, 4], [2, 2]),
+    ("(1 = 1) IS UNKNOWN", [14, 4], [2, 2]),
+    ("(1 = 1) IS NOT UNKNOWN", [15, 4], [2, 2]),
+    ("NOT (1 = 1) IS FALSE", [3, 12, 4], [3, 3, 3]),
+    ("(NOT 1 = 1) IS FALSE", [12, 3, 4], [3, 3, 3]),
+    ("(1 = 1 OR 2 = 2) IS UNKNOWN AND 3 = 3", [1, 14, 2, 4, 4, 4], [6, 5, 5, 4, 5, 6]),
+    ("1 = 1 AND (2 = 2) IS TRUE OR 3 = 3", [2, 1, 4, 10, 4, 4], [6, 5, 3, 5, 5, 6]),
+    ("((m.1 IS NULL) IS NOT TRUE) IS NOT UNKNOWN", [15, 11, 5], [3, 3, 3]),
+    ("(EXISTS (FROM 2 v WHERE (v.1 = 1) IS UNKNOWN)) IS FALSE", [12, 7, 14, 4], [4, 4, 4, 4]),
+]
+
+# Truth tests: the kinds and the comparisons of the card's entries, in hexadecimal
+TRUTH_CARDS = [
+    ("(m.3 > 0) IS TRUE", "05", "05"),
+    ("(m.3 > 0) IS NOT TRUE", "06", "04"),
+    ("(m.3 > 0) IS FALSE", "05", "04"),
+    ("(m.3 > 0) IS NOT FALSE", "06", "05"),
+    ("(m.3 > 0) IS UNKNOWN", "01 06 06", "00 04 05"),
+    ("(m.3 > 0) IS NOT UNKNOWN", "02 05 05", "00 05 04"),
+    # under NOT
+    ("NOT (m.3 > 0) IS TRUE", "06", "04"),
+    ("NOT (m.3 > 0) IS FALSE", "06", "05"),
+    ("NOT (m.3 > 0) IS UNKNOWN", "02 05 05", "00 05 04"),
+    ("(NOT m.3 > 0) IS FALSE", "05", "05"),
+    ("(NOT m.3 > 0) IS UNKNOWN", "01 06 06", "00 05 04"),
+    # alike in either interpretation around it
+    ("((m.3 > 0) IS TRUE) IS NOT FALSE", "05", "05"),
+    ("((m.3 > 0) IS NOT FALSE) IS TRUE", "06", "05"),
+    ("((m.3 > 0) IS FALSE) IS FALSE", "06", "05"),
+    ("((m.3 > 0) IS UNKNOWN) IS NOT FALSE", "01 06 06", "00 04 05"),
+    ("((m.3 > 0) IS UNKNOWN) IS UNKNOWN", "01 02 05 05 01 06 06", "00 00 05 04 00 04 05"),
+    # in a WHERE, negated under ALL
+    ("EXISTS (FROM 1 v WHERE (v.3 > 0) IS UNKNOWN)", "03 01 06 06", "00 00 04 05"),
+    ("1 = ALL (SELECT 1 FROM 1 v WHERE (v.3 > 0) IS UNKNOWN)", "04 02 02 05 05 05", "00 00 00 05 04 01"),
+    ("1 = ALL (SELECT 1 FROM 1 v WHERE (m.2 IS NULL) IS NOT UNKNOWN)", "04 02 01 08 07 05", "00 00 00 00 00 01"),
+    ("(1 = ALL (SELECT 1 FROM 1 v WHERE (v.3 > 0) IS TRUE)) IS NOT FALSE", "04 02 06 06", "00 00 04 01"),
+]
+# The whole card of `(m.3 > 0) IS UNKNOWN` for one table of 3 columns
+UNKNOWN_CARD = bytes.fromhex(
+    "03 00 01 03 01 06 06"
+    " 03 00 00 00 00 00 00 00 00 00 00 00 00 00"
+    " 02 00 00 04 00 03 00 00 00 FF 00 00 00 00"
+    " 03 00 00 05 00 03 00 00 00 FF 00 00 00 00")
+
 # Card: the worked card
 WORKED_TEXT = b"NOT m.2 < 5"
 WORKED_TABLES = generate.tables_file([(3, [[1, 2, 3]])])
@@ -56,9 +161,14 @@ def same(what, got, wanted):
 # ---- document 01's own cases
 
 def test_proved_cases():
-    """The twelve cases, judged on each row and listed by their cards."""
+    """The twelve cases."""
+    compare_tabulated(CASES)
+
+
+def compare_tabulated(tabulated):
+    """Cases with their values, judged on each row and listed by their cards."""
     names = {"T": model.TRUE, "U": model.UNKNOWN, "F": model.FALSE}
-    for written, letters in CASES:
+    for written, letters in tabulated:
         text = written.encode()
         wanted = [names[letter] for letter in letters]
         same(written, truths_by_model(text, CASE_TABLES), wanted)
@@ -115,6 +225,113 @@ def test_refusal_table():
         same(f"example {place} of the refusal table", got, wanted)
 
 
+# ---- truth tests
+
+def test_truth_values():
+    """The hand-worked values of truth tests."""
+    compare_tabulated(TRUTH_CASES)
+
+
+def test_truth_parts():
+    """The parts of truth tests: kind and end, and 0 in all other fields of kinds 10 to 15."""
+    for written, kinds, ends in TRUTH_PARTS:
+        parts = model.read(written.encode(), CASE_TABLES, len(kinds))
+        same(f"kinds of {written}", [part.kind for part in parts], kinds)
+        same(f"ends of {written}", [part.end for part in parts], ends)
+        for part in parts:
+            if part.kind >= 10:
+                same(f"fields of {written}", part, model.Part(part.kind, 0, 0, part.end, model.UNUSED, model.UNUSED))
+        same(f"READ of {written}, no room", model.read(written.encode(), CASE_TABLES, len(kinds) - 1), model.Refused(12))
+
+
+def test_truth_cards():
+    """The cards of truth tests, by kinds and comparisons, and one of them byte by byte."""
+    for written, kinds, comparisons in TRUTH_CARDS:
+        sheet = model.card(written.encode(), WORKED_TABLES, AMPLE_ROOM)
+        _, records = model.sound_card(sheet)
+        same(f"kinds of the card of {written}", bytes(record.kind for record in records), bytes.fromhex(kinds))
+        same(f"comparisons of the card of {written}", bytes(record.comparison for record in records), bytes.fromhex(comparisons))
+    same("the card of IS UNKNOWN", model.card(b"(m.3 > 0) IS UNKNOWN", WORKED_TABLES, AMPLE_ROOM), UNKNOWN_CARD)
+
+
+def reading_refusals(text):
+    """What READ refuses with, JUDGE on row 99, and CARD with no room."""
+    answers = (model.read(text, CASE_TABLES, AMPLE_ROOM), model.judge(text, CASE_TABLES, 99), model.card(text, CASE_TABLES, 0))
+    return tuple(refusal_of(answer) for answer in answers)
+
+
+def test_stated_sums():
+    """Sums of entries that are worked out by hand: 13 over 192, and up to there a card of so many entries."""
+    for text, total in cases.STATED_SUMS:
+        same(f"READ of {text!r}", read_refusal(text), None if total <= 192 else 13)
+        same(f"refusals of {text!r}", reading_refusals(text), (None, 11, 12) if total <= 192 else (13, 13, 13))
+        if total <= 192:
+            length = 3 + 3 + 15 * total
+            same(f"length of the card of {text!r}", len(model.card(text, CASE_TABLES, length)), length)
+            same(f"{text!r}, a byte less", model.card(text, CASE_TABLES, length - 1), model.Refused(12))
+
+
+def test_truth_refusals():
+    """The order of 13 and the others, the limits of parts and brackets, and what no truth test may follow."""
+    seven = cases.nested_truths(7)
+    examples = [
+        (13, seven),
+        (8, cases.nested_truths(7, b"k.1 = 1")),
+        (8, cases.nested_truths(32, b"m.3 = 1")),
+        (13, seven + b" OR 1=1" * 28),
+        (7, seven + b" OR 1=1" * 29),
+        (7, b"EXISTS (FROM 1 a WHERE " * 4 + seven + b")" * 4),
+        (6, seven + b" OR"),
+        (5, cases.nested_truths(33)),
+        (4, seven + b" @"),
+        (3, seven + b" " * 4096),
+        (None, b"NOT " * 62 + b"(1=1) IS TRUE"),
+        (7, b"NOT " * 63 + b"(1=1) IS TRUE"),
+        (6, b"(1 = 1) IS TRUE IS TRUE"),
+        (None, b"((1 = 1) IS TRUE) IS TRUE"),
+        (6, b"1 = 1 IS TRUE"),
+        (6, b"TRUE"),
+        (6, b"EXISTS (FROM 2 v WHERE 1 = 1) IS TRUE"),
+        (None, b"(EXISTS (FROM 2 v WHERE 1 = 1)) IS TRUE"),
+        (6, b"m.1 IN (SELECT 1 FROM 2 v WHERE 1 = 1) IS TRUE"),
+        (6, b"m.1 IS UNKNOWN"),
+        (6, b"(m.1) IS UNKNOWN"),
+        (6, b"(1 = 1) IS NULL"),
+        (6, b"(1 = 1) IS NOT NOT TRUE"),
+        (6, b"(1 = 1) IS"),
+        (4, b"(1 = 1) ISTRUE"),
+        (None, b"(1=1)IS TRUE"),
+    ]
+    for wanted, text in examples:
+        same(f"READ of {text!r}", read_refusal(text), wanted)
+    same("seven truth tests, wrong sizes", read_refusal(seven, b"\x00"), 1)
+    same("seven truth tests, a wrong mark", read_refusal(seven, bytes.fromhex("01 01 01 00 00 00 00 00 02")), 2)
+
+
+def test_misplaced_truths():
+    """Random texts with one fault about a truth test, and nothing else wrong before 7."""
+    draw = random.Random(f"{SEED} misplaced")
+    for _ in range(MISPLACED_TRUTHS):
+        file = generate.random_tables(draw)
+        tokens = generate.misplaced_truth(draw, model.tables_of(file).columns)
+        text = generate.spaced(draw, tokens)
+        same(f"READ of {text!r}", read_refusal(text, file), 6)
+    print(f"model: {MISPLACED_TRUTHS} texts with a fault about a truth test: refused with 6")
+
+
+def test_refusal_sets():
+    """Several refusals at once: the first in the order of each call is given."""
+    draw = random.Random(f"{SEED} sets")
+    for call, refusals in cases.REFUSALS_OF.items():
+        if call == "CHECK":
+            continue
+        for _ in range(40):
+            applying = [refusal for refusal in refusals if draw.random() < .4]
+            wanted = applying[0] if applying else None
+            got = refusal_of(cases.answer_of(cases.refusal_set_case(call, applying)))
+            same(f"{call} where {applying} apply", got, wanted)
+
+
 # ---- SQLite
 
 def database_of(tables):
@@ -144,6 +361,9 @@ def sql_of_tokens(tokens):
         elif token.islower():
             words.append(f"{token}.c{tokens[place + 2]}")
             place += 3
+        elif token == "UNKNOWN":
+            words.append("NULL")
+            place += 1
         else:
             words.append(f"({token})" if token[-1].isdigit() else token)
             place += 1
@@ -158,12 +378,14 @@ def sql_of_value(value, scope):
 
 
 def sql_of_rule(condition, scope):
-    """The SQL of a rule with all nine forms. Each level has an alias of its own, so that nothing is captured."""
+    """The SQL of a rule with all forms. Each level has an alias of its own, so that nothing is captured."""
     if isinstance(condition, model.Join):
         word = "AND" if condition.kind == model.KIND_AND else "OR"
         return f"({sql_of_rule(condition.left, scope)} {word} {sql_of_rule(condition.right, scope)})"
     if isinstance(condition, model.Not):
         return f"(NOT {sql_of_rule(condition.inner, scope)})"
+    if isinstance(condition, model.TruthTest):
+        return f"({sql_of_rule(condition.inner, scope)} {SQL_TRUTH_TESTS[condition.kind]})"
     if isinstance(condition, model.Compare):
         left = sql_of_value(condition.left, scope)
         right = sql_of_value(condition.right, scope)
@@ -231,12 +453,27 @@ def drawn_rule(draw, quantified):
     """A tables file with rows in table 1, an accepted rule as tokens and as text, and its parts."""
     while True:
         file = generate.random_tables(draw, counts=(1, 2, 3, 4))
-        maker = generate.RuleMaker(draw, model.tables_of(file).columns, quantified)
+        maker = generate.RuleMaker(draw, model.tables_of(file).columns, quantified, truths=draw.choice([0, .1, .3]))
         tokens = maker.rule(draw.choice([1, 1, 2, 3, 4, 5, 7]))
         text = generate.spaced(draw, tokens)
         parts = model.read(text, file, AMPLE_ROOM)
         if not isinstance(parts, model.Refused) and model.tables_of(file).rows_of(1):
             return file, tokens, text, parts
+
+
+def drawn_summed_rule(draw, quantified):
+    """A sum of entries, a tables file with rows in table 1, and a rule of that sum as tokens and as text.
+
+    It is accepted, but for 13 where the sum is over 192.
+    """
+    while True:
+        total = draw.choice(generate.NEAR_SUMS)
+        file = generate.random_tables(draw, counts=(1, 2, 3, 4))
+        maker = generate.SumMaker(draw, model.tables_of(file).columns, quantified)
+        tokens = maker.rule_of_sum(total)
+        text = generate.spaced(draw, tokens)
+        if read_refusal(text, file) not in (5, 7) and model.tables_of(file).rows_of(1):
+            return total, file, tokens, text
 
 
 def compare_on(file, text, sql, seen):
@@ -252,9 +489,14 @@ def compare_on(file, text, sql, seen):
 
 
 def compare_one(draw, quantified, seen):
+    """One drawn rule against SQLite."""
+    file, tokens, text, _ = drawn_rule(draw, quantified)
+    compare_rule(draw, quantified, seen, file, tokens, text)
+
+
+def compare_rule(draw, quantified, seen, file, tokens, text):
     """One rule: SQLite against JUDGE with two files, and against LIST of its card with the later one."""
-    file, tokens, text, parts = drawn_rule(draw, quantified)
-    seen.add("part kind", [part.kind for part in parts])
+    seen.add("part kind", [part.kind for part in model.read(text, file, AMPLE_ROOM)])
     if quantified:
         sql = sql_of_rule(model.accepted(text, file)[0], [("m", "m")])
     else:
@@ -268,6 +510,39 @@ def compare_one(draw, quantified, seen):
     same(f"rule   {text!r}\ntables {model.tables_of(later)}\nLIST (got) and SQLite (wanted):", listed, true_rows)
 
 
+def compare_summed(draw, quantified, seen):
+    """One drawn rule of a known sum: 13 over 192, and else the length of its card, and SQLite."""
+    total, file, tokens, text = drawn_summed_rule(draw, quantified)
+    seen.add("sum", [total])
+    if total > 192:
+        answers = (model.read(text, file, 0), model.judge(text, file, 1000), model.card(text, file, 0))
+        same(f"sum {total}: {text!r}", [refusal_of(answer) for answer in answers], [13, 13, 13])
+        return
+    sheet = model.card(text, file, AMPLE_ROOM)
+    same(f"sum {total}: refusal of {text!r}", refusal_of(sheet), None)
+    same(f"sum {total}: length of the card of {text!r}", len(sheet), 3 + len(model.tables_of(file).columns) + 15 * total)
+    compare_rule(draw, quantified, seen, file, tokens, text)
+
+
+def test_sums_against_sqlite(quantified):
+    """Many rules with sums around 192."""
+    draw = random.Random(f"{SEED} sums {quantified}")
+    seen = Seen()
+    for _ in range(SUMMED_RULES_OF_EACH_SORT):
+        compare_summed(draw, quantified, seen)
+    seen.demand("truth value", [model.TRUE, model.FALSE, model.UNKNOWN])
+    seen.demand("part kind", range(1, 16))
+    seen.demand("sum", [191, 192, 193, 194])
+    print(f"model: {SUMMED_RULES_OF_EACH_SORT} rules with sums around 192, {sort_name(quantified)}: SQLite agrees")
+    for what in ("truth value", "part kind", "sum"):
+        print(f"  {what}: {seen.report(what)}")
+
+
+def sort_name(quantified):
+    """A short name for the sort of the rules."""
+    return "all forms" if quantified else "no SOME or ALL, token by token"
+
+
 def test_against_sqlite(quantified):
     """Many rules of one sort; all truth values, part kinds and sorts of cells have to occur."""
     draw = random.Random(f"{SEED} {quantified}")
@@ -275,10 +550,9 @@ def test_against_sqlite(quantified):
     for _ in range(RULES_OF_EACH_SORT):
         compare_one(draw, quantified, seen)
     seen.demand("truth value", [model.TRUE, model.FALSE, model.UNKNOWN])
-    seen.demand("part kind", range(1, 10))
+    seen.demand("part kind", range(1, 16))
     seen.demand("cell", ["blank", "present"])
-    sort = "all nine forms" if quantified else "no SOME or ALL, token by token"
-    print(f"model: {RULES_OF_EACH_SORT} rules, {sort}: SQLite agrees")
+    print(f"model: {RULES_OF_EACH_SORT} rules, {sort_name(quantified)}: SQLite agrees")
     for what in ("truth value", "part kind", "cell"):
         print(f"  {what}: {seen.report(what)}")
 
@@ -289,8 +563,17 @@ def main():
         test_proved_cases()
         test_worked_card()
         test_refusal_table()
+        test_truth_values()
+        test_truth_parts()
+        test_truth_cards()
+        test_stated_sums()
+        test_truth_refusals()
+        test_misplaced_truths()
+        test_refusal_sets()
         test_against_sqlite(False)
         test_against_sqlite(True)
+        test_sums_against_sqlite(False)
+        test_sums_against_sqlite(True)
     except Disagreement as disagreement:
         print(f"model: DISAGREEMENT\n{disagreement}")
         return 1

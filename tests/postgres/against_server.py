@@ -4,6 +4,7 @@ Exit status 0 when all agree, when every sort of rule and value was seen often, 
 `--store` writes the answers to the file that replay.py compares with.
 """
 import argparse
+import collections
 import itertools
 import random
 import signal
@@ -43,20 +44,23 @@ def all_answered(asked, groups):
 
 
 def check_cases(asked):
-    """The proved cases of document 01 have the same values with the server."""
-    tokens = [[str(token.value) for token in model.tokens_of(text.encode())] for text, _ in test_model.CASES]
+    """The proved cases of document 01, and cases of truth tests with their values, have the same values with the server."""
+    cases = test_model.CASES + test_model.TRUTH_CASES
+    tokens = [[str(token.value) for token in model.tokens_of(text.encode())] for text, _ in cases]
     answers, = sql.answers(asked, [(model.tables_of(test_model.CASE_TABLES), [sql.condition_of(some) for some in tokens])])
-    for (text, letters), values in zip(test_model.CASES, answers):
+    for (text, letters), values in zip(cases, answers):
         built.compare.same(text, built.written(values), letters)
-    print(f"{len(answers)} proved cases have the same values")
+    print(f"{len(test_model.CASES)} proved cases and {len(test_model.TRUTH_CASES)} of truth tests have the same values")
 
 
 def check_too_large(calls, groups):
-    """READ refuses the drawn rules that are too large, each with the number that its tokens tell. Gives how many there are."""
+    """READ, JUDGE and CARD refuse the drawn rules that are too large, each with the number that its tokens tell."""
     refused = [(rule, group.files[0]) for group in groups for rule in group.too_large]
     for rule, file in refused:
-        calls.read(rule.text, file, model.Refused(rule.refusal))
-    return len(refused)
+        calls.refuse(rule.text, file, rule.refusal)
+    counts = collections.Counter(rule.refusal for rule, _ in refused)
+    said = ", ".join(f"{count} with {number}" for number, count in sorted(counts.items()))
+    print(f"{len(refused)} rules drawn besides are too large, and refused for that: {said}")
 
 
 def arguments():
@@ -77,7 +81,7 @@ def compare_with(asked, calls, rules, seed, to_store):
     check_cases(asked)
     changed.check_changes(asked, calls, list(drawn.groups(random.Random(CHANGED_SEED), CHANGED_RULES)))
     groups = list(drawn.groups(random.Random(seed), rules))
-    print(f"{check_too_large(calls, groups)} rules drawn besides are too large, and refused for that")
+    check_too_large(calls, groups)
     with_values = list(all_answered(asked, groups))
     compared = comparison.Comparison(calls)
     compared.all(with_values, rules)

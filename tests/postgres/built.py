@@ -46,11 +46,17 @@ class Calls:
         built = library.load("roskudla")
         self.rules, self.gate = library.Rules(built), library.Gate(built)
 
-    def read(self, text, file, wanted):
-        """READ answers so many parts, or this refusal."""
-        room = model.MOST_PARTS if isinstance(wanted, model.Refused) else wanted
-        answer, _ = self.rules.read(text, file, cases.lent("READ", room))
-        compare.same(("READ", text, model.tables_of(file)), answer, wanted)
+    def read(self, text, file, part_count):
+        """READ answers so many parts, with just room enough."""
+        answer, _ = self.rules.read(text, file, cases.lent("READ", part_count))
+        compare.same(("READ", text, model.tables_of(file)), answer, part_count)
+
+    def refuse(self, text, file, refusal):
+        """READ and CARD without room and JUDGE of an absent row give this refusal, which goes before what else is wrong there."""
+        answers = {
+            "READ": self.rules.read(text, file, cases.lent("READ", 0))[0], "CARD": self.rules.card(text, file, cases.lent("CARD", 0))[0],
+            "JUDGE": self.rules.judge(text, file, model.MOST_ROWS)}
+        compare.same((text, model.tables_of(file)), answers, dict.fromkeys(answers, model.Refused(refusal)))
 
     def rule(self, text, file):
         """A rule that is accepted with a file, and the card that CARD makes of it and CHECK passes."""

@@ -3,6 +3,7 @@ import collections
 import typing
 
 import built
+import shape
 import sql
 
 import model
@@ -22,10 +23,21 @@ def replaced(old, new):
     return change
 
 
+def unknown_passes_neither(tokens):
+    """The two tests for TRUE and FALSE that an unknown value passes, as the two that it does not."""
+    return replaced(["IS", "NOT", "FALSE"], ["IS", "TRUE"])(replaced(["IS", "NOT", "TRUE"], ["IS", "FALSE"])(tokens))
+
+
 def without_nots(tokens):
-    """Every NOT left out that is no part of NOT IN or IS NOT NULL."""
+    """Every NOT left out that is a part of its own."""
     followed = zip(tokens, tokens[1:] + [""])
-    return [token for token, after in followed if token != "NOT" or after in ("IN", "NULL")]
+    return [token for token, after in followed if token != "NOT" or after in shape.BEHIND_NOT]
+
+
+def without_truth_tests(tokens):
+    """The words of every truth test left out."""
+    words = {test.end + 1 + place for test in shape.truth_tests(tokens) for place in range(len(test.words.split()))}
+    return [token for place, token in enumerate(tokens) if place not in words]
 
 
 def bracket_end(tokens, place):
@@ -75,6 +87,10 @@ CHANGES = (
     Change("OR for AND", replaced(["AND"], ["OR"])),
     Change("no NOT", without_nots),
     Change("lists without WHERE", without_list_wheres),
+    Change("no truth tests", without_truth_tests),
+    Change("IS TRUE for IS NOT FALSE and IS FALSE for IS NOT TRUE", unknown_passes_neither),
+    Change("IS FALSE for IS UNKNOWN", replaced(["IS", "UNKNOWN"], ["IS", "FALSE"])),
+    Change("IS TRUE for IS NOT UNKNOWN", replaced(["IS", "NOT", "UNKNOWN"], ["IS", "TRUE"])),
     Change("blanks as 0", of_tables=blanks_as_zeros),
     Change("last rows dropped", of_tables=last_rows_dropped),
 )

@@ -25,13 +25,14 @@ class Comparison:
         self.wrong_values = 0
 
     def group(self, group):
-        """READ, CARD and CHECK accept every rule of a group, and the other calls agree with its values on both files."""
+        """READ, CARD and CHECK accept every rule of a group, its card has as many entries as its tokens tell, and the other calls agree with its values."""
         tables_pair = [model.tables_of(file) for file in group.files]
         for tables in tables_pair:
             self.seen.add_file(tables)
         for rule in group.rules:
             self.calls.read(rule.text, group.files[0], shape.part_count(rule.tokens))
             ready = self.calls.rule(rule.text, group.files[0])
+            built.compare.same((rule.text, "entries"), int.from_bytes(ready.card[:2], "little"), shape.entry_sum(rule.tokens))
             for file, values in zip(group.files, rule.values_pair):
                 built.agree(ready, file, values)
             self.seen.add_rule(rule.tokens, tables_pair, rule.values_pair)

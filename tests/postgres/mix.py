@@ -15,13 +15,16 @@ LEAST_OF_RULES = {
     "EXISTS": .5, "SOME": .2, "ALL": .2, "IN": .2, "NOT IN": .2, "IS NULL": .5, "IS NOT NULL": .3,
     **{f"comparison {sign}": .15 for sign in shape.SIGNS},
     **{f"{sign} {word}": .03 for sign in shape.SIGNS for word in ("SOME", "ALL")},
+    **{words: .08 for words in shape.TRUTH_TESTS},
+    "a truth test in another": .12, "a truth test around a FROM": .15, "a truth test in a WHERE": .15, "a truth test under NOT": .08,
+    f"truth tests and over {shape.MANY_ENTRIES} entries": .015,
     "FROMs 0": .05, "FROMs 1": .15, "FROMs 2": .15, "FROMs 3": .2,
     "a letter bound again": .4, "m bound again": .25, "a column of an outer row": .5, "left of a list, the letter that the list binds": .1,
     "a number at an end of the range": .03,
     "true on a row": .4, "unknown on a row": .2, "false on a row": .4, "values that differ between rows": .25,
     "a row source that is empty": .2, "other values with the later file": .25,
 }
-LEAST_OF_VALUES = {truth: .12 for truth in TRUTHS}
+LEAST_OF_VALUES = {truth: .1 for truth in TRUTHS}
 LEAST_OF_FILES = {"table 1 empty": .02, "another table empty": .2}
 LEAST_OF_CELLS = {"blank": .4, "present": .4}
 
@@ -44,7 +47,7 @@ class Mix:
     def add_rule(self, tokens, tables_pair, values_pair):
         """A rule, by its tokens, with the tables of its two files and its values on their rows."""
         self.rule_count += 1
-        found = shape.forms(tokens) | shape.traits(tokens) | {f"FROMs {shape.depth(tokens)}"}
+        found = shape.forms(tokens) | shape.traits(tokens) | shape.truth_traits(tokens) | {f"FROMs {shape.depth(tokens)}"}
         found |= {f"{value} on a row" for values in values_pair for value in values}
         if any(len(set(values)) > 1 for values in values_pair):
             found.add("values that differ between rows")

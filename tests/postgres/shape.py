@@ -1,4 +1,4 @@
-"""What a rule is made of, told by its written tokens alone: parts, brackets, FROMs and letters. No grammar is needed, since the rules are drawn valid."""
+"""What a rule is made of, told by its written tokens alone: parts, entries, brackets, FROMs, letters. No grammar is needed, since the rules are drawn valid."""
 import typing
 
 import built  # noqa: F401  (it adds the folders of the calls and of the model to the path)
@@ -6,7 +6,10 @@ import built  # noqa: F401  (it adds the folders of the calls and of the model t
 import model
 
 SIGNS = tuple(model.COMPARISONS)
+TRUTH_TESTS = tuple(f"{words} {word}" for word in model.TRUTH_WORDS for words in ("IS", "IS NOT"))
+BEHIND_NOT = ("IN", "NULL") + model.TRUTH_WORDS  # what stands behind a NOT that is no part of its own
 EDGE = 2**31 - 2
+MANY_ENTRIES = 100
 
 
 class From(typing.NamedTuple):
@@ -16,11 +19,55 @@ class From(typing.NamedTuple):
     outer: tuple
 
 
+class TruthTest(typing.NamedTuple):
+    """A truth test by its words, and the places of the brackets before them."""
+    words: str
+    start: int
+    end: int
+
+    def holds(self, place):
+        """Whether a place is in the brackets."""
+        return self.start < place < self.end
+
+
 def part_count(tokens):
-    """Every OR, AND, NOT and test. The NOT of NOT IN and of IS NOT NULL is none of its own, nor is SOME or ALL beside its sign."""
+    """Every OR, AND, NOT and test. A NOT within the words of a test is none of its own, nor is SOME or ALL beside its sign."""
     followed = zip(tokens, tokens[1:] + [""])
-    return sum(
-        token in ("AND", "OR", "EXISTS", "IS", "IN") or token in SIGNS or token == "NOT" and after not in ("IN", "NULL") for token, after in followed)
+    return sum(token in ("AND", "OR", "EXISTS", "IS", "IN") or token in SIGNS or token == "NOT" and after not in BEHIND_NOT for token, after in followed)
+
+
+def words_from(tokens, place):
+    """The words of the test whose IS stands at a place."""
+    return " ".join(tokens[place:place + (3 if tokens[place + 1] == "NOT" else 2)])
+
+
+def truth_tests(tokens):
+    """The truth tests of a rule: an IS behind a bracket."""
+    found, opened = [], []
+    for place, token in enumerate(tokens):
+        if token == "(":
+            opened.append(place)
+        elif token == ")":
+            start = opened.pop()
+            if tokens[place + 1:place + 2] == ["IS"]:
+                found.append(TruthTest(words_from(tokens, place + 1), start, place))
+    return found
+
+
+def own_entries(tokens, place):
+    """The entries of the part whose sign or first word stands at a place."""
+    token = tokens[place]
+    if token == "IN" or token in SIGNS and tokens[place + 1] in ("SOME", "ALL"):
+        return 3
+    if token == "IS":
+        return int(words_from(tokens, place).endswith(("NULL", "UNKNOWN")))
+    return int(token in ("AND", "OR", "EXISTS") or token in SIGNS)
+
+
+def entry_sum(tokens):
+    """How many entries the card of a rule has. What IS UNKNOWN and IS NOT UNKNOWN test counts twice, and again within one another."""
+    twice = [test for test in truth_tests(tokens) if test.words.endswith("UNKNOWN")]
+    return sum(own_entries(tokens, place) * 2 ** sum(test.holds(place) for test in twice) for place in range(len(tokens)))
 
 
 def most_open(tokens):
@@ -62,7 +109,9 @@ def refusal(tokens, text):
         return 3
     if most_open(tokens) > model.MOST_OPEN_BRACKETS:
         return 5
-    return 7 if part_count(tokens) > model.MOST_PARTS or depth(tokens) > model.MOST_FROMS else None
+    if part_count(tokens) > model.MOST_PARTS or depth(tokens) > model.MOST_FROMS:
+        return 7
+    return 13 if entry_sum(tokens) > model.MOST_ENTRIES else None
 
 
 # ---- what is counted
@@ -77,7 +126,7 @@ def forms(tokens):
         elif token == "IN":
             found.add("NOT IN" if before == "NOT" else "IN")
         elif token == "IS":
-            found.add("IS NULL" if after == "NULL" else "IS NOT NULL")
+            found.add(words_from(tokens, place))
         elif token in SIGNS:
             found.update([after, f"{token} {after}"] if after in ("SOME", "ALL") else [f"comparison {token}"])
     return found
@@ -109,4 +158,22 @@ def traits(tokens):
             found.add("a column of an outer row")
         if token[-1].isdigit() and abs(int(token)) >= EDGE:
             found.add("a number at an end of the range")
+    return found
+
+
+def truth_traits(tokens):
+    """What is worth counting of the places of truth tests in a rule."""
+    found, tests = set(), truth_tests(tokens)
+    levels = [len(bound) for _, bound in scopes(tokens)]
+    for test in tests:
+        if any(other.holds(test.start) for other in tests):
+            found.add("a truth test in another")
+        if "FROM" in tokens[test.start:test.end]:
+            found.add("a truth test around a FROM")
+        if levels[test.start] > 1:
+            found.add("a truth test in a WHERE")
+        if test.start > 0 and tokens[test.start - 1] == "NOT":
+            found.add("a truth test under NOT")
+    if tests and entry_sum(tokens) > MANY_ENTRIES:
+        found.add(f"truth tests and over {MANY_ENTRIES} entries")
     return found

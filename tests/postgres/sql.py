@@ -2,10 +2,18 @@
 from built import Disagreement  # (built adds the folders of the calls and of the model to the path)
 
 import model
-from test_model import sql_of_tokens as condition_of  # noqa: F401  (the condition in SQL of a rule's tokens; SOME and ALL stay as they are)
+from test_model import sql_of_tokens
 
 SEPARATOR = "="
 TRUTHS = {"t": model.TRUE, "f": model.FALSE, "U": model.UNKNOWN}
+
+
+def condition_of(tokens):
+    """The condition in SQL of a rule's tokens. SOME, ALL and the words of truth tests stay as they are, UNKNOWN too, which the model has another word for."""
+    if "UNKNOWN" not in tokens:
+        return sql_of_tokens(tokens)
+    place = tokens.index("UNKNOWN")
+    return f"{sql_of_tokens(tokens[:place])} UNKNOWN {condition_of(tokens[place + 1:])}"
 
 
 def cell_sql(cell):

@@ -20,7 +20,7 @@ pub const MOST_CARD_BYTES: usize = 2891;
 /// The most rows that a table has.
 pub const MOST_ROWS: usize = 1000;
 
-/// Why a call was refused: the number of the first refusal that applies, in the order that the call states. The numbers rise there, so it is the lowest.
+/// Why a call was refused: the number of the first refusal that applies, in the order that the call states.
 #[derive(Clone, Copy, Debug, PartialEq, Eq)]
 pub struct Refusal(pub u32);
 
@@ -39,6 +39,7 @@ impl fmt::Display for Refusal {
             10 => "the card was made for another number of tables or columns",
             11 => "the row is not in table 1",
             12 => "what was lent is shorter than the whole answer",
+            13 => "the card would have over 192 entries",
             _ => "no published reason",
         };
         write!(f, "refused {}: {}", self.0, reason)
@@ -66,7 +67,7 @@ fn answer_of<T>(status: u32, answer: T) -> Result<T, Refusal> {
 // Each pointer below comes from a slice or a local, with the slice's length, and `&mut` keeps what is written from being reachable otherwise: that is all that
 // the C functions ask.
 
-/// READ: writes the parts of a rule from the start of `parts` on, and answers how many they are. Refusals, in this order: 1 to 8, 12.
+/// READ: writes the parts of a rule from the start of `parts` on, and answers how many they are. Refusals, in this order: 1 to 8, 13, 12.
 pub fn read(text: &[u8], tables: &[u8], parts: &mut [Part]) -> Result<usize, Refusal> {
     let mut count = 0;
     let status = unsafe {
@@ -75,7 +76,7 @@ pub fn read(text: &[u8], tables: &[u8], parts: &mut [Part]) -> Result<usize, Ref
     answer_of(status, count)
 }
 
-/// JUDGE: the value of a rule on a row of table 1. Refusals, in this order: 1 to 8, 11.
+/// JUDGE: the value of a rule on a row of table 1. Refusals, in this order: 1 to 8, 13, 11.
 pub fn judge(text: &[u8], tables: &[u8], row: usize) -> Result<Truth, Refusal> {
     let mut value = 0;
     let status = unsafe { ffi::roskudla_judge(text.as_ptr(), text.len(), tables.as_ptr(), tables.len(), row, &mut value) };
@@ -87,7 +88,7 @@ pub fn judge(text: &[u8], tables: &[u8], row: usize) -> Result<Truth, Refusal> {
     })
 }
 
-/// CARD: writes the card of a rule from the start of `card` on, and answers how many bytes it has. Refusals, in this order: 1 to 8, 12.
+/// CARD: writes the card of a rule from the start of `card` on, and answers how many bytes it has. Refusals, in this order: 1 to 8, 13, 12.
 pub fn card(text: &[u8], tables: &[u8], card: &mut [u8]) -> Result<usize, Refusal> {
     let mut length = 0;
     let status =

@@ -1,4 +1,5 @@
-//! The wrapper on document 01's own examples: its cases, its worked card and parts, each refusal, and what is lent before and after.
+//! The wrapper on document 01's own examples: its cases, its worked card and parts, each refusal, and what is lent before and after; and on document 02's truth
+//! tests.
 use roskudla::{card, check, judge, list, read, run, Part, Refusal, Truth, Value, MOST_CARD_BYTES, MOST_PARTS, MOST_ROWS};
 
 /// (1, 5), (2, blank), (3, 0); 1, blank; no rows. Under the blanks stand 7 and 1, which no answer may show.
@@ -11,6 +12,14 @@ const CASE_TABLES: &[u8] = &[
 const WORKED_TABLES: &[u8] = &[1, 3, 0, 0];
 const WORKED_TEXT: &[u8] = b"NOT m.2 < 5";
 const WORKED_CARD: &[u8] = &[1, 0, 1, 3, 5, 1, 0, 0, 6, 0, 2, 0, 0, 0, 0xFF, 5, 0, 0, 0];
+const UNKNOWN_TEXT: &[u8] = b"(m.3 > 0) IS UNKNOWN";
+#[rustfmt::skip]
+const UNKNOWN_CARD: &[u8] = &[
+    3, 0, 1, 3, 1, 6, 6,
+    3, 0, 0, 0, 0, 0, 0, 0, 0, 0, 0, 0, 0, 0,
+    2, 0, 0, 4, 0, 3, 0, 0, 0, 0xFF, 0, 0, 0, 0,
+    3, 0, 0, 5, 0, 3, 0, 0, 0, 0xFF, 0, 0, 0, 0,
+];
 const ALL2: &str = "(SELECT v.1 FROM 2 v WHERE 1 = 1)";
 const ALL3: &str = "(SELECT v.1 FROM 3 v WHERE 1 = 1)";
 
@@ -32,44 +41,81 @@ fn cases() -> Vec<(String, &'static str)> {
     plain.iter().map(|(text, values)| (text.replace("ALL2", ALL2).replace("ALL3", ALL3), *values)).collect()
 }
 
+/// The truth tests, in the order of their kinds from 10 on, with their values on true, unknown and false, which `m.2 > 0` is on rows 0, 1 and 2; and the
+/// opposites of these.
+const TRUTH_TESTS: [(&str, &str, &str); 6] = [
+    ("IS TRUE", "TFF", "FTT"),
+    ("IS NOT TRUE", "FTT", "TFF"),
+    ("IS FALSE", "FFT", "TTF"),
+    ("IS NOT FALSE", "TTF", "FFT"),
+    ("IS UNKNOWN", "FTF", "TFT"),
+    ("IS NOT UNKNOWN", "TFT", "FTF"),
+];
+
+/// A condition within so many IS UNKNOWN around one another: each makes 1 plus twice the sum of entries in it.
+fn within_unknowns(count: usize, condition: &str) -> String {
+    "(".repeat(count) + condition + &") IS UNKNOWN".repeat(count)
+}
+
+/// The values of a rule on rows 0, 1 and 2, and what its card says of them.
+fn has_values(text: &str, values: &str) {
+    let mut bytes = [0; MOST_CARD_BYTES];
+    let length = card(text.as_bytes(), CASE_TABLES, &mut bytes).unwrap();
+    let made = &bytes[..length];
+    assert_eq!(check(made), Ok(()));
+    let mut admitted = Vec::new();
+    for (row, value) in values.chars().enumerate() {
+        let truth = match value {
+            'T' => Truth::True,
+            'U' => Truth::Unknown,
+            _ => Truth::False,
+        };
+        assert_eq!(judge(text.as_bytes(), CASE_TABLES, row), Ok(truth), "{text} on row {row}");
+        assert_eq!(run(made, CASE_TABLES, row), Ok(truth == Truth::True), "{text} on row {row}");
+        if truth == Truth::True {
+            admitted.push(row as u32);
+        }
+    }
+    let mut rows = [0; MOST_ROWS];
+    let count = list(made, CASE_TABLES, &mut rows).unwrap();
+    assert_eq!(rows[..count], admitted[..], "{text}");
+}
+
 #[test]
 fn cases_are_judged_run_and_listed() {
     for (text, values) in cases() {
-        let mut bytes = [0; MOST_CARD_BYTES];
-        let length = card(text.as_bytes(), CASE_TABLES, &mut bytes).unwrap();
-        let made = &bytes[..length];
-        assert_eq!(check(made), Ok(()));
-        let mut admitted = Vec::new();
-        for (row, value) in values.chars().enumerate() {
-            let truth = match value {
-                'T' => Truth::True,
-                'U' => Truth::Unknown,
-                _ => Truth::False,
-            };
-            assert_eq!(judge(text.as_bytes(), CASE_TABLES, row), Ok(truth), "{text} on row {row}");
-            assert_eq!(run(made, CASE_TABLES, row), Ok(truth == Truth::True), "{text} on row {row}");
-            if truth == Truth::True {
-                admitted.push(row as u32);
-            }
-        }
-        let mut rows = [0; MOST_ROWS];
-        let count = list(made, CASE_TABLES, &mut rows).unwrap();
-        assert_eq!(rows[..count], admitted[..], "{text}");
+        has_values(&text, values);
     }
 }
 
 #[test]
-fn worked_card_in_buffers_of_every_length() {
-    for room in 0..WORKED_CARD.len() + 3 {
-        let mut bytes = vec![0xA5; room];
-        let answer = card(WORKED_TEXT, WORKED_TABLES, &mut bytes);
-        if room < WORKED_CARD.len() {
-            assert_eq!(answer, Err(Refusal(12)));
-            assert!(bytes.iter().all(|byte| *byte == 0xA5));
-        } else {
-            assert_eq!(answer, Ok(WORKED_CARD.len()));
-            assert_eq!(bytes[..WORKED_CARD.len()], *WORKED_CARD);
-            assert!(bytes[WORKED_CARD.len()..].iter().all(|byte| *byte == 0xA5));
+fn each_truth_test_on_each_value() {
+    for (number, (ending, values, opposites)) in TRUTH_TESTS.iter().enumerate() {
+        let test = format!("(m.2 > 0) {ending}");
+        has_values(&test, values);
+        has_values(&format!("NOT {test}"), opposites);
+        has_values(&format!("({test}) IS FALSE"), opposites);
+        has_values(&format!("m.1 <> ALL (SELECT k.1 FROM 1 k WHERE {test})"), opposites);
+        let mut parts = [Part::default(); 3];
+        assert_eq!(read(format!("NOT {test}").as_bytes(), CASE_TABLES, &mut parts), Ok(3));
+        assert_eq!(parts.map(|part| part.kind), [3, 10 + number as u8, 4]);
+    }
+}
+
+#[test]
+fn worked_cards_in_buffers_of_every_length() {
+    for (text, wanted) in [(WORKED_TEXT, WORKED_CARD), (UNKNOWN_TEXT, UNKNOWN_CARD)] {
+        for room in 0..wanted.len() + 3 {
+            let mut bytes = vec![0xA5; room];
+            let answer = card(text, WORKED_TABLES, &mut bytes);
+            if room < wanted.len() {
+                assert_eq!(answer, Err(Refusal(12)));
+                assert!(bytes.iter().all(|byte| *byte == 0xA5));
+            } else {
+                assert_eq!(answer, Ok(wanted.len()));
+                assert_eq!(bytes[..wanted.len()], *wanted);
+                assert!(bytes[wanted.len()..].iter().all(|byte| *byte == 0xA5));
+            }
         }
     }
 }
@@ -91,6 +137,15 @@ fn parts_field_by_field() {
     let mut few = [filler; 2];
     assert_eq!(read(text, CASE_TABLES, &mut few), Err(Refusal(12)));
     assert_eq!(few, [filler; 2]);
+    let wanted = [
+        Part { kind: 3, end: 3, ..Part::default() },
+        Part { kind: 13, end: 3, ..Part::default() },
+        Part { kind: 4, comparison: 1, table: 0, end: 3, left: Value { tag: 0, number: 2 }, right: Value { tag: 255, number: 9 } },
+    ];
+    let mut parts = [filler; 4];
+    assert_eq!(read(b"NOT (m.2 = 9) IS NOT FALSE", CASE_TABLES, &mut parts), Ok(3));
+    assert_eq!(parts[..3], wanted);
+    assert_eq!(parts[3], filler);
 }
 
 #[test]
@@ -98,8 +153,21 @@ fn every_refusal() {
     let spaces = vec![b' '; 4097];
     let brackets = vec![b'('; 33];
     let tests = ["1 = 1"; 33].join(" OR ");
-    let texts: [(u32, &[u8]); 7] =
-        [(3, &spaces), (4, b"m.1 = 2147483648"), (5, &brackets), (6, b""), (6, b"m.1 ="), (7, tests.as_bytes()), (8, b"k.1 = 1")];
+    let (seven, unbound) = (within_unknowns(7, "1 = 1"), within_unknowns(7, "k.1 = 1"));
+    let texts: [(u32, &[u8]); 12] = [
+        (3, &spaces),
+        (4, b"m.1 = 2147483648"),
+        (5, &brackets),
+        (6, b""),
+        (6, b"m.1 ="),
+        (6, b"(1 = 1) IS TRUE IS TRUE"),
+        (6, b"1 = 1 IS TRUE"),
+        (6, b"TRUE"),
+        (7, tests.as_bytes()),
+        (8, b"k.1 = 1"),
+        (8, unbound.as_bytes()),
+        (13, seven.as_bytes()),
+    ];
     for (number, text) in texts {
         assert_eq!(judge(text, CASE_TABLES, 0), Err(Refusal(number)));
         assert_eq!(read(text, CASE_TABLES, &mut []), Err(Refusal(number)));
@@ -115,7 +183,35 @@ fn every_refusal() {
     assert_eq!(list(WORKED_CARD, WORKED_TABLES, &mut []), Ok(0));
 }
 
+/// An EXISTS has 2 entries, which six IS UNKNOWN make 191, and the EXISTS around them 192. Over eight tables no card is longer; one entry more is refused.
+#[test]
+fn sums_up_to_192_are_accepted() {
+    let exists = |condition: &str| format!("EXISTS (FROM 1 v WHERE {condition})");
+    let most = exists(&within_unknowns(6, &exists("1 = 1")));
+    let mut eight_tables = vec![8];
+    eight_tables.extend([1, 0, 0].repeat(8));
+    let mut bytes = [0; MOST_CARD_BYTES];
+    assert_eq!(card(most.as_bytes(), &eight_tables, &mut bytes), Ok(MOST_CARD_BYTES));
+    assert_eq!(check(&bytes), Ok(()));
+    assert_eq!(card(most.as_bytes(), &eight_tables, &mut bytes[1..]), Err(Refusal(12)));
+    assert_eq!(card(exists(&most).as_bytes(), &eight_tables, &mut bytes), Err(Refusal(13)));
+    assert_eq!(read(exists(&most).as_bytes(), &eight_tables, &mut []), Err(Refusal(13)));
+}
+
+/// 13 comes before 11 and 12: seven IS UNKNOWN within one another make a sum of 255, and six of them 127.
+#[test]
+fn entries_before_rows_and_room() {
+    let (seven, six) = (within_unknowns(7, "1 = 1"), within_unknowns(6, "1 = 1"));
+    assert_eq!(judge(seven.as_bytes(), CASE_TABLES, 99), Err(Refusal(13)));
+    assert_eq!(judge(six.as_bytes(), CASE_TABLES, 99), Err(Refusal(11)));
+    assert_eq!(card(seven.as_bytes(), CASE_TABLES, &mut []), Err(Refusal(13)));
+    assert_eq!(card(six.as_bytes(), CASE_TABLES, &mut []), Err(Refusal(12)));
+    assert_eq!(read(seven.as_bytes(), CASE_TABLES, &mut []), Err(Refusal(13)));
+    assert_eq!(read(six.as_bytes(), CASE_TABLES, &mut []), Err(Refusal(12)));
+}
+
 #[test]
 fn refusals_say_why() {
     assert_eq!(Refusal(6).to_string(), "refused 6: the text does not follow the grammar");
+    assert_eq!(Refusal(13).to_string(), "refused 13: the card would have over 192 entries");
 }

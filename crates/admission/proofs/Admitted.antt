@@ -18,7 +18,7 @@ use Rattle.card.specs.Sound.{mostCardBytes}
 use Rattle.card.specs.Calls.{listCall}
 use Rattle.rule.specs.Condition.{Rule}
 use Rattle.rule.specs.Calls.{ruleOf, readingRefusals, Accepted, withRule, trueRows, admitCall}
-use Rattle.rule.proofs.Accepted.{accepted-allowed}
+use Rattle.rule.proofs.Accepted.{accepted-named}
 use Rattle.parser.proofs.Known.{known}
 use Rattle.translation.specs.Calls.{ruleBytes, cardCall}
 use Rattle.translation.specs.Demand3.{Later, publishedLength, Demand3For}
@@ -64,7 +64,7 @@ module _ (text file : List ℕ) (accepted : Accepted text file) where
   later : Later file file
   unfolding tablesRefusals sameColumns
   later =
-      let w = accepted-allowed text file accepted in
+      let w = accepted-named text file accepted in
       record {
         no-refusal = first-none 1 _ _ (ap not (w .tables-sized)) (first-none 2 _ _ (ap not (w .tables-marked)) first-nil);
         same-columns = is-true _ (same-refl (columnsOf file));

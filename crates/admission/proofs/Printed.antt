@@ -15,11 +15,11 @@ use Rattle.tables.proofs.Sizes.{count-at}
 use Rattle.cells.specs.Code.{Sized}
 use Rattle.cells.specs.Reasons.{reasonNumber}
 use Rattle.cells.specs.declared.Reason.{Reason}
-use Rattle.cells.specs.declared.Reason.the-variants.{Sizes, Mark, TextLength, Token, Brackets, Grammar, Limits, Names, Unsound, Columns, Row, Short}
+use Rattle.cells.specs.declared.Reason.the-variants.{Sizes, Mark, TextLength, Token, Brackets, Grammar, Limits, Names, Unsound, Columns, Row, Short, Entries}
 use Rattle.cells.proofs.Cells.{sized-is}
 use Rattle.rule.specs.Condition.{Rule}
 use Rattle.rule.specs.Calls.{ruleOf, readingRefusals, Accepted, withRule, trueAt, trueRows, admitCall}
-use Rattle.rule.proofs.Accepted.{accepted-allowed, parts-claim}
+use Rattle.rule.proofs.Accepted.{accepted-named, parts-claim}
 use Rattle.gate.specs.Answers.{listedAnswer}
 use Rattle.gate.specs.declared.Listed.{Listed}
 use Rattle.admission.specs.Output.{rowsText, refusalText, outputFor, output}
@@ -40,7 +40,7 @@ rows-below file p k h = rows-claim .exactly file p (getD (rowsWhere file p) k 0)
 
 module _ (text file : List ℕ) (accepted : Accepted text file) where
   sized : Sized file
-  sized = sized-is file (accepted-allowed text file accepted .tables-sized)
+  sized = sized-is file (accepted-named text file accepted .tables-sized)
 
   total-is : rowCount file 1 ≡ sizeAt file 0 .rows
   total-is = count-at file 0 (sized .tables-low)
@@ -86,6 +86,7 @@ reason-small Unsound = omega arith
 reason-small Columns = omega arith
 reason-small Row = omega arith
 reason-small Short = omega arith
+reason-small Entries = omega arith
 
 module _ (text file room : List ℕ) (size : length room ≡ mostRows) (listed : Listed) (answer : listedAnswer listed ≡ admitCall text file room .result) where
   pub prints-refusal : (x : Reason) → listed ≡ Listed.NotListed x → refusalText (reasonNumber x) ≡ output text file

@@ -3,7 +3,7 @@ use mathlib.Core.List.{List, [], _∷_, _++_, map}
 use Prim.Native.Nat.{ℕ}
 use Prim.Native.String.{String}
 use Rattle.rule.specs.Tokens.{bytes}
-use Rattle.rule.specs.Cases.{caseTables}
+use Rattle.rule.specs.Cases.{caseTables, unknownOf}
 use Rattle.admission.specs.Output.{lineFeed, output}
 
 pub record OutputCase : Type 0 where
@@ -27,6 +27,8 @@ outputCases =
     ∷ on [] [] ("refused 1" ∷ [])
     ∷ on [] caseTables ("refused 6" ∷ [])
     ∷ on (bytes "k.1 = 1") caseTables ("refused 8" ∷ [])
+    ∷ on (bytes "(m.2 > 0) IS UNKNOWN") caseTables ("rows 1 of 3" ∷ "1" ∷ [])
+    ∷ on (unknownOf 7 (bytes "1 = 1")) caseTables ("refused 13" ∷ [])
     ∷ []
 
 -- numbers, and how they are printed

@@ -10,13 +10,13 @@ ghost use Rattle.io.specs.Counts.{Counts};
 ghost use Rattle.gate.specs.Answers.{listedAnswer};
 ghost use Rattle.admission.specs.Output.{mostOutput, decimal, rowLines, rowsText, refusalText, output, readOfText, readOfTables, WrittenFor};
 ghost use Rattle.admission.specs.Code.{RowsShort};
-use card::MOST_ENTRIES;
 use card::RECORD_SIZE;
 use cells::MOST_CELLS;
 use cells::MOST_ROWS;
 use cells::MOST_TABLES;
 use gate::Listed;
 use lexer::MOST_BYTES;
+use tables::MOST_ENTRIES;
 use translator::Made;
 
 // How much of its files the program reads: a byte more than any that is accepted has.

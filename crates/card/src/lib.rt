@@ -1,8 +1,6 @@
 // What a card is. The definitions are in specs/; these are the numbers of its layout, for the functions that read and write cards.
 
-// Most entries of a card, and most row entries around one another.
-pub const MOST_ENTRIES: usize = 192;
-
+// Most row entries around one another.
 pub const MOST_ROW_ENTRIES: usize = 3;
 
 // The bytes of a record, and the place of each field in it, after the two bytes of its end.

@@ -8,13 +8,13 @@ use Rattle.tables.specs.Refusals.{Answer, Refused}
 use Rattle.cells.specs.Reasons.{reasonNumber, validityAnswer}
 use Rattle.cells.specs.Claims.{ReasonsClaim}
 use Rattle.cells.specs.declared.Reason.{Reason}
-use Rattle.cells.specs.declared.Reason.the-variants.{Sizes, Mark, TextLength, Token, Brackets, Grammar, Limits, Names, Unsound, Columns, Row, Short}
+use Rattle.cells.specs.declared.Reason.the-variants.{Sizes, Mark, TextLength, Token, Brackets, Grammar, Limits, Names, Unsound, Columns, Row, Short, Entries}
 use Rattle.cells.specs.declared.Validity.{Validity}
 use Rattle.cells.specs.declared.Validity.the-variants.{Valid, Invalid}
 
 -- the reason with a number
 abbrev reasonAt : ℕ → Reason
-reasonAt n = getD (Sizes ∷ Sizes ∷ Mark ∷ TextLength ∷ Token ∷ Brackets ∷ Grammar ∷ Limits ∷ Names ∷ Unsound ∷ Columns ∷ Row ∷ Short ∷ []) n Sizes
+reasonAt n = getD (Sizes ∷ Sizes ∷ Mark ∷ TextLength ∷ Token ∷ Brackets ∷ Grammar ∷ Limits ∷ Names ∷ Unsound ∷ Columns ∷ Row ∷ Short ∷ Entries ∷ []) n Sizes
 
 reason-back : (x : Reason) → reasonAt (reasonNumber x) ≡ x
 reason-back Sizes = refl
@@ -29,6 +29,7 @@ reason-back Unsound = refl
 reason-back Columns = refl
 reason-back Row = refl
 reason-back Short = refl
+reason-back Entries = refl
 
 -- for enums with a case that carries a reason to refuse
 pub same-reason : {A : Type 0} {x y : Reason} → _≡_ {A = Answer A} (Refused (reasonNumber x)) (Refused (reasonNumber y)) → x ≡ y

@@ -2,11 +2,11 @@
 use Prim.Native.Nat.{ℕ}
 use Rattle.tables.specs.Refusals.{Answer, Refused, Given}
 use Rattle.cells.specs.declared.Reason.{Reason}
-use Rattle.cells.specs.declared.Reason.the-variants.{Sizes, Mark, TextLength, Token, Brackets, Grammar, Limits, Names, Unsound, Columns, Row, Short}
+use Rattle.cells.specs.declared.Reason.the-variants.{Sizes, Mark, TextLength, Token, Brackets, Grammar, Limits, Names, Unsound, Columns, Row, Short, Entries}
 use Rattle.cells.specs.declared.Validity.{Validity}
 use Rattle.cells.specs.declared.Validity.the-variants.{Valid, Invalid}
 
--- 'Gate says why not': the number in the table for each reason to refuse
+-- 'Gate says why not': the number in the table for each reason to refuse; 13 is of document 02, Point 1
 abbrev pub reasonNumber : Reason → ℕ
 reasonNumber Sizes = 1
 reasonNumber Mark = 2
@@ -20,6 +20,7 @@ reasonNumber Unsound = 9
 reasonNumber Columns = 10
 reasonNumber Row = 11
 reasonNumber Short = 12
+reasonNumber Entries = 13
 
 -- a tables file is valid, or is refused for a reason
 abbrev pub validityAnswer : Validity → Answer (Unit {0})

@@ -26,7 +26,7 @@ pub const PLACES: usize = 3 * MOST_TABLES + 3;
 // A signed number of 32 bits is kept plus this, so that signed numbers are compared as unsigned ones.
 pub const EXCESS: usize = 2147483648;
 
-// Why a call refuses, in the order of the published numbers.
+// Why a call refuses, in the order of the published numbers. Which reason comes first in a call is another order, that of its refusals.
 pub enum Reason {
     Sizes,
     Mark,
@@ -40,6 +40,7 @@ pub enum Reason {
     Columns,
     Row,
     Short,
+    Entries,
 }
 
 // For an arm that no input reaches: whoever calls this has proved so.
@@ -65,6 +66,7 @@ pub fn refusal_number(x: Reason) -> u32
         Reason::Columns => 10,
         Reason::Row => 11,
         Reason::Short => 12,
+        Reason::Entries => 13,
     }
 }
 

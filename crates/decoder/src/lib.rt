@@ -17,7 +17,6 @@ use card::COMPARISON_OR_YES;
 use card::COMPARISON_PLACE;
 use card::EVERY_ROW;
 use card::LEFT_PLACE;
-use card::MOST_ENTRIES;
 use card::NOT_BLANK;
 use card::OR_ENTRY;
 use card::RECORD_SIZE;
@@ -29,6 +28,7 @@ use cells::byte;
 use cells::read_excess;
 use cells::read16;
 use cells::read32;
+use tables::MOST_ENTRIES;
 use values::CONSTANT;
 
 // The numbers that an entry is decoded to, and those of all entries.

@@ -1,51 +1,17 @@
 -- The card of a rule, negated or not, by what the rule is.
-use mathlib.Core.Path.{_≡_, refl, ap, ap₂, _∙_}
+use mathlib.Core.Path.{_≡_, refl, ap, _∙_}
 use mathlib.Core.Bool.{Bool, true, false, not, cond}
 use Prim.Native.Nat.{ℕ}
-use Rattle.tables.specs.Values.{Value, Comparison, Eq, Ne, Lt, Le, Gt, Ge, Connective, And, Or, Quantifier, Some, All, MarkTest, Null, NotNull}
-use Rattle.card.specs.Card.{Interpretation, AsNo, AsYes, Leaf, CompareLeaf, MarkLeaf, Card, LeafEntry, PairEntry, RowEntry}
+use Rattle.tables.specs.Values.{Value, Comparison, Connective, And, Or, Quantifier, Some, All}
+use Rattle.card.specs.Card.{AsNo, AsYes, CompareLeaf, Card, LeafEntry, PairEntry, RowEntry}
 use Rattle.card.specs.Layout.{pairKind, rowKind}
-use Rattle.rule.specs.Condition.{Test, Not, From, Single, Atom, Join, Apply, Exists, Listed, Rule}
-use Rattle.translation.specs.Translation.{other, otherConnective, otherQuantifier, otherComparison, otherMark, otherLeaf, negated, leafOf, rowsCard, cardOf}
+use Rattle.rule.specs.Truth.{False, Unknown, True}
+use Rattle.rule.specs.Condition.{Test, Not, Is, IsNot, From, Single, Atom, Join, Apply, Exists, Listed, Rule}
+use Rattle.translation.specs.Translation.{otherQuantifier, otherLeaf, negated, leafOf, rowsCard, cardOf}
+use Rattle.translation.proofs.Negating.{negated-twice}
 use Rattle.rule.specs.Parts.{tableOf}
 use Rattle.records.specs.Code.{connectiveAs, rowKindAs}
 use Rattle.entries.specs.Code.{interpretationOf, leafAs, cardAs}
-
--- ---- negating twice
-
-other-other : (i : Interpretation) → other (other i) ≡ i
-other-other AsNo = refl
-other-other AsYes = refl
-
-comparison-twice : (op : Comparison) → otherComparison (otherComparison op) ≡ op
-comparison-twice Eq = refl
-comparison-twice Ne = refl
-comparison-twice Lt = refl
-comparison-twice Le = refl
-comparison-twice Gt = refl
-comparison-twice Ge = refl
-
-connective-twice : (j : Connective) → otherConnective (otherConnective j) ≡ j
-connective-twice And = refl
-connective-twice Or = refl
-
-quantifier-twice : (q : Quantifier) → otherQuantifier (otherQuantifier q) ≡ q
-quantifier-twice Some = refl
-quantifier-twice All = refl
-
-mark-twice : (m : MarkTest) → otherMark (otherMark m) ≡ m
-mark-twice Null = refl
-mark-twice NotNull = refl
-
-leaf-twice : (x : Leaf) → otherLeaf (otherLeaf x) ≡ x
-leaf-twice (CompareLeaf i op l r) = ap₂ (λ (i : Interpretation) (op : Comparison). CompareLeaf i op l r) (other-other i) (comparison-twice op)
-leaf-twice (MarkLeaf m l) = ap (λ (m : MarkTest). MarkLeaf m l) (mark-twice m)
-
-negated-twice : (c : Card) → negated (negated c) ≡ c
-unfolding negated
-negated-twice (LeafEntry x) = ap LeafEntry (leaf-twice x)
-negated-twice (PairEntry j a b) = rw (connective-twice j, negated-twice a, negated-twice b)
-negated-twice (RowEntry q t c) = rw (quantifier-twice q, negated-twice c)
 
 -- ---- the row entries of a FROM
 
@@ -82,6 +48,41 @@ card-not false false a = refl
 card-not false true a = refl
 card-not true false a = negated-twice (cardOf AsYes a)
 card-not true true a = negated-twice (cardOf AsNo a)
+
+-- the truth tests that have no entry: what unknown counts as around them does not matter
+pub card-is-true : (negate unknown : Bool) (a : Rule) → cardAs negate unknown (Apply (Is True) a) ≡ cardAs negate false a
+unfolding cardAs cardOf
+card-is-true false unknown a = refl
+card-is-true true unknown a = refl
+
+pub card-is-not-true : (negate unknown : Bool) (a : Rule) → cardAs negate unknown (Apply (IsNot True) a) ≡ cardAs (not negate) false a
+unfolding cardAs cardOf
+card-is-not-true false unknown a = refl
+card-is-not-true true unknown a = negated-twice (cardOf AsNo a)
+
+pub card-is-false : (negate unknown : Bool) (a : Rule) → cardAs negate unknown (Apply (Is False) a) ≡ cardAs (not negate) true a
+unfolding cardAs cardOf
+card-is-false false unknown a = refl
+card-is-false true unknown a = negated-twice (cardOf AsYes a)
+
+pub card-is-not-false : (negate unknown : Bool) (a : Rule) → cardAs negate unknown (Apply (IsNot False) a) ≡ cardAs negate true a
+unfolding cardAs cardOf
+card-is-not-false false unknown a = refl
+card-is-not-false true unknown a = refl
+
+-- IS UNKNOWN, or its negation: known
+abbrev pub unknownAs : Bool → Rule → Card
+unknownAs known a = PairEntry (connectiveAs known And) (cardAs (not known) false a) (cardAs known true a)
+
+pub card-is-unknown : (negate unknown : Bool) (a : Rule) → cardAs negate unknown (Apply (Is Unknown) a) ≡ unknownAs negate a
+unfolding cardAs cardOf negated
+card-is-unknown false unknown a = refl
+card-is-unknown true unknown a = ap (λ (c : Card). PairEntry Or c (negated (cardOf AsYes a))) (negated-twice (cardOf AsNo a))
+
+pub card-is-not-unknown : (negate unknown : Bool) (a : Rule) → cardAs negate unknown (Apply (IsNot Unknown) a) ≡ unknownAs (not negate) a
+unfolding cardAs cardOf negated
+card-is-not-unknown false unknown a = ap (λ (c : Card). PairEntry Or c (negated (cardOf AsYes a))) (negated-twice (cardOf AsNo a))
+card-is-not-unknown true unknown a = negated-twice (PairEntry And (negated (cardOf AsNo a)) (cardOf AsYes a))
 
 pub card-join : (negate unknown : Bool) (j : Connective) (a b : Rule)
     → cardAs negate unknown (Join j a b) ≡ PairEntry (connectiveAs negate j) (cardAs negate unknown a) (cardAs negate unknown b)

@@ -2,7 +2,9 @@
 use mathlib.Core.Path.{_≡_, refl, sym, ap, ap₂, subst, _∙_}
 use mathlib.Core.Bool.{Bool, true, false, not, Bool·beq}
 use mathlib.Core.List.{List, [], _∷_}
+use mathlib.Core.Logic.{inl, inr, ⊎-elim}
 use Prim.Native.Nat.{ℕ, _+_, _*_, _<_, _≤_, max}
+use native.Mathlib.Nat.{eq-or-lt-of-le}
 use native.Mathlib.Omega.{arith}
 use borrow.Author.Tests.{ne-eqb}
 use lib.Dec.{T, eqb, ltb→lt}
@@ -14,7 +16,8 @@ use Rattle.tables.specs.Values.{mostEntries, constantTag, Value, Constant, Colu
 use Rattle.cells.specs.Code.{excess, toExcess}
 use Rattle.card.specs.Card.{CompareLeaf, MarkLeaf, Card, LeafEntry, PairEntry, RowEntry, entries}
 use Rattle.card.specs.Layout.{pairKind, valueBytes, recordSize}
-use Rattle.rule.specs.Condition.{Compare, Mark, Not, Apply, Rule, parts, letters, fromsDeep}
+use Rattle.rule.specs.Truth.{Unknown}
+use Rattle.rule.specs.Condition.{Compare, Mark, Unary, Not, Is, IsNot, Apply, Rule, parts, letters, fromsDeep}
 use Rattle.rule.specs.Names.{mostParts, within, ValueFits, Fits}
 use Rattle.rule.specs.Parts.{joinKind, unaryKind, compareKind, existsKind, listKind, taggedOf}
 use Rattle.rule.specs.Groups.{JoinNumber, UnaryNumber, MarkNumber, ListNumber}
@@ -26,8 +29,8 @@ use Rattle.parts.specs.Parts.{Stands, SmallPart}
 use Rattle.parts.proofs.Parts.{heldNumber, parts-low, part-comparison, part-table, part-left-tag, part-left-number, part-right-tag, part-right-number, IsJoin, IsUnary, IsCompare, IsMark, IsExists, IsListed, is-join, is-unary, is-compare, is-mark, is-exists, is-listed}
 use Rattle.records.specs.Code.{byteNumber, plainRecord, connectiveAs, JoinedAs, rowKindAs}
 use Rattle.records.proofs.Flags.{row-small}
-use Rattle.entries.specs.Code.{interpretationOf, leafAs, cardAs, Room, Wrote, valueBytesIn, CompareReady, ComparedTo, MarkReady, MarkedTo, Writable, WroteTo, StandsUnder}
-use Rattle.entries.proofs.Cards.{quantifierOf, listConnective, everyRow, rows-are, card-atom, card-not, card-join, card-exists, card-listed, list-kind-is, row-kind-is}
+use Rattle.entries.specs.Code.{interpretationOf, leafAs, cardAs, Room, Wrote, valueBytesIn, CompareReady, ComparedTo, MarkReady, MarkedTo, UnknownNumber, Writable, WroteTo, StandsUnder}
+use Rattle.entries.proofs.Cards.{quantifierOf, listConnective, everyRow, rows-are, card-atom, card-not, unknownAs, card-is-unknown, card-is-not-unknown, card-join, card-exists, card-listed, list-kind-is, row-kind-is}
 use Rattle.entries.proofs.Spread.{Plain, room-less, room-plain, room-wrote, plain-asked, end-asked, row-written, pair-written}
 
 -- ---- a value of a part
@@ -62,6 +65,15 @@ every-row Some true = refl
 every-row All false = refl
 every-row All true = refl
 
+-- what the code's test of IS NOT UNKNOWN comes to, of IS UNKNOWN and of itself
+same-flag : (negate : Bool) → not (Bool·beq (eqb (unaryKind (Is Unknown)) (unaryKind (IsNot Unknown))) negate) ≡ negate
+same-flag false = refl
+same-flag true = refl
+
+other-flag : (negate : Bool) → not (Bool·beq (eqb (unaryKind (IsNot Unknown)) (unaryKind (IsNot Unknown))) negate) ≡ not negate
+other-flag false = refl
+other-flag true = refl
+
 -- no kind that has an arm to itself
 abbrev Others : ℕ → Type 0
 Others n = ((Unit {0} × (n ≡ unaryKind Not → ⊥)) × (n ≡ compareKind → ⊥)) × (n ≡ existsKind → ⊥)
@@ -72,6 +84,10 @@ mark-left n (((_, not), compare), exists) low high = mark-number n (omega arith)
 
 pub list-left : (n : ℕ) → Others n → existsKind ≤ n → n ≤ listKind All → ListNumber n
 list-left n (others, exists) low high = list-number n (omega arith) high
+
+-- IS UNKNOWN or IS NOT UNKNOWN, the last two kinds
+pub unknown-left : (n : ℕ) → unaryKind (Is Unknown) ≤ n → n ≤ unaryKind (IsNot Unknown) → UnknownNumber n
+unknown-left n low high = ⊎-elim (λ e. inl (sym e)) (λ l. inr (omega arith)) (eq-or-lt-of-le low)
 
 module _ {p : List ℕ} {s : ℕ} {negate unknown : Bool} {kinds records : List ℕ} {k : ℕ} (h : Writable p s negate unknown kinds records k) where
   pub part-small : SmallPart p s
@@ -196,74 +212,63 @@ module _ {p : List ℕ} {s : ℕ} {negate unknown : Bool} {kinds records : List 
     pub not-wrote : {kinds′ records′ : List ℕ} {r : ℕ} → WroteTo p (s + 1) (not negate) (not unknown) kinds records kinds′ records′ k r → Wrote k card kinds records kinds′ records′ r
     not-wrote f = unary-wrote (Not, kind) (not negate) (not unknown) (card-not negate unknown) f
 
-  -- ---- AND and OR
+  -- ---- a part whose entry has two inner ones: which rules they are of, where these stand, and in which interpretation, negated or not
 
-  module _ (number : JoinNumber (getD p (partSize * s) 0)) {kind : ℕ} (is-kind : JoinedAs negate (getD p (partSize * s) 0) kind) where
-    join : IsJoin p s (number .0) (h .rule)
-    join = is-join p s (h .rule) (h .stands) number
+  pub record TwoInner : Type 0 where
+    pub connective : Connective
+    pub left : Rule
+    pub left-at : ℕ
+    pub left-negate : Bool
+    pub left-unknown : Bool
+    pub right : Rule
+    pub right-at : ℕ
+    pub right-negate : Bool
+    pub right-unknown : Bool
+    pub card-is : card ≡ PairEntry connective (cardAs left-negate left-unknown left) (cardAs right-negate right-unknown right)
+    pub left-stands : Stands p left-at left
+    pub right-stands : Stands p right-at right
+    pub left-within : left-at + parts left ≤ s + parts (h .rule)
+    pub right-within : right-at + parts right ≤ s + parts (h .rule)
+    pub left-deep : length (h .levels) + fromsDeep left ≤ 4
+    pub right-deep : length (h .levels) + fromsDeep right ≤ 4
+    pub left-fits : Fits (h .columns) (h .levels) left
+    pub right-fits : Fits (h .columns) (h .levels) right
 
+  module _ (two : TwoInner) {kind : ℕ} (is-kind : kind ≡ pairKind (two .connective)) where
     abbrev leftCard : Card
-    leftCard = cardAs negate unknown (join .left)
+    leftCard = cardAs (two .left-negate) (two .left-unknown) (two .left)
 
     abbrev rightCard : Card
-    rightCard = cardAs negate unknown (join .right)
+    rightCard = cardAs (two .right-negate) (two .right-unknown) (two .right)
 
-    join-card : card ≡ PairEntry (connectiveAs negate (number .0)) leftCard rightCard
-    join-card = ap (cardAs negate unknown) (join .is) ∙ card-join negate unknown (number .0) (join .left) (join .right)
-
-    join-kind : kind ≡ pairKind (connectiveAs negate (number .0))
-    join-kind = is-kind (number .0) (number .1)
-
-    join-room : Room kinds records k (1 + entries leftCard + entries rightCard)
+    two-room : Room kinds records k (1 + entries leftCard + entries rightCard)
     unfolding entries
-    join-room = room-for join-card
-
-    join-parts : parts (h .rule) ≡ 1 + parts (join .left) + parts (join .right)
-    unfolding parts
-    join-parts = ap parts (join .is)
-
-    join-deep : fromsDeep (h .rule) ≡ max (fromsDeep (join .left)) (fromsDeep (join .right))
-    unfolding fromsDeep
-    join-deep = ap fromsDeep (join .is)
-
-    join-fits : Fits (h .columns) (h .levels) (join .left) × Fits (h .columns) (h .levels) (join .right)
-    unfolding Fits
-    join-fits = subst (Fits (h .columns) (h .levels)) (join .is) (h .fits)
+    two-room = room-for (two .card-is)
 
     pub pair-plain-asked : (length kinds ≡ mostEntries) × ((k < mostEntries) × ((kind < 256) × ((0 < 256) × (recordSize * k + recordSize ≤ length records))))
-    pair-plain-asked = plain-asked join-room kind 0 (omega arith) (omega (arith, join-kind, pair-small (connectiveAs negate (number .0)))) (omega arith)
-
-    pub join-few : s + 1 < mostParts
-    join-few = omega (arith, join-parts, parts-low (join .left), parts-low (join .right), h .within, h .few)
+    pair-plain-asked = plain-asked two-room kind 0 (omega arith) (omega (arith, is-kind, pair-small (two .connective))) (omega arith)
 
     module _ {kinds1 records1 : List ℕ} (put : (kinds1 ≡ placed kinds k (kind ∷ [])) × (records1 ≡ placed records (recordSize * k) (plainRecord 0 0))) where
       put-pair : Plain k kind 0 kinds records kinds1 records1
       put-pair = record { kinds-are = put .0; records-are = put .1 }
 
       inner-room : Room kinds1 records1 (k + 1) (entries leftCard + entries rightCard)
-      inner-room = room-plain join-room (omega arith) put-pair (k + 1) (entries leftCard + entries rightCard) (omega arith)
+      inner-room = room-plain two-room (omega arith) put-pair (k + 1) (entries leftCard + entries rightCard) (omega arith)
 
-      pub left-ready : Writable p (s + 1) negate unknown kinds1 records1 (k + 1)
-      left-ready =
-          inner-ready (join .left) (h .levels) (join .left-stands) (omega (arith, join-parts)) (omega (arith, join-deep, h .deep)) (join-fits .0)
-          (room-less inner-room (entries leftCard) (omega arith))
+      pub left-ready : Writable p (two .left-at) (two .left-negate) (two .left-unknown) kinds1 records1 (k + 1)
+      left-ready = inner-ready (two .left) (h .levels) (two .left-stands) (two .left-within) (two .left-deep) (two .left-fits) (room-less inner-room (entries leftCard) (omega arith))
 
-      module _ {kinds2 records2 : List ℕ} {middle next : ℕ} (is-next : next ≡ getD p (partSize * (s + 1) + partEnd) 0)
-          (wa : WroteTo p (s + 1) negate unknown kinds1 records1 kinds2 records2 (k + 1) middle) where
-        pub next-above : s + 1 ≤ next
-        next-above = omega (arith, is-next, join .next)
-
+      module _ {kinds2 records2 : List ℕ} {middle : ℕ} (wa : WroteTo p (two .left-at) (two .left-negate) (two .left-unknown) kinds1 records1 kinds2 records2 (k + 1) middle) where
         left-wrote : Wrote (k + 1) leftCard kinds1 records1 kinds2 records2 middle
         unfolding left-ready
         left-wrote = wa left-ready
 
-        pub right-ready : Writable p next negate unknown kinds2 records2 middle
+        pub right-ready : Writable p (two .right-at) (two .right-negate) (two .right-unknown) kinds2 records2 middle
         right-ready =
-            inner-ready (join .right) (h .levels) (rw (is-next ∙ join .next) (join .right-stands)) (omega (arith, is-next, join .next, join-parts))
-            (omega (arith, join-deep, h .deep)) (join-fits .1)
+            inner-ready (two .right) (h .levels) (two .right-stands) (two .right-within) (two .right-deep) (two .right-fits)
             (room-wrote inner-room left-wrote (omega arith) middle (entries rightCard) (omega (arith, left-wrote .next)))
 
-        module _ {kinds3 records3 : List ℕ} {r : ℕ} (wb : WroteTo p next negate unknown kinds2 records2 kinds3 records3 middle r) where
+        module _ {kinds3 records3 : List ℕ} {r : ℕ} (wb : WroteTo p (two .right-at) (two .right-negate) (two .right-unknown) kinds2 records2 kinds3 records3 middle r) where
           right-wrote : Wrote middle rightCard kinds2 records2 kinds3 records3 r
           unfolding right-ready
           right-wrote = wb right-ready
@@ -277,9 +282,117 @@ module _ {p : List ℕ} {s : ℕ} {negate unknown : Bool} {kinds records : List 
 
           pub pair-wrote : {records4 : List ℕ} → records4 ≡ placed records3 (recordSize * k) (bytes16 r) → Wrote k card kinds records kinds3 records4 r
           pair-wrote e =
-              let low = join-room .kinds-fit in
-              let long = join-room .records-fit in
-              rw join-card (pair-written (omega (arith, h .room .kinds-size)) (omega arith) put-pair (connectiveAs negate (number .0)) refl join-kind refl left-wrote right-wrote e)
+              let low = two-room .kinds-fit in
+              let long = two-room .records-fit in
+              rw (two .card-is) (pair-written (omega (arith, h .room .kinds-size)) (omega arith) put-pair (two .connective) refl is-kind refl left-wrote right-wrote e)
+
+  -- AND and OR
+  module _ (number : JoinNumber (getD p (partSize * s) 0)) where
+    pub join : IsJoin p s (number .0) (h .rule)
+    join = is-join p s (h .rule) (h .stands) number
+
+    pub join-parts : parts (h .rule) ≡ 1 + parts (join .left) + parts (join .right)
+    unfolding parts
+    join-parts = ap parts (join .is)
+
+    pub join-deep : fromsDeep (h .rule) ≡ max (fromsDeep (join .left)) (fromsDeep (join .right))
+    unfolding fromsDeep
+    join-deep = ap fromsDeep (join .is)
+
+    pub join-fits : Fits (h .columns) (h .levels) (join .left) × Fits (h .columns) (h .levels) (join .right)
+    unfolding Fits
+    join-fits = subst (Fits (h .columns) (h .levels)) (join .is) (h .fits)
+
+    pub join-few : s + 1 < mostParts
+    join-few = omega (arith, join-parts, parts-low (join .left), parts-low (join .right), h .within, h .few)
+
+    module _ (next : ℕ) (is-next : next ≡ getD p (partSize * (s + 1) + partEnd) 0) where
+      pub next-above : s + 1 ≤ next
+      next-above = omega (arith, is-next, join .next)
+
+      abbrev pub join-inner : TwoInner
+      join-inner = record {
+        connective = connectiveAs negate (number .0);
+        left = join .left;
+        left-at = s + 1;
+        left-negate = negate;
+        left-unknown = unknown;
+        right = join .right;
+        right-at = next;
+        right-negate = negate;
+        right-unknown = unknown;
+        card-is = ap (cardAs negate unknown) (join .is) ∙ card-join negate unknown (number .0) (join .left) (join .right);
+        left-stands = join .left-stands;
+        right-stands = rw (is-next ∙ join .next) (join .right-stands);
+        left-within = omega (arith, join-parts);
+        right-within = omega (arith, is-next, join .next, join-parts);
+        left-deep = omega (arith, join-deep, h .deep);
+        right-deep = omega (arith, join-deep, h .deep);
+        left-fits = join-fits .0;
+        right-fits = join-fits .1;
+      }
+
+  -- IS UNKNOWN and IS NOT UNKNOWN
+
+  -- the code's test: the part, negated or not, is IS NOT UNKNOWN
+  abbrev known : Bool
+  known = not (Bool·beq (eqb (getD p (partSize * s) 0) (unaryKind (IsNot Unknown))) negate)
+
+  module _ (number : UnknownNumber (getD p (partSize * s) 0)) where
+    -- the condition in it, whose entries are written twice
+    pub record UsedTwice : Type 0 where
+      pub inner : Rule
+      pub card-is : card ≡ unknownAs known inner
+      pub stands : Stands p (s + 1) inner
+      pub parts-are : parts (h .rule) ≡ 1 + parts inner
+      pub deep-is : fromsDeep (h .rule) ≡ fromsDeep inner
+      pub fits : Fits (h .columns) (h .levels) inner
+
+    used-twice : (u : Unary) (e : getD p (partSize * s) 0 ≡ unaryKind u) → ((a : Rule) → cardAs negate unknown (Apply u a) ≡ unknownAs known a) → UsedTwice
+    unfolding parts fromsDeep Fits
+    used-twice u e same =
+        let x = is-unary p s (h .rule) (h .stands) (u, e) in
+        record {
+          inner = x .inner;
+          card-is = ap (cardAs negate unknown) (x .is) ∙ same (x .inner);
+          stands = x .inner-stands;
+          parts-are = ap parts (x .is);
+          deep-is = ap fromsDeep (x .is);
+          fits = subst (Fits (h .columns) (h .levels)) (x .is) (h .fits);
+        }
+
+    -- what the code's test comes to
+    known-is : (n : ℕ) → getD p (partSize * s) 0 ≡ n → known ≡ not (Bool·beq (eqb n (unaryKind (IsNot Unknown))) negate)
+    known-is n e = ap (λ (m : ℕ). not (Bool·beq (eqb m (unaryKind (IsNot Unknown))) negate)) e
+
+    pub twice : UsedTwice
+    twice =
+        ⊎-elim
+        (λ e. used-twice (Is Unknown) e (λ a. card-is-unknown negate unknown a ∙ ap (λ (b : Bool). unknownAs b a) (sym (known-is _ e ∙ same-flag negate))))
+        (λ e. used-twice (IsNot Unknown) e (λ a. card-is-not-unknown negate unknown a ∙ ap (λ (b : Bool). unknownAs b a) (sym (known-is _ e ∙ other-flag negate))))
+        number
+
+    abbrev pub unknown-inner : TwoInner
+    unknown-inner = record {
+      connective = connectiveAs known And;
+      left = twice .inner;
+      left-at = s + 1;
+      left-negate = not known;
+      left-unknown = false;
+      right = twice .inner;
+      right-at = s + 1;
+      right-negate = known;
+      right-unknown = true;
+      card-is = twice .card-is;
+      left-stands = twice .stands;
+      right-stands = twice .stands;
+      left-within = omega (arith, twice .parts-are);
+      right-within = omega (arith, twice .parts-are);
+      left-deep = omega (arith, twice .deep-is, h .deep);
+      right-deep = omega (arith, twice .deep-is, h .deep);
+      left-fits = twice .fits;
+      right-fits = twice .fits;
+    }
 
   -- ---- EXISTS
 
@@ -480,7 +593,7 @@ module _ {p : List ℕ} {s : ℕ} {negate unknown : Bool} {kinds records : List 
                   rw list-card
                   (row-written (omega (arith, h .room .kinds-size)) (omega arith) put-row (quantifierOf every) (is-row ∙ row-kind-is every) refl pair-done e)
 
--- ---- under NOTs
+-- ---- under NOTs, and under a truth test without an entry
 
 module _ {p : List ℕ} {s : ℕ} {negate unknown : Bool} where
   pub under-none : StandsUnder p s negate unknown (record { part = s; negate = negate; unknown = unknown })
@@ -493,4 +606,14 @@ module _ {p : List ℕ} {s : ℕ} {negate unknown : Bool} where
         behind = omega (arith, u .behind);
         ready = λ h. not-ready (u .ready h) kind;
         wrote = λ f. u .wrote (λ h. not-wrote h kind f);
+      }
+
+  -- a one-place part whose card is that of the condition in it
+  pub under-one : (number : UnaryNumber (getD p (partSize * s) 0)) (n u : Bool) → ((a : Rule) → cardAs negate unknown (Apply (number .0) a) ≡ cardAs n u a)
+      → StandsUnder p s negate unknown (record { part = s + 1; negate = n; unknown = u })
+  under-one number n u same =
+      record {
+        behind = omega arith;
+        ready = λ h. unary-ready h number n u same;
+        wrote = λ f h. unary-wrote h number n u same f;
       }

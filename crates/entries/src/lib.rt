@@ -3,14 +3,16 @@
 // Short names: p, the parts as numbers; s, the number of a part; k, the number of an entry; unknown, what unknown counts as: no (false-interpreted) or yes;
 // negate, whether the part is negated.
 ghost use mathlib.Core.Path.{_≡_};
-ghost use Prim.Native.Nat.{_+_, _*_, _<_};
+ghost use mathlib.Core.Bool.{Bool};
+ghost use Prim.Native.Nat.{_+_, _*_, _<_, _≤_};
 ghost use lib.ListN.{length, getD};
+ghost use Rattle.rule.specs.Truth.{False, Unknown, True};
+ghost use Rattle.rule.specs.Condition.{Is, IsNot};
 ghost use Rattle.rule.specs.Names.{mostParts};
-ghost use Rattle.rule.specs.Parts.{existsKind};
+ghost use Rattle.rule.specs.Parts.{unaryKind, existsKind};
 ghost use Rattle.rule.specs.Groups.{JoinNumber, ListNumber};
 ghost use Rattle.names.specs.Code.{partSize, partsSize};
-ghost use Rattle.entries.specs.Code.{CompareReady, ComparedTo, MarkReady, MarkedTo, StandsUnder, Writable, WroteTo};
-use card::MOST_ENTRIES;
+ghost use Rattle.entries.specs.Code.{CompareReady, ComparedTo, MarkReady, MarkedTo, StandsUnder, UnknownNumber, Writable, WroteTo};
 use card::RECORD_SIZE;
 use grammar::MOST_PARTS;
 use names::PART_COMPARISON;
@@ -27,11 +29,18 @@ use rule::ALL_PART;
 use rule::AND_PART;
 use rule::COMPARISON_PART;
 use rule::EXISTS_PART;
+use rule::IS_FALSE_PART;
+use rule::IS_NOT_FALSE_PART;
+use rule::IS_NOT_TRUE_PART;
+use rule::IS_NOT_UNKNOWN_PART;
+use rule::IS_TRUE_PART;
+use rule::IS_UNKNOWN_PART;
 use rule::NOT_NULL_PART;
 use rule::NOT_PART;
 use rule::NULL_PART;
 use rule::OR_PART;
 use rule::SOME_PART;
+use tables::MOST_ENTRIES;
 
 // Number i of part s.
 fn field(p: &[usize; PART_NUMBERS], s: usize, i: usize) -> usize
@@ -124,6 +133,46 @@ fn under_nots(p: &[usize; PART_NUMBERS], s: usize, negate: bool, unknown: bool) 
     }
 }
 
+// What stands under a truth test that has no entry, at part s: the condition in it, in one interpretation, whatever unknown counts as around it. IS TRUE and IS
+// NOT TRUE take it false-interpreted, IS FALSE and IS NOT FALSE true-interpreted.
+fn under_truth(p: &[usize; PART_NUMBERS], s: usize, negate: bool) -> Under
+    requires { ⌜ length (now p) ≡ partsSize ⌝ ∗ ⌜ s < mostParts ⌝ ∗ ⌜ (unaryKind (Is True) ≤ getD (now p) (partSize * s) 0) × (getD (now p) (partSize * s) 0 ≤ unaryKind (IsNot False)) ⌝ }
+    ensures stands { λ r. ⌜ ((unknown : Bool) → StandsUnder (now (p .entry)) s negate unknown r) ⌝ }
+    ensures part { λ r. ⌜ r .part ≡ s + 1 ⌝ }
+{
+    let kind = p[PART_FIELDS * s];
+    match kind {
+        IS_TRUE_PART => Under {
+            part: s + 1,
+            negate: negate,
+            unknown: false,
+        },
+        IS_NOT_TRUE_PART => Under {
+            part: s + 1,
+            negate: !negate,
+            unknown: false,
+        },
+        IS_FALSE_PART => Under {
+            part: s + 1,
+            negate: !negate,
+            unknown: true,
+        },
+        IS_NOT_FALSE_PART => Under {
+            part: s + 1,
+            negate: negate,
+            unknown: true,
+        },
+        _ => {
+            cells::never();
+            Under {
+                part: s,
+                negate: negate,
+                unknown: false,
+            }
+        }
+    }
+}
+
 // The entries of part s with its inner parts, from number k on; the number of the next entry.
 pub fn write_part(
     p: &[usize; PART_NUMBERS],
@@ -157,6 +206,21 @@ pub fn write_part(
         NULL_PART | NOT_NULL_PART => write_mark(p, s, negate, kinds, records, k),
         EXISTS_PART => write_exists(p, s, negate, unknown, kinds, records, k),
         SOME_PART | ALL_PART => write_list(p, s, negate, unknown, kinds, records, k),
+        IS_TRUE_PART | IS_NOT_TRUE_PART | IS_FALSE_PART | IS_NOT_FALSE_PART => {
+            let under = under_truth(p, s, negate);
+            write_part(
+                p,
+                under.part,
+                under.negate,
+                under.unknown,
+                kinds,
+                records,
+                k,
+            )
+        }
+        IS_UNKNOWN_PART | IS_NOT_UNKNOWN_PART => {
+            write_unknown(p, s, negate, unknown, kinds, records, k)
+        }
         _ => {
             cells::never();
             k
@@ -182,6 +246,28 @@ fn write_pair(
     records::put_plain(kinds, records, k, kind, 0);
     let middle = write_part(p, s + 1, negate, unknown, kinds, records, k + 1);
     let end = write_part(p, next, negate, unknown, kinds, records, middle);
+    records::put16(records, RECORD_SIZE * k, end);
+    end
+}
+
+// IS UNKNOWN: and, the negated false-interpretation of the condition in it, its true-interpretation. IS NOT UNKNOWN is the negation of that; each of them,
+// negated, is the other.
+fn write_unknown(
+    p: &[usize; PART_NUMBERS],
+    s: usize,
+    negate: bool,
+    unknown: bool,
+    kinds: &mut [u8; MOST_ENTRIES],
+    records: &mut [u8],
+    k: usize,
+) -> usize
+    requires { ⌜ Writable (now p) s negate unknown (now kinds) (now records) k ⌝ ∗ ⌜ UnknownNumber (getD (now p) (partSize * s) 0) ⌝ }
+    ensures { λ r. ⌜ WroteTo (now (p .entry)) s negate unknown (now (kinds .entry)) (now (records .entry)) (now (kinds .exit)) (now (records .exit)) k r ⌝ }
+{
+    let known = (p[PART_FIELDS * s] == IS_NOT_UNKNOWN_PART) != negate;
+    records::put_plain(kinds, records, k, records::pair_kind(AND_PART, known), 0);
+    let middle = write_part(p, s + 1, !known, false, kinds, records, k + 1);
+    let end = write_part(p, s + 1, known, true, kinds, records, middle);
     records::put16(records, RECORD_SIZE * k, end);
     end
 }

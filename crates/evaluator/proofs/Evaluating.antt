@@ -8,7 +8,7 @@ use native.Mathlib.Omega.{arith}
 use lib.ListN.{length, getD, set}
 use Rattle.tables.specs.Lists.{tabulate}
 use Rattle.tables.specs.Tables.{mostTables, mostCells, Row, columnsOf, tablesOf, rowsOf}
-use Rattle.tables.specs.Values.{mostLevels, comparisonOf, Connective, And, Or, Quantifier, Some, All, Env, _▸_, cellOf}
+use Rattle.tables.specs.Values.{mostLevels, comparisonOf, Connective, And, Or, Quantifier, Some, All, NotNull, Env, _▸_, cellOf}
 use Rattle.tables.proofs.Values.{comparison-back}
 use Rattle.tables.proofs.Tabulated.{tabulate-map}
 use Rattle.cells.specs.Code.{seenCell, placeIn}
@@ -21,13 +21,13 @@ use Rattle.rule.specs.Condition.{Not, From, Single, Atom, Join, Apply, Exists, 
 use Rattle.rule.specs.Names.{mostParts, within, ValueFits, TestFits, FromFits, Fits}
 use Rattle.rule.specs.Truth.{Truth, False, True, truth, isTrue, truthNumber}
 use Rattle.rule.specs.Meaning.{compare3, over3, meaning}
-use Rattle.rule.specs.Parts.{joinKind, unaryKind, existsKind, listKind, kindOf, tableOf}
-use Rattle.rule.specs.Groups.{KindNumber, UnaryNumber, TestNumber}
+use Rattle.rule.specs.Parts.{joinKind, unaryKind, markKind, existsKind, listKind, tableOf}
+use Rattle.rule.specs.Groups.{UnaryNumber, TestNumber}
 use Rattle.names.specs.Code.{partSize, partComparison, partTable, partEnd, partLeftTag, partLeftNumber, partRightTag, partRightNumber}
 use Rattle.parts.specs.Parts.{Stands}
 use Rattle.rule.proofs.Parts.{from-back}
-use Rattle.rule.proofs.Groups.{some-join, some-unary, some-from, test-else}
-use Rattle.parts.proofs.Parts.{headOf, parts-low, kind-stands, part-comparison, part-table, part-left-tag, part-left-number, part-right-tag, part-right-number, IsTest, IsJoin, IsUnary, IsExists, IsListed, is-test, is-join, is-unary, is-exists, is-listed}
+use Rattle.rule.proofs.Groups.{truth-number, test-number}
+use Rattle.parts.proofs.Parts.{parts-low, kind-low, kind-high, part-comparison, part-table, part-left-tag, part-left-number, part-right-tag, part-right-number, IsTest, IsJoin, IsUnary, IsExists, IsListed, is-test, is-join, is-unary, is-exists, is-listed}
 use Rattle.evaluator.specs.Code.{decidedBy, taken, Decides, UnaryValued, unlessUnknown, emptyTruth, emptyOver, OverNone, TestReady, TestEvaluated, Evaluable, Evaluates, RowReady, RowEvaluated}
 use Rattle.evaluator.proofs.Truths.{rank-high, join-rank, left-stop, is-kept, not-kept, overRows, over-none, over-more, over-stop, over-on, none-open, more-open, quantifierOf, kind-is, none-is, none-decides}
 use Rattle.evaluator.proofs.Rows.{exists-rows, listed-rows}
@@ -109,9 +109,6 @@ module _ {p g file w : List ℕ} {s depth : ℕ} (h : Evaluable p g file w s dep
   abbrev Means : ℕ → Type 0
   Means v = v ≡ truthNumber (meaning (tablesOf file) (h .env) (h .rule))
 
-  some-kind : KindNumber kindHere
-  some-kind = (kindOf (headOf (h .rule)), kind-stands p s (h .rule) (h .stands))
-
   pub start : s < mostParts
   start = omega (arith, h .few, parts-low (h .rule))
 
@@ -152,10 +149,12 @@ module _ {p g file w : List ℕ} {s depth : ℕ} (h : Evaluable p g file w s dep
   Others =
       (((((Unit {0} × NotKind (joinKind And)) × NotKind (joinKind Or)) × NotKind (unaryKind Not)) × NotKind existsKind) × NotKind (listKind Some)) × NotKind (listKind All)
 
-  -- so it is one
-  pub test-left : Others → TestNumber kindHere
-  test-left ((((((_, and), or), not), exists), some), all) =
-      test-else some-kind (λ j. some-join j and or) (λ u. some-unary u not) (λ f. some-from f exists some all)
+  -- of those that are left, the lower ones are tests, and the others truth tests
+  pub test-left : Others → kindHere ≤ markKind NotNull → TestNumber kindHere
+  test-left ((((((_, and), or), not), exists), some), all) l = test-number _ (omega (arith, kind-low p s (h .rule) (h .stands))) l
+
+  pub truth-left : Others → markKind NotNull < kindHere → UnaryNumber kindHere
+  truth-left ((((((_, and), or), not), exists), some), all) l = truth-number _ (omega arith) (kind-high p s (h .rule) (h .stands))
 
   module _ (k : TestNumber kindHere) where
     test-here : IsTest p s (h .rule)
@@ -182,7 +181,7 @@ module _ {p g file w : List ℕ} {s depth : ℕ} (h : Evaluable p g file w s dep
     unfolding test-ready meaning
     test-evaluated v evaluated = evaluated test-ready ∙ ap truthNumber (means-as (test-here .is))
 
-  -- ---- NOT
+  -- ---- NOT and the truth tests
 
   module _ (k : UnaryNumber kindHere) where
     unary-here : IsUnary p s (k .0) (h .rule)

@@ -1,6 +1,6 @@
--- Truth values as numbers: AND takes the lesser, OR the greater, NOT what is left to 2; SOME and ALL go row by row.
+-- Truth values as numbers: AND takes the lesser, OR the greater, NOT what is left to 2, a truth test compares; SOME and ALL go row by row.
 use mathlib.Core.Path.{_≡_, refl, sym, ap, _∙_}
-use mathlib.Core.Bool.{Bool, true, false, cond, _||_}
+use mathlib.Core.Bool.{Bool, true, false, not, cond, _||_}
 use mathlib.Core.List.{List, [], _∷_, map}
 use Prim.Native.Nat.{ℕ, zero, suc, _-_, _<_, _≤_}
 use native.Mathlib.Nat.{le-of-suc-le-suc, not-suc-le-zero}
@@ -9,8 +9,8 @@ use lib.Dec.{eqb}
 use lib.ListN.{getD}
 use Rattle.tables.specs.Lists.{tabulate, any, put, keep}
 use Rattle.tables.specs.Values.{Connective, And, Or, Quantifier, Some, All}
-use Rattle.rule.specs.Condition.{Unary, Not}
-use Rattle.rule.specs.Truth.{Truth, False, Unknown, True, truth, isTrue, and3, or3, join3, truthNumber}
+use Rattle.rule.specs.Condition.{Unary, Not, Is, IsNot}
+use Rattle.rule.specs.Truth.{Truth, False, Unknown, True, truth, isTrue, isThat, and3, or3, join3, truthNumber}
 use Rattle.rule.specs.Meaning.{unary3, over3}
 use Rattle.rule.specs.Parts.{unaryKind, listKind}
 use Rattle.rule.proofs.Groups.{same-unary}
@@ -44,6 +44,25 @@ pub not-rank : (a : Truth) → truthNumber True - truthNumber a ≡ truthNumber 
 not-rank False = refl
 not-rank Unknown = refl
 not-rank True = refl
+
+-- a truth test compares the numbers
+same-number : (t a : Truth) → eqb (truthNumber a) (truthNumber t) ≡ isThat t a
+same-number False False = refl
+same-number False Unknown = refl
+same-number False True = refl
+same-number Unknown False = refl
+same-number Unknown Unknown = refl
+same-number Unknown True = refl
+same-number True False = refl
+same-number True Unknown = refl
+same-number True True = refl
+
+module _ (t : Truth) {kind inner r : ℕ} where
+  pub is-valued : kind ≡ unaryKind (Is t) → r ≡ truthNumber (truth (eqb inner (truthNumber t))) → UnaryValued kind inner r
+  is-valued e z = unary-valued (Is t) e (λ n. truthNumber (truth (eqb n (truthNumber t)))) (λ a. ap (λ b. truthNumber (truth b)) (same-number t a)) z
+
+  pub is-not-valued : kind ≡ unaryKind (IsNot t) → r ≡ truthNumber (truth (not (eqb inner (truthNumber t)))) → UnaryValued kind inner r
+  is-not-valued e z = unary-valued (IsNot t) e (λ n. truthNumber (truth (not (eqb n (truthNumber t))))) (λ a. ap (λ b. truthNumber (truth (not b))) (same-number t a)) z
 
 -- ---- connectives
 

@@ -1,5 +1,5 @@
 // The value of a rule on rows, true, false or unknown, from the values of its parts. No card is made or run.
-// A truth value is a number: 0 false, 1 unknown, 2 true, so that AND takes the lesser, OR the greater, and NOT what is left to 2.
+// A truth value is a number: 0 false, 1 unknown, 2 true, so that AND takes the lesser, OR the greater, NOT what is left to 2, and a truth test compares.
 // Short names: p, the parts as numbers; g, where the tables stand; s, the number of a part; w, for each level the number of its row's first cell, and
 // depth, how many levels there are; v, the same with one level more.
 ghost use mathlib.Core.Path.{_≡_};
@@ -28,6 +28,12 @@ use rule::ALL_PART;
 use rule::AND_PART;
 use rule::COMPARISON_PART;
 use rule::EXISTS_PART;
+use rule::IS_FALSE_PART;
+use rule::IS_NOT_FALSE_PART;
+use rule::IS_NOT_TRUE_PART;
+use rule::IS_NOT_UNKNOWN_PART;
+use rule::IS_TRUE_PART;
+use rule::IS_UNKNOWN_PART;
 use rule::NOT_NULL_PART;
 use rule::NOT_PART;
 use rule::NULL_PART;
@@ -118,13 +124,19 @@ fn evaluate_test(
     }
 }
 
-// What NOT makes of the value of the condition in it.
+// What NOT or a truth test makes of the value of the condition in it.
 fn unary_value(kind: usize, inner: usize) -> usize
     requires { ⌜ UnaryNumber kind ⌝ ∗ ⌜ inner ≤ truthNumber True ⌝ }
     ensures { λ r. ⌜ UnaryValued kind inner r ⌝ }
 {
     match kind {
         NOT_PART => TRUE - inner,
+        IS_TRUE_PART => truth_of(inner == TRUE),
+        IS_NOT_TRUE_PART => truth_of(inner != TRUE),
+        IS_FALSE_PART => truth_of(inner == FALSE),
+        IS_NOT_FALSE_PART => truth_of(inner != FALSE),
+        IS_UNKNOWN_PART => truth_of(inner == UNKNOWN),
+        IS_NOT_UNKNOWN_PART => truth_of(inner != UNKNOWN),
         _ => {
             cells::never();
             FALSE
@@ -156,6 +168,15 @@ pub fn evaluate_part(
         EXISTS_PART => evaluate_exists(p, g, file, s, w, depth),
         SOME_PART => evaluate_list(p, g, file, s, w, depth, FALSE),
         ALL_PART => evaluate_list(p, g, file, s, w, depth, TRUE),
+        IS_TRUE_PART
+        | IS_NOT_TRUE_PART
+        | IS_FALSE_PART
+        | IS_NOT_FALSE_PART
+        | IS_UNKNOWN_PART
+        | IS_NOT_UNKNOWN_PART => {
+            let inner = evaluate_part(p, g, file, s + 1, w, depth);
+            unary_value(kind, inner)
+        }
         _ => {
             cells::never();
             FALSE

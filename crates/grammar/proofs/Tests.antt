@@ -6,15 +6,16 @@ use Prim.Native.Nat.{ℕ, suc, _+_, _*_, _-_, _≤_, _<_}
 use native.Mathlib.Omega.{arith}
 use lib.ListN.{length, take, getD}
 use Rattle.tables.specs.Lists.{_>>=_}
-use Rattle.rule.specs.Tokens.{NOT, Close}
-use Rattle.rule.specs.Condition.{Single, Atom, Join, Apply, Exists, Listed, WrittenCondition, parts, fromsDeep}
+use Rattle.rule.specs.Tokens.{NOT, IS, Close}
+use Rattle.rule.specs.Condition.{Unary, Single, Atom, Join, Apply, Exists, Listed, WrittenCondition, parts, fromsDeep}
 use Rattle.rule.specs.Names.{mostParts}
 use Rattle.rule.specs.Grammar.{Tokens}
-use Rattle.rule.specs.Reader.{expect, Opening, Bracket, closed, Start, start, condition, factor, test, Found, branch, started, closing, reading, atEnd, readAll}
+use Rattle.rule.specs.Reader.{expect, Opening, Bracket, closed, Start, start, condition, factor, test, Found, branch, started, readTruthTest, truthTested, ended, closing, reading, atEnd, readAll}
 use Rattle.rule.proofs.Steps.{reading-factor, reading-test, reading-all}
 use Rattle.lexer.specs.Code.{codeOf, tokensIn}
-use Rattle.phrases.specs.Code.{noteNumbers, noted, tokensFrom, WholeIs, AroundIs, BracketIs}
-use Rattle.grammar.specs.Code.{noteSize, notNumbers, underNots, NotsTo, Ready, Reads, ReadsAs, closedReading, WholeReading}
+use Rattle.rule.specs.Parts.{unaryKind}
+use Rattle.phrases.specs.Code.{noteNumbers, plainNoteNumbers, noted, tokensFrom, WholeIs, AroundIs, BracketIs, TruthIs, TruthTestAt}
+use Rattle.grammar.specs.Code.{noteSize, notNumbers, underNots, NotsTo, Ready, Reads, ReadsAs, atClose, closedReading, StepFits, TestedTo, WholeReading}
 use Rattle.phrases.specs.declared.Note.{Note}
 use Rattle.grammar.specs.declared.Step.{Step}
 use Rattle.grammar.specs.declared.Step.the-variants.{Next, NoReading}
@@ -128,25 +129,75 @@ module _ {s : List ℕ} {at w : ℕ} {old new : List ℕ} {next n d : ℕ} (r : 
   closed-reads t =
       let l : next < length s = there s next (omega arith) in
       reads-around r (omega arith) (omega arith) (omega arith)
-      (ap (_>>= closing Bracket) (r .reads) ∙ ap (_>>= (λ rest. some (r .tree, rest))) (expect-to s next (codeOf Close) (next + 1) tt refl t))
+      (ap (_>>= atClose) (r .reads) ∙ ap (_>>= (λ rest. some (r .tree, rest))) (expect-to s next (codeOf Close) (next + 1) tt refl t))
 
   pub closed-not : (getD s next 0 ≡ codeOf Close → ⊥) → closedReading (tokensFrom s at) ≡ none
-  closed-not t = ap (_>>= closing Bracket) (r .reads) ∙ ap (_>>= (λ rest. some (r .tree, rest))) (expect-no s next (codeOf Close) t)
+  closed-not t = ap (_>>= atClose) (r .reads) ∙ ap (_>>= (λ rest. some (r .tree, rest))) (expect-no s next (codeOf Close) t)
 
 pub unread-not : (ts : Tokens) → reading condition ts ≡ none → closedReading ts ≡ none
-unread-not ts e = ap (_>>= closing Bracket) e
+unread-not ts e = ap (_>>= atClose) e
+
+-- ---- the truth test that may follow it
+
+abbrev withTruth : WrittenCondition × Tokens → Found
+withTruth a = truthTested (a .0) (a .1)
+
+module _ (s : List ℕ) (mid : List ℕ) where
+  pub tested-unread : (new : List ℕ) → TestedTo s mid new NoReading NoReading
+  tested-unread new found at w old e = ap (_>>= withTruth) e
+
+  module _ (next n d : ℕ) where
+    -- no IS follows
+    pub untested-reads : (getD s next 0 ≡ codeOf IS → ⊥) → TestedTo s mid mid (Next next n d) (Next next n d)
+    unfolding truthTested
+    untested-reads t found at w old r =
+        reads-around r (omega arith) (omega arith) (r .moved .within) (ap (_>>= withTruth) (r .reads) ∙ rw (expect-no s next (codeOf IS) t))
+
+    module _ (is : getD s next 0 ≡ codeOf IS) where
+      tested-is : (a : WrittenCondition) → truthTested a (tokensFrom s next) ≡ (readTruthTest (tokensFrom s (next + 1)) >>= (λ u. some (Apply (u .0) a, u .1)))
+      unfolding truthTested
+      tested-is a = rw (expect-to s next (codeOf IS) (next + 1) tt refl is)
+
+      -- an IS that begins no truth test
+      pub tested-not : (new : List ℕ) → readTruthTest (tokensFrom s (next + 1)) ≡ none → TestedTo s mid new (Next next n d) NoReading
+      tested-not new e found at w old r = ap (_>>= withTruth) (r .reads) ∙ tested-is (r .tree) ∙ rw e
+
+      -- a truth test, which is noted behind its condition
+      pub tested-reads : {note : Note} {kind behind : ℕ} {new : List ℕ} → TruthIs s (next + 1) (readTruthTest (tokensFrom s (next + 1))) kind behind
+          → noteNumbers note ≡ plainNoteNumbers kind → (n < mostParts → take (noteSize * (n + 1)) new ≡ take (noteSize * n) mid ++ noteNumbers note)
+          → TestedTo s mid new (Next next n d) (Next behind (n + 1) d)
+      unfolding noted parts fromsDeep
+      tested-reads {note} {kind} {behind} {new} f e put found at w old r =
+          let a : WrittenCondition = r .tree in
+          let x : Noted old mid w n (noted a) = record { first = r .notes } in
+          let plain : noteNumbers note ≡ plainNoteNumbers (unaryKind (f .unary)) = rw (← f .kind-is) e in
+          let noting = both-noted {n = n} (omega arith) x (one-noted note plain put) in
+          record {
+            tree = Apply (f .unary) a;
+            reads = ap (_>>= withTruth) (r .reads) ∙ tested-is a ∙ rw (f .found);
+            moved = record { later = omega (arith, r .moved .later, f .moved .later); within = f .moved .within };
+            count = omega (arith, r .count);
+            froms = r .froms;
+            used = omega (arith, r .used, f .moved .later);
+            notes = noting .first;
+          }
+
+-- as many parts as tokens, at most
+pub step-fits : (found : Found) (s : List ℕ) (at w : ℕ) (old new : List ℕ) (step : Step) → w ≤ at → ReadsAs found s at w old new step → StepFits s step
+step-fits found s at w old new (Next next n d) h r = (r .moved .within, omega (arith, r .used))
+step-fits found s at w old new NoReading h r = tt
 
 -- ---- a test, by its start
 
--- what stands around a condition in brackets
+-- what stands around a condition in brackets, and may follow it
 abbrev put-around : Opening → WrittenCondition × Tokens → Found
-put-around op a = some (closed op (a .0), a .1)
+put-around op a = ended op (closed op (a .0)) (a .1)
 
-closing-around : (op : Opening) (o : Found) → (o >>= closing op) ≡ ((o >>= closing Bracket) >>= put-around op)
+closing-around : (op : Opening) (o : Found) → (o >>= closing op) ≡ ((o >>= atClose) >>= put-around op)
 closing-around op none = refl
 closing-around op (some x) = go (expect Close (x .1))
   where
-    go : (o : Option Tokens) → (o >>= (λ rest. put-around op (x .0, rest))) ≡ ((o >>= (λ rest. put-around Bracket (x .0, rest))) >>= put-around op)
+    go : (o : Option Tokens) → (o >>= (λ rest. put-around op (x .0, rest))) ≡ ((o >>= (λ rest. some (x .0, rest))) >>= put-around op)
     go none = refl
     go (some rest) = refl
 
@@ -170,10 +221,10 @@ module _ (s : List ℕ) (at : ℕ) where
         notes = (one-noted note (sym (f .notes)) put) .first;
       }
 
-  bracket-same : {next : ℕ} → BracketIs s at (start (tokensFrom s at)) next → reading test (tokensFrom s at) ≡ closedReading (tokensFrom s next)
-  bracket-same f = begins (f .found)
+  bracket-same : {next : ℕ} → BracketIs s at (start (tokensFrom s at)) next → reading test (tokensFrom s at) ≡ (closedReading (tokensFrom s next) >>= withTruth)
+  bracket-same {next} f = begins (f .found) ∙ closing-around Bracket (reading condition (tokensFrom s next))
 
-  pub bracket-reads : {next : ℕ} → BracketIs s at (start (tokensFrom s at)) next → (w : ℕ) (old new : List ℕ) (r : Step) → ReadsAs (closedReading (tokensFrom s next)) s next w old new r
+  pub bracket-reads : {next : ℕ} → BracketIs s at (start (tokensFrom s at)) next → (w : ℕ) (old new : List ℕ) (r : Step) → ReadsAs (closedReading (tokensFrom s next) >>= withTruth) s next w old new r
       → ReadsAs (reading test (tokensFrom s at)) s at w old new r
   bracket-reads f w old new NoReading e = bracket-same f ∙ e
   bracket-reads f w old new (Next behind n d) r = reads-around r (omega (arith, f .moved .later)) (omega arith) (r .moved .within) (bracket-same f ∙ r .reads)
@@ -193,7 +244,7 @@ module _ (s : List ℕ) (at : ℕ) where
         let noting = both-noted {n = n} (omega arith) x (one-noted note refl put) in
         record {
           tree = closed (f .opening) a;
-          reads = around-same ∙ ap (_>>= put-around (f .opening)) (r .reads);
+          reads = around-same ∙ ap (_>>= put-around (f .opening)) (r .reads) ∙ f .untested (closed (f .opening) a) (tokensFrom s behind);
           moved = record { later = omega (arith, f .moved .later, r .moved .later); within = r .moved .within };
           count = omega (arith, f .one a, r .count);
           froms = omega (arith, f .deeper a, r .froms);

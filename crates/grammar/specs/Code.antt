@@ -13,7 +13,7 @@ use Rattle.rule.specs.Condition.{Not, Apply, WrittenCondition, parts, fromsDeep
 use Rattle.rule.specs.Names.{mostParts}
 use Rattle.rule.specs.Parts.{joinKind, unaryKind}
 use Rattle.rule.specs.Grammar.{Tokens}
-use Rattle.rule.specs.Reader.{expect, Goal, condition, factor, test, Found, reading, readAll}
+use Rattle.rule.specs.Reader.{expect, Goal, condition, factor, test, Found, truthTested, reading, readAll}
 use Rattle.lexer.specs.Code.{mostTokens, tokensIn}
 use Rattle.phrases.specs.Code.{noted, plainNoteNumbers, tokensFrom, Moved}
 use Rattle.grammar.specs.declared.Step.{Step}
@@ -100,11 +100,24 @@ abbrev pub ReadsTo : Goal → (s : List ℕ) (at w : ℕ) (old new : List ℕ) �
 ReadsTo goal s at w old new r = ReadsAs (reading goal (tokensFrom s at)) s at w old new r
 
 -- a condition, and the bracket behind it
+abbrev pub atClose : WrittenCondition × Tokens → Found
+atClose w = expect Close (w .1) >>= (λ rest. some (w .0, rest))
+
 abbrev pub closedReading : Tokens → Found
-closedReading ts = reading condition ts >>= (λ w. expect Close (w .1) >>= (λ rest. some (w .0, rest)))
+closedReading ts = reading condition ts >>= atClose
 
 abbrev pub ReadsClosed : (s : List ℕ) (at w : ℕ) (old new : List ℕ) → Step → Type 0
 ReadsClosed s at w old new r = ReadsAs (closedReading (tokensFrom s at)) s at w old new r
+
+-- what is asked of a step, so that another part may be noted: as many parts as tokens at most
+abbrev pub StepFits : List ℕ → Step → Type 0
+StepFits s (Next next n deep) = (next ≤ length s) × (n ≤ next)
+StepFits s NoReading = Unit {0}
+
+-- whatever was read up to a step, r is what was read with the truth test that follows it
+abbrev pub TestedTo : (s old new : List ℕ) → Step → Step → Type 0
+TestedTo s mid new step r =
+    (found : Found) (at w : ℕ) (old : List ℕ) → ReadsAs found s at w old mid step → ReadsAs (found >>= (λ a. truthTested (a .0) (a .1))) s at w old new r
 
 -- all the tokens
 pub record WholeReading (s new : List ℕ) (n deep : ℕ) : Type 0 where

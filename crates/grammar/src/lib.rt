@@ -9,14 +9,17 @@ ghost use Rattle.rule.specs.Parts.{joinKind};
 ghost use Rattle.rule.specs.Reader.{condition, conjunction, factor, test, chain, operand, joinWord};
 ghost use Rattle.lexer.specs.Code.{mostTokens};
 ghost use Rattle.phrases.specs.Code.{noteNumbers, leftNumbers};
-ghost use Rattle.grammar.specs.Code.{noteSize, notesSize, notNumbers, joinedBy, joinParts, joinNumbers, NotsTo, Ready, ReadsTo, ReadsClosed, ReadsAll};
+ghost use Rattle.grammar.specs.Code.{noteSize, notesSize, notNumbers, joinedBy, joinParts, joinNumbers, NotsTo, StepFits, TestedTo, Ready, ReadsTo, ReadsClosed, ReadsAll};
 use lexer::AND;
 use lexer::CLOSE;
+use lexer::IS;
 use lexer::NOT;
 use lexer::OR;
 use phrases::Note;
 use phrases::Start;
+use phrases::TruthRead;
 use phrases::left_note;
+use phrases::read_truth_test;
 use phrases::start_test;
 use phrases::token;
 use rule::AND_PART;
@@ -78,7 +81,7 @@ fn note_part(out: &mut [usize; NOTE_NUMBERS], w: usize, note: Note)
     out[p + NOTE_RIGHT_NUMBER] = note.right_number;
 }
 
-// A part that says no more than its kind: AND, OR and NOT.
+// A part that says no more than its kind: AND, OR, NOT and truth tests.
 fn plain_note(kind: usize) -> Note
     ensures { λ r. ⌜ noteNumbers r ≡ leftNumbers kind 0 0 ⌝ }
 {
@@ -240,7 +243,30 @@ fn read_factor(s: &[usize], at: usize, out: &mut [usize; NOTE_NUMBERS], w: usize
     }
 }
 
-// A test: nothing, or a condition and the bracket behind it, follows its start.
+// What was read up to a bracket, with the truth test that follows it, if there is one: a part more, behind those of the condition in the bracket.
+fn note_truth_test(s: &[usize], out: &mut [usize; NOTE_NUMBERS], step: Step) -> Step
+    requires { ⌜ length (now s) ≤ mostTokens ⌝ ∗ ⌜ length (now out) ≡ notesSize ⌝ ∗ ⌜ StepFits (now s) step ⌝ }
+    ensures tested { λ r. ⌜ TestedTo (now (s .entry)) (now (out .entry)) (now (out .exit)) step r ⌝ }
+    ensures size { λ _. ⌜ length (now (out .exit)) ≡ notesSize ⌝ }
+{
+    let Step::Next { at, count, deep } = step else {
+        return Step::NoReading;
+    };
+    if token(s, at) != IS {
+        return Step::Next { at, count, deep };
+    }
+    let TruthRead::Truth(kind, next) = read_truth_test(s, at + 1) else {
+        return Step::NoReading;
+    };
+    note_part(out, count, plain_note(kind));
+    Step::Next {
+        at: next,
+        count: count + 1,
+        deep,
+    }
+}
+
+// A test: nothing, or a condition and the bracket behind it, follows its start; and brackets alone may be followed by a truth test.
 fn read_test(s: &[usize], at: usize, out: &mut [usize; NOTE_NUMBERS], w: usize) -> Step
     requires { ⌜ Ready (now s) at w (now out) ⌝ }
     ensures reads { λ r. ⌜ ReadsTo test (now (s .entry)) at w (now (out .entry)) (now (out .exit)) r ⌝ }
@@ -255,7 +281,10 @@ fn read_test(s: &[usize], at: usize, out: &mut [usize; NOTE_NUMBERS], w: usize) 
                 deep: 0,
             }
         }
-        Start::Bracket { next } => read_closed(s, next, out, w),
+        Start::Bracket { next } => {
+            let step = read_closed(s, next, out, w);
+            note_truth_test(s, out, step)
+        }
         Start::Around { note, next } => {
             let Step::Next {
                 at: behind,

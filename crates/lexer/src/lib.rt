@@ -52,6 +52,12 @@ pub const CLOSE: usize = 14;
 
 pub const POINT: usize = 15;
 
+pub const TRUE: usize = 16;
+
+pub const FALSE: usize = 17;
+
+pub const UNKNOWN: usize = 18;
+
 pub const COMPARES: usize = 64;
 
 pub const NUMBER: usize = 256;
@@ -135,6 +141,9 @@ fn word_code(run: usize) -> usize
         0x53454C454354 => SELECT,
         0x46524F4D => FROM,
         0x5748455245 => WHERE,
+        0x54525545 => TRUE,
+        0x46414C5345 => FALSE,
+        0x554E4B4E4F574E => UNKNOWN,
         _ => 0,
     }
 }

@@ -272,7 +272,7 @@ module _ {file notes : List ℕ} {h : ℕ} {room : List ℕ} {e : ℕ} {scope : 
         kept = i .kept;
       }
 
-  -- ---- NOT
+  -- ---- NOT and the truth tests
 
   module _ (k : UnaryNumber (kindAt notes h)) where
     pub unary-here : UnaryShape (q .tree)

@@ -19,6 +19,12 @@ use rule::ALL_PART;
 use rule::AND_PART;
 use rule::COMPARISON_PART;
 use rule::EXISTS_PART;
+use rule::IS_FALSE_PART;
+use rule::IS_NOT_FALSE_PART;
+use rule::IS_NOT_TRUE_PART;
+use rule::IS_NOT_UNKNOWN_PART;
+use rule::IS_TRUE_PART;
+use rule::IS_UNKNOWN_PART;
 use rule::NOT_NULL_PART;
 use rule::NOT_PART;
 use rule::NULL_PART;
@@ -102,6 +108,12 @@ fn place(
         EXISTS_PART | SOME_PART | ALL_PART => {
             place_from(file, notes, h, parts, e, scope, levels)
         }
+        IS_TRUE_PART
+        | IS_NOT_TRUE_PART
+        | IS_FALSE_PART
+        | IS_NOT_FALSE_PART
+        | IS_UNKNOWN_PART
+        | IS_NOT_UNKNOWN_PART => place_unary(file, notes, h, parts, e, scope, levels),
         _ => {
             cells::never();
             Placed::Unplaced
@@ -136,7 +148,7 @@ fn place_pair(
     Placed::At(at)
 }
 
-// NOT: a part that says no more than its kind, before one inner condition.
+// NOT and the truth tests: a part that says no more than its kind, before one inner condition.
 fn place_unary(
     file: &[u8],
     notes: &[usize],

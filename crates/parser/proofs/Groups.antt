@@ -11,6 +11,7 @@ use lib.IntN.{pos}
 use lib.ListN.{length, take}
 use Rattle.tables.specs.Lists.{isMissing}
 use Rattle.tables.specs.Tables.{columnsOf}
+use Rattle.tables.specs.Values.{mostEntries}
 use Rattle.tables.specs.Refusals.{firstApplying, Refused, Given, tablesRefusals, tablesCall}
 use Rattle.tables.proofs.Refusals.{first-nil, first-one, first-none, first-append, first-found, unless-none, unless-some}
 use Rattle.cells.specs.Reasons.{reasonNumber, validityAnswer}
@@ -25,6 +26,7 @@ use Rattle.rule.specs.Reader.{readAll}
 use Rattle.rule.specs.Names.{mostParts, mostFroms, limitsFit, outermost, ruleIn}
 use Rattle.rule.specs.Calls.{mostBytes, conditionOf, ruleOf, textRefusals, tokensRefusals, readingRefusals, Accepted, withRule}
 use Rattle.rule.proofs.Accepted.{limits-of}
+use Rattle.rule.proofs.Sum.{sum-fits, sum-unfits}
 use Rattle.lexer.specs.Code.{tokensIn, tokenizedAs, tokensFit}
 use Rattle.lexer.specs.declared.Tokenized.{Tokenized}
 use Rattle.grammar.specs.Code.{notesSize, WholeReading, ReadsAll}
@@ -33,6 +35,7 @@ use Rattle.names.specs.Code.{partSize, partsSize, Nameable, NamedAt, NamedTo}
 use Rattle.names.proofs.Keeping.{read-kept}
 use Rattle.parts.specs.Code.{Countable, CountedTo}
 use Rattle.parts.proofs.Parts.{rule-stands}
+use Rattle.parts.proofs.Counting.{few-counted, many-counted}
 use Rattle.parser.specs.Code.{TextReady, TokensParsing, TokensParsedTo, parsedAnswer, parseCall, Parsing, ParsedTo}
 use Rattle.parser.proofs.Sizes.{written-count}
 use Rattle.parser.specs.declared.Parsed.{Parsed}
@@ -55,7 +58,7 @@ module _ (text : List ℕ) where
     scan-passes : (ts : Tokens) → tokensOf text ≡ some ts → firstApplying (textRefusals text) ≡ none
     scan-passes ts e = first-none 3 _ _ short-enough (first-none 4 _ [] (ap isMissing e) first-nil)
 
--- ---- tokens: refusals 5 to 8
+-- ---- tokens: refusals 5 to 8, and 13
 
 limits-count : (a : WrittenCondition) → mostParts < parts a → limitsFit a ≡ false
 unfolding limitsFit
@@ -123,31 +126,39 @@ module _ (s file : List ℕ) where
           has-count : n ≡ parts (is-named .rule)
           has-count = written-count new n (is-named .rule) (omega arith) (is-named .written)
 
-          abbrev countable : Countable new n
+          abbrev countable : Countable new 0 n
           countable =
               record {
                 rule = is-named .rule;
                 size = l;
-                count = has-count;
+                count = omega (arith, has-count);
                 few = omega arith;
                 stands = rule-stands new (is-named .rule) (sym (ap (λ (k : ℕ). take (partSize * k) new) has-count) ∙ is-named .written);
               }
 
-          pub parsed-tokens : Countable new n × ((m : ℕ) → CountedTo new n m → TokensParsing s file new n m)
-          parsed-tokens = (
-            countable,
-            λ m c. record {
-              brackets = b;
-              tree = w .tree;
-              reads = w .reads;
-              limits = limits;
-              rule = is-named .rule;
-              named = is-named .named;
-              count = has-count;
-              written = is-named .written;
-              sum = c countable;
-            },
-          )
+          pub countable-tokens : Countable new 0 n
+          countable-tokens = countable
+
+          module _ (m : ℕ) (c : CountedTo new 0 n m) where
+            pub parsed-tokens : m ≤ mostEntries → TokensParsing s file new n m
+            parsed-tokens h =
+                let sum = few-counted (c countable) h in
+                record {
+                  brackets = b;
+                  tree = w .tree;
+                  reads = w .reads;
+                  limits = limits;
+                  rule = is-named .rule;
+                  named = is-named .named;
+                  count = has-count;
+                  written = is-named .written;
+                  sum = sum;
+                  few-entries = omega arith;
+                }
+
+            pub many-entries : mostEntries < m → FirstOfTokens 13
+            unfolding firstApplying
+            many-entries h = rw (b, w .reads, limits, is-named .named, sum-unfits (is-named .rule) (many-counted (c countable) h))
 
 -- what the lexer answered, and the grammar's reader
 module _ (text new : List ℕ) (r : Tokenized) (told : tokenizedAs r new ≡ tokensOf text) where
@@ -209,7 +220,7 @@ module _ (text file : List ℕ) where
       module _ (written : List ℕ) (n m : ℕ) (q : TokensParsing s file written n m) where
         accepted : Accepted text file
         unfolding firstApplying
-        accepted = tokens-decide ∙ rw (q .brackets, q .reads, q .limits, q .named)
+        accepted = tokens-decide ∙ rw (q .brackets, q .reads, q .limits, q .named, sum-fits (q .rule) (q .few-entries))
 
         is-rule : ruleOf text (columnsOf file) ≡ some (q .rule)
         unfolding ruleOf conditionOf

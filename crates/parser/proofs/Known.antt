@@ -19,7 +19,7 @@ use Rattle.rule.specs.Parts.{partsOf}
 use Rattle.rule.specs.Sum.{entrySum}
 use Rattle.rule.specs.Calls.{ruleOf, readingRefusals, Accepted}
 use Rattle.rule.proofs.Parts.{parts-length}
-use Rattle.rule.proofs.Accepted.{accepted-claim, parts-claim}
+use Rattle.rule.proofs.Accepted.{accepted-named, parts-claim}
 use Rattle.names.specs.Code.{partSize, partsNumbers}
 use Rattle.parser.specs.Code.{parsedAnswer, refusalIn, parseCall, Parsing, ParsedTo}
 use Rattle.parts.specs.Parts.{partsIn, SmallParts}
@@ -40,7 +40,7 @@ known text file rule a e =
     let f = w .is-rule in
     let same : w .rule ≡ rule = some-same (w .rule) rule (sym f ∙ e) in
     subst (Known file) same record {
-      sized = sized-is file (accepted-claim text file .0 a .tables-sized);
+      sized = sized-is file (accepted-named text file a .tables-sized);
       fits = w .fits;
       few-parts = w .few-parts;
       few-froms = w .few-froms;

@@ -7,6 +7,7 @@ use Prim.Native.Nat.{ℕ, _*_, _≤_}
 use lib.IntN.{pos}
 use lib.ListN.{length, take}
 use Rattle.tables.specs.Tables.{columnsOf}
+use Rattle.tables.specs.Values.{mostEntries}
 use Rattle.tables.specs.Refusals.{firstApplying, Answer, Refused, Given, unless, tablesRefusals}
 use Rattle.cells.specs.Reasons.{reasonNumber}
 use Rattle.cells.specs.declared.Reason.{Reason}
@@ -52,6 +53,7 @@ pub record TokensParsing (s file new : List ℕ) (n m : ℕ) : Type 0 where
   pub count : n ≡ parts rule
   pub written : take (partSize * n) new ≡ partsNumbers (partsOf rule)
   pub sum : m ≡ entrySum rule
+  pub few-entries : entrySum rule ≤ mostEntries
 
 abbrev pub TokensParsedTo : (s file new : List ℕ) → Parsed → Type 0
 TokensParsedTo s file new (ParsedRule n m) = TokensParsing s file new n m

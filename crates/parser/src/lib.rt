@@ -17,6 +17,7 @@ use grammar::Step;
 use lexer::MOST_BYTES;
 use lexer::Tokenized;
 use names::PART_NUMBERS;
+use tables::MOST_ENTRIES;
 
 // Texts of at most so many bytes get an array of tokens that is no longer than that: setting up the one for the longest text takes longer than reading a
 // short one.
@@ -77,8 +78,8 @@ fn name_noted(file: &[u8], count: usize, parts: &mut [usize; PART_NUMBERS]) -> b
     names::name_parts(file, &notes, count, parts)
 }
 
-// The rule of some tokens: refusals 5 to 8. The grammar is judged to the end before the limits, and these before the names. The grammar writes its notes
-// where the parts are to stand.
+// The rule of some tokens: refusals 5 to 8, and 13. The grammar is judged to the end before the limits, these before the names, and the names before the number
+// of entries. The grammar writes its notes where the parts are to stand.
 fn parse_tokens(s: &[usize], file: &[u8], parts: &mut [usize; PART_NUMBERS]) -> Parsed
     requires { ⌜ length (now s) ≤ mostTokens ⌝ ∗ ⌜ Sized (now file) ⌝ ∗ ⌜ length (now parts) ≡ partsSize ⌝ }
     ensures parsed { λ r. ⌜ TokensParsedTo (now (s .entry)) (now (file .entry)) (now (parts .exit)) r ⌝ }
@@ -101,11 +102,14 @@ fn parse_tokens(s: &[usize], file: &[u8], parts: &mut [usize; PART_NUMBERS]) -> 
     if !named {
         return Parsed::Refused(Reason::Names);
     }
-    let entries = parts::count_entries(parts, count);
+    let entries = parts::count_entries(parts, 0, count);
+    if MOST_ENTRIES < entries {
+        return Parsed::Refused(Reason::Entries);
+    }
     Parsed::Rule(count, entries)
 }
 
-// The rule of a text that is not too long, with tables that are not refused: refusals 4 to 8. There is room for its tokens.
+// The rule of a text that is not too long, with tables that are not refused: refusals 4 to 8, and 13. There is room for its tokens.
 fn parse_text(
     text: &[u8],
     file: &[u8],

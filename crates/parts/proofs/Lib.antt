@@ -1,3 +1,4 @@
+pub mod Arms
 pub mod Parts
 pub mod Small
 pub mod Counting

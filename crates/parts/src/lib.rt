@@ -1,26 +1,37 @@
 // The parts of a rule as numbers in an array: how many entries the rule's card has.
-// Short names: p, the parts as numbers; s, the number of a part.
+// Short names: p, the parts as numbers; s, the number of the first part, and n, of the first one behind the last.
 ghost use mathlib.Core.Path.{_≡_};
-ghost use Prim.Native.Nat.{_≤_};
-ghost use Rattle.rule.specs.Parts.{Kind, kindNumber};
+ghost use Prim.Native.Nat.{ℕ, _+_, _*_, _<_, _≤_};
+ghost use Rattle.tables.specs.Values.{mostEntries};
+ghost use Rattle.rule.specs.Truth.{Unknown};
+ghost use Rattle.rule.specs.Condition.{Is};
+ghost use Rattle.rule.specs.Parts.{Kind, kindNumber, unaryKind};
 ghost use Rattle.rule.specs.Groups.{KindNumber};
-ghost use Rattle.parts.specs.Code.{ownEntries, Countable, CountedTo};
+ghost use Rattle.parts.specs.Code.{ownEntries, Capped, Countable, CountedTo};
+use names::PART_END;
 use names::PART_FIELDS;
 use names::PART_NUMBERS;
 use rule::ALL_PART;
 use rule::AND_PART;
 use rule::COMPARISON_PART;
 use rule::EXISTS_PART;
+use rule::IS_FALSE_PART;
+use rule::IS_NOT_FALSE_PART;
+use rule::IS_NOT_TRUE_PART;
+use rule::IS_TRUE_PART;
+use rule::IS_UNKNOWN_PART;
 use rule::NOT_NULL_PART;
 use rule::NOT_PART;
 use rule::NULL_PART;
 use rule::OR_PART;
 use rule::SOME_PART;
+use tables::MOST_ENTRIES;
 
-// The entries that a part has besides those of its inner parts: NOT has none, and a list its test of rows, its AND or OR, and its comparison. With an arm for
-// each kind the compiler looks the number up in a table; with kinds that follow one another in one arm it compares several times.
+// The entries that a part has besides those of its inner parts, where it uses these once: NOT has none, nor have IS TRUE, IS FALSE and their negations, and a
+// list has its test of rows, its AND or OR, and its comparison. With an arm for each kind the compiler looks the number up in a table; with kinds that
+// follow one another in one arm it compares several times.
 fn own_entries(kind: usize) -> usize
-    requires { ⌜ KindNumber kind ⌝ }
+    requires { ⌜ KindNumber kind ⌝ ∗ ⌜ kind < unaryKind (Is Unknown) ⌝ }
     ensures is { λ r. ⌜ ((k : Kind) → kind ≡ kindNumber k → r ≡ ownEntries k) ⌝ }
     ensures small { λ r. ⌜ r ≤ 3 ⌝ }
 {
@@ -34,23 +45,48 @@ fn own_entries(kind: usize) -> usize
         EXISTS_PART => 1,
         SOME_PART => 3,
         ALL_PART => 3,
+        IS_TRUE_PART => 0,
+        IS_NOT_TRUE_PART => 0,
+        IS_FALSE_PART => 0,
+        IS_NOT_FALSE_PART => 0,
         _ => {
             cells::never();
-            1
+            0
         }
     }
 }
 
-// The entries of the card of the rule whose parts are the first n. They are added up part by part, with no recursive call.
-pub fn count_entries(p: &[usize; PART_NUMBERS], n: usize) -> usize
-    requires { ⌜ Countable (now p) n ⌝ }
-    ensures { λ r. ⌜ CountedTo (now (p .entry)) n r ⌝ }
+// The entries of IS UNKNOWN and IS NOT UNKNOWN, which use the condition in them twice, joined by one entry. The count stops where the inner one is over the
+// limit: each such part around another doubles it, so that it would outgrow its 64 bits.
+fn used_twice(inner: usize) -> usize
+    ensures capped { λ r. ⌜ ((n : ℕ) → Capped inner n → Capped r (1 + 2 * n)) ⌝ }
+    ensures small { λ r. ⌜ r ≤ 1 + 2 * mostEntries ⌝ }
+{
+    if MOST_ENTRIES < inner {
+        return MOST_ENTRIES + 1;
+    }
+    1 + 2 * inner
+}
+
+// The entries of the card of the rule whose parts are those from s up to n; or where they are over the limit, some number over it. They are added up part by
+// part, with a recursive call only for IS UNKNOWN and IS NOT UNKNOWN, the last kinds.
+pub fn count_entries(p: &[usize; PART_NUMBERS], s: usize, n: usize) -> usize
+    requires { ⌜ Countable (now p) s n ⌝ }
+    ensures { λ r. ⌜ CountedTo (now (p .entry)) s n r ⌝ }
 {
     let mut entries: usize = 0;
-    let mut s: usize = 0;
-    while s < n {
-        entries += own_entries(p[PART_FIELDS * s]);
-        s += 1;
+    let mut at = s;
+    while at < n {
+        let kind = p[PART_FIELDS * at];
+        if IS_UNKNOWN_PART <= kind {
+            let end = p[PART_FIELDS * at + PART_END];
+            let inner = count_entries(p, at + 1, end);
+            entries += used_twice(inner);
+            at = end;
+        } else {
+            entries += own_entries(kind);
+            at += 1;
+        }
     }
     entries
 }

@@ -90,5 +90,6 @@ module _ (s : List ℕ) (at : ℕ) where
         notes = λ w. rw (e, to-from t, comparison-number c low high, value-numbers x n, value-numbers r m, k);
         one = λ w. refl;
         deeper = λ w. refl;
+        untested = λ a rest. refl;
         moved = record { later = omega (arith, v .moved .later, f .moved .later); within = f .moved .within };
       }

@@ -24,19 +24,19 @@ use Rattle.phrases.proofs.Begun.{value-numbers}
 
 -- ---- a start that is found farther on is the start here
 
-earlier : {s : List ℕ} {at later next : ℕ} → at ≤ later → Moved s later next → Moved s at next
+pub earlier : {s : List ℕ} {at later next : ℕ} → at ≤ later → Moved s later next → Moved s at next
 earlier p m = record { later = omega (arith, m .later); within = m .within }
 
 pub starts-as : (s : List ℕ) (at later : ℕ) (found begun : Option Start) (r : Started) → at ≤ later → begun ≡ found → Starts s later found r → Starts s at begun r
 starts-as s at later found begun (StartedWhole note next) p e h =
     record { whole = h .whole; found = rw (e) (h .found); notes = h .notes; one = h .one; flat = h .flat; moved = earlier p (h .moved) }
 starts-as s at later found begun (StartedAround note next) p e h =
-    record { opening = h .opening; found = rw (e) (h .found); notes = h .notes; one = h .one; deeper = h .deeper; moved = earlier p (h .moved) }
+    record { opening = h .opening; found = rw (e) (h .found); notes = h .notes; one = h .one; deeper = h .deeper; untested = h .untested; moved = earlier p (h .moved) }
 starts-as s at later found begun (StartedBracket next) p e h = record { found = rw (e) (h .found); moved = earlier p (h .moved) }
 starts-as s at later found begun NoTest p e h = rw (e) h
 
 -- alternatives behind one that are none
-or-none : {A : Type 0} (o : Option A) → (o <|> none) ≡ o
+pub or-none : {A : Type 0} (o : Option A) → (o <|> none) ≡ o
 or-none none = refl
 or-none (some x) = refl
 
@@ -239,6 +239,7 @@ module _ (s : List ℕ) (at : ℕ) where
         notes = λ w. rw (e, to-from t);
         one = λ w. refl;
         deeper = λ w. refl;
+        untested = λ a rest. refl;
         moved = earlier (omega arith) (f .moved);
       }
 

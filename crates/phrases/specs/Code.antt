@@ -1,18 +1,20 @@
 -- What the functions of src/ promise one another and their callers, in the terms of the code: tokens and parts as numbers. The contract of a public
 -- call cites nothing of this file.
 use mathlib.Core.Path.{_≡_}
-use mathlib.Core.Bool.{cond}
+use mathlib.Core.Bool.{Bool, true, false, cond}
 use mathlib.Core.List.{List, [], _∷_, _++_}
 use mathlib.Core.Option.{Option, none, some}
 use Prim.Native.Nat.{ℕ, _+_, _<_, _≤_}
 use lib.Dec.{eqb}
 use lib.ListN.{length, drop}
+use Rattle.tables.specs.Lists.{_>>=_}
 use Rattle.tables.specs.Values.{comparisonNumber, comparisonOf, Quantifier}
 use Rattle.cells.specs.Code.{fromExcess, toExcess}
-use Rattle.rule.specs.Condition.{Compare, Mark, From, Single, Atom, Join, Apply, Exists, Listed, WrittenValue, Plain, Named, Source, Over, WrittenCondition, parts, fromsDeep}
+use Rattle.rule.specs.Truth.{Truth}
+use Rattle.rule.specs.Condition.{Compare, Mark, Unary, Is, IsNot, From, Single, Atom, Join, Apply, Exists, Listed, WrittenValue, Plain, Named, Source, Over, WrittenCondition, parts, fromsDeep}
 use Rattle.rule.specs.Parts.{joinKind, unaryKind, compareKind, markKind, existsKind, listKind}
 use Rattle.rule.specs.Grammar.{Tokens}
-use Rattle.rule.specs.Reader.{readValue, readFrom, Opening, Bracket, closed, Start, Whole, Around, startList, startValue, start}
+use Rattle.rule.specs.Reader.{readValue, readFrom, Opening, Bracket, closed, ended, Start, Whole, Around, startList, startValue, start, readTruth, readTruthTest}
 use Rattle.lexer.specs.Code.{tokensIn}
 use Rattle.phrases.specs.declared.Note.{Note}
 use Rattle.phrases.specs.declared.ValueRead.{ValueRead}
@@ -21,6 +23,8 @@ use Rattle.phrases.specs.declared.FromRead.{FromRead}
 use Rattle.phrases.specs.declared.FromRead.the-variants.{From as ReadFrom, NoFrom}
 use Rattle.phrases.specs.declared.Start.{Start as Started}
 use Rattle.phrases.specs.declared.Start.the-variants.{Whole as StartedWhole, Around as StartedAround, Bracket as StartedBracket, NoTest}
+use Rattle.phrases.specs.declared.TruthRead.{TruthRead}
+use Rattle.phrases.specs.declared.TruthRead.the-variants.{Truth as ReadTruth, NoTruth}
 
 -- ---- a part as numbers
 
@@ -100,13 +104,14 @@ pub record WholeIs (s : List ℕ) (at : ℕ) (begun : Option Start) (note : Note
   pub flat : fromsDeep whole ≡ 0
   pub moved : Moved s at next
 
--- what stands before a condition makes one part more of it, and one FROM
+-- what stands before a condition makes one part more of it, and one FROM; and no truth test may follow it
 pub record AroundIs (s : List ℕ) (at : ℕ) (begun : Option Start) (note : Note) (next : ℕ) : Type 0 where
   pub opening : Opening
   pub found : begun ≡ some (Around opening (tokensFrom s next))
   pub notes : (w : WrittenCondition) → noted (closed opening w) ≡ noted w ++ noteNumbers note
   pub one : (w : WrittenCondition) → parts (closed opening w) ≡ 1 + parts w
   pub deeper : (w : WrittenCondition) → fromsDeep (closed opening w) ≡ 1 + fromsDeep w
+  pub untested : (a : WrittenCondition) (rest : Tokens) → ended opening a rest ≡ some (a, rest)
   pub moved : Moved s at next
 
 pub record BracketIs (s : List ℕ) (at : ℕ) (begun : Option Start) (next : ℕ) : Type 0 where
@@ -130,3 +135,27 @@ BehindAt s at x n r = Starts s at (startValue (writtenOf x n) (tokensFrom s at))
 
 abbrev pub TestAt : List ℕ → ℕ → Started → Type 0
 TestAt s at r = Starts s at (start (tokensFrom s at)) r
+
+-- ---- truth tests: `read` is what the definition finds behind the IS
+
+-- a truth test is a part of this kind around a condition
+pub record TruthIs (s : List ℕ) (at : ℕ) (read : Option (Unary × Tokens)) (kind next : ℕ) : Type 0 where
+  pub unary : Unary
+  pub found : read ≡ some (unary, tokensFrom s next)
+  pub kind-is : kind ≡ unaryKind unary
+  pub moved : Moved s at next
+
+abbrev pub TruthTo : List ℕ → ℕ → Option (Unary × Tokens) → TruthRead → Type 0
+TruthTo s at read (ReadTruth kind next) = TruthIs s at read kind next
+TruthTo s at read NoTruth = read ≡ none
+
+-- IS, or IS NOT, with a word
+abbrev pub truthUnary : Bool → Truth → Unary
+truthUnary false t = Is t
+truthUnary true t = IsNot t
+
+abbrev pub TruthWordAt : List ℕ → ℕ → Bool → TruthRead → Type 0
+TruthWordAt s at negated r = TruthTo s at (readTruth (tokensFrom s at) >>= (λ t. some (truthUnary negated (t .0), t .1))) r
+
+abbrev pub TruthTestAt : List ℕ → ℕ → TruthRead → Type 0
+TruthTestAt s at r = TruthTo s at (readTruthTest (tokensFrom s at)) r

@@ -1,14 +1,16 @@
-// The phrases of the grammar that hold no condition: a value, a FROM, and how a test begins.
+// The phrases of the grammar that hold no condition: a value, a FROM, how a test begins, and the truth test that may follow a bracketed condition.
 // Short names: s, the tokens; at, the place of one.
 ghost use mathlib.Core.Path.{_≡_};
+ghost use mathlib.Core.Bool.{cond};
 ghost use Prim.Native.Nat.{_<_, _≤_};
 ghost use lib.ListN.{length, getD};
 ghost use Rattle.rule.specs.Tokens.{EXISTS, IS};
 ghost use Rattle.lexer.specs.Code.{mostTokens, comparesCode, letterCode, codeOf};
-ghost use Rattle.phrases.specs.Code.{noteNumbers, leftNumbers, ValueAt, FromAt, ListAt, BehindAt, TestAt};
+ghost use Rattle.phrases.specs.Code.{noteNumbers, leftNumbers, ValueAt, FromAt, ListAt, BehindAt, TestAt, TruthWordAt, TruthTestAt};
 use lexer::ALL;
 use lexer::COMPARES;
 use lexer::EXISTS;
+use lexer::FALSE;
 use lexer::FROM;
 use lexer::IN;
 use lexer::IS;
@@ -19,10 +21,18 @@ use lexer::OPEN;
 use lexer::POINT;
 use lexer::SELECT;
 use lexer::SOME;
+use lexer::TRUE;
+use lexer::UNKNOWN;
 use lexer::WHERE;
 use rule::ALL_PART;
 use rule::COMPARISON_PART;
 use rule::EXISTS_PART;
+use rule::IS_FALSE_PART;
+use rule::IS_NOT_FALSE_PART;
+use rule::IS_NOT_TRUE_PART;
+use rule::IS_NOT_UNKNOWN_PART;
+use rule::IS_TRUE_PART;
+use rule::IS_UNKNOWN_PART;
 use rule::NOT_NULL_PART;
 use rule::NULL_PART;
 use rule::SOME_PART;
@@ -63,6 +73,12 @@ pub enum Start {
     Around { note: Note, next: usize },
     Bracket { next: usize },
     NoTest,
+}
+
+// A truth test: the kind of its part, and the place after it.
+pub enum TruthRead {
+    Truth(usize, usize),
+    NoTruth,
 }
 
 // The token at a place, and 0 past the end.
@@ -296,4 +312,46 @@ pub fn start_test(s: &[usize], at: usize) -> Start
         return Start::NoTest;
     };
     start_value(s, next, letter, number)
+}
+
+// The kind of a truth test by that of IS NOT and of IS with the same word.
+fn truth_kind(negated: bool, other: usize, is: usize) -> usize
+    ensures { λ r. ⌜ r ≡ cond negated other is ⌝ }
+{
+    if negated {
+        return other;
+    }
+    is
+}
+
+// TRUE, FALSE or UNKNOWN, behind IS, or behind IS NOT if negated.
+fn read_truth(s: &[usize], at: usize, negated: bool) -> TruthRead
+    requires { ⌜ length (now s) ≤ mostTokens ⌝ ∗ ⌜ at ≤ length (now s) ⌝ }
+    ensures { λ r. ⌜ TruthWordAt (now (s .entry)) at negated r ⌝ }
+{
+    let t = token(s, at);
+    if t == TRUE {
+        let kind = truth_kind(negated, IS_NOT_TRUE_PART, IS_TRUE_PART);
+        return TruthRead::Truth(kind, at + 1);
+    }
+    if t == FALSE {
+        let kind = truth_kind(negated, IS_NOT_FALSE_PART, IS_FALSE_PART);
+        return TruthRead::Truth(kind, at + 1);
+    }
+    if t == UNKNOWN {
+        let kind = truth_kind(negated, IS_NOT_UNKNOWN_PART, IS_UNKNOWN_PART);
+        return TruthRead::Truth(kind, at + 1);
+    }
+    TruthRead::NoTruth
+}
+
+// The truth test whose IS stands before a place.
+pub fn read_truth_test(s: &[usize], at: usize) -> TruthRead
+    requires { ⌜ length (now s) ≤ mostTokens ⌝ ∗ ⌜ at ≤ length (now s) ⌝ }
+    ensures { λ r. ⌜ TruthTestAt (now (s .entry)) at r ⌝ }
+{
+    if token(s, at) == NOT {
+        return read_truth(s, at + 1, true);
+    }
+    read_truth(s, at, false)
 }

@@ -1,28 +1,24 @@
 -- READ accepts just what grammar, names and limits allow.
 use mathlib.Core.Path.{_≡_, refl, sym, ap, _∙_}
-use mathlib.Core.Bool.{Bool, true, false}
+use mathlib.Core.Bool.{Bool, true, false, not}
 use mathlib.Core.List.{List, [], _∷_}
 use mathlib.Core.Logic.{_↔_}
 use mathlib.Core.Option.{Option, none, some}
-use Prim.Native.Nat.{ℕ, _≤_, _<_}
+use Prim.Native.Nat.{ℕ, _≤_}
 use native.Mathlib.Omega.{arith}
 use borrow.Author.Tests.{eq-eqb, eqb-true, ltb-true, ltb-false}
-use lib.Dec.{T, ltb}
+use lib.Dec.{T, eqb, ltb}
 use lib.ListN.{length}
-use Rattle.tables.specs.Lists.{all, _>>=_}
-use Rattle.tables.specs.Tables.{columnsOf}
+use Rattle.tables.specs.Lists.{all}
 use Rattle.tables.specs.Refusals.{Refusal, firstApplying, Refused, Given, Lent, tablesRefusals}
-use Rattle.tables.proofs.Tests.{is-true, both}
+use Rattle.tables.proofs.Tests.{both}
 use Rattle.cells.specs.Reasons.{reasonNumber}
 use Rattle.rule.specs.Condition.{parts}
-use Rattle.rule.specs.Reader.{readAll}
-use Rattle.rule.specs.Names.{outermost, ruleIn}
-use Rattle.rule.specs.Calls.{conditionOf, ruleOf, readingRefusals, Accepted, readCall}
+use Rattle.rule.specs.Calls.{readingRefusals, Accepted, readCall}
 use Rattle.rule.specs.Claims.{Allowed, AcceptedAs}
 use Rattle.rule.specs.declared.Part.{Part}
-use Rattle.rule.proofs.Accepted.{accepted-claim, parts-claim}
+use Rattle.rule.proofs.Accepted.{accepted-claim, named-rule, parts-claim}
 use Rattle.rule.proofs.Calls.{calls-claim}
-use Rattle.rule.proofs.Reading.{read-complete}
 use Rattle.reader.specs.Answers.{readAnswer}
 use Rattle.reader.specs.Claims.{accepts, AcceptanceClaim}
 use Rattle.reader.specs.declared.Reading.{Reading}
@@ -30,19 +26,19 @@ use Rattle.reader.specs.declared.Reading.the-variants.{Parts, NotRead}
 use Rattle.reader.proofs.Told.{read-claim}
 
 -- the first refusal of a list has a number of the list
-first-below : (rs : List Refusal) {n : ℕ} → T (all (λ r. ltb (r .number) 12) rs) → firstApplying rs ≡ some n → n < 12
+first-other : (rs : List Refusal) {n : ℕ} → T (all (λ r. not (eqb (r .number) 12)) rs) → firstApplying rs ≡ some n → n ≡ 12 → ⊥
 unfolding firstApplying
-first-below [] t e = let z : _≡_ {A = ℕ} 0 1 = cc in absurd (omega arith)
-first-below (r ∷ rs) {n} t e = let (here, rest) = both (ltb (r .number) 12) _ t in go (r .applies) here (first-below rs rest) e
+first-other [] t e f = let z : _≡_ {A = ℕ} 0 1 = cc in omega arith
+first-other (r ∷ rs) {n} t e f = let (here, rest) = both (not (eqb (r .number) 12)) _ t in go (r .applies) here (λ g. first-other rs rest g f) e
   where
-    go : (b : Bool) → T (ltb (r .number) 12) → (firstApplying rs ≡ some n → n < 12) → elim b as (λ _. Option ℕ) [ true ↦ some (r .number) | false ↦ firstApplying rs ] ≡ some n → n < 12
-    go true h k f = let l = ltb-true (r .number) 12 (is-true _ h) in let z : r .number ≡ n = cc in omega arith
-    go false h k f = k f
+    go : (b : Bool) → T (not (eqb (r .number) 12)) → (firstApplying rs ≡ some n → ⊥) → elim b as (λ _. Option ℕ) [ true ↦ some (r .number) | false ↦ firstApplying rs ] ≡ some n → ⊥
+    go true h k g = let z : r .number ≡ n = cc in rw (eq-eqb (r .number) 12 (z ∙ f)) at h
+    go false h k g = k g
 
 -- no refusal of reading is 12
-reading-below : (text file : List ℕ) {n : ℕ} → firstApplying (readingRefusals text file) ≡ some n → n < 12
+reading-other : (text file : List ℕ) {n : ℕ} → firstApplying (readingRefusals text file) ≡ some n → n ≡ 12 → ⊥
 unfolding readingRefusals tablesRefusals
-reading-below text file e = first-below (readingRefusals text file) tt e
+reading-other text file e = first-other (readingRefusals text file) tt e
 
 -- an answer by what it stands for
 refused-accepts : (r : Reading) (n : ℕ) → readAnswer r ≡ Refused n → accepts r ≡ true → n ≡ 12
@@ -56,12 +52,6 @@ short-accepts (NotRead x) e = let p : reasonNumber x ≡ 12 = cc in eq-eqb (reas
 given-accepts : (r : Reading) (n : ℕ) → readAnswer r ≡ Given n → accepts r ≡ true
 given-accepts (Parts m) n e = refl
 given-accepts (NotRead x) n e = let z : _≡_ {A = ℕ} 0 1 = cc in absurd (omega arith)
-
--- the rule that is allowed is the text's
-allowed-rule : (text file : List ℕ) (w : Allowed text file) → ruleOf text (columnsOf file) ≡ some (w .rule)
-unfolding ruleOf conditionOf
-allowed-rule text file w =
-    ap (_>>= ruleIn (columnsOf file) outermost) (ap (_>>= readAll) (w .are-tokens) ∙ read-complete (w .tokens) (w .condition) (w .reads)) ∙ w .names
 
 module _ (text file : List ℕ) (list : List Part) (r : Reading) (e : readAnswer r ≡ readCall text file list .result) where
   answers : (l : Lent Part) → readCall text file list ≡ l → readAnswer r ≡ l .result
@@ -92,15 +82,15 @@ module _ (text file : List ℕ) (list : List Part) (r : Reading) (e : readAnswer
 
   accepted : (o : Option ℕ) → firstApplying (readingRefusals text file) ≡ o → (accepts r ≡ true) ↔ Allowed text file
   accepted (some n) f = (
-    λ a. let z = refused-accepts r n (refused n f) a in let l = reading-below text file f in absurd (omega arith),
+    λ a. absurd (reading-other text file f (refused-accepts r n (refused n f) a)),
     λ w. absurd (forbidden n f w),
   )
   accepted none f = (λ a. allowed f, λ w. accepts-always f)
 
-  given : (w : Allowed text file) → parts (w .rule) ≤ length list → r ≡ Parts (parts (w .rule))
+  given : (w : Allowed text file) → parts (w .named .rule) ≤ length list → r ≡ Parts (parts (w .named .rule))
   given w h =
       let a = accepted-claim text file .1 w in
-      read-claim r (Parts (parts (w .rule))) (answers _ (calls-claim .read-given text file list a (w .rule) (allowed-rule text file w) h))
+      read-claim r (Parts (parts (w .named .rule))) (answers _ (calls-claim .read-given text file list a (w .named .rule) (named-rule text file (w .named)) h))
 
 pub acceptance-claim : AcceptanceClaim
 acceptance-claim = record {

@@ -24,10 +24,10 @@ abbrev pub accepts : Reading → Bool
 accepts (Parts n) = true
 accepts (NotRead x) = eqb (reasonNumber x) 12
 
--- demand 2, first half, of whatever answer READ's contract allows. `Allowed` says what document 01 asks of tables, length, tokens, brackets, grammar, limits
--- and names: READ accepts just what is allowed; and where there is room for the parts of the rule that is allowed, their number is the answer
+-- demand 2, first half, of whatever answer READ's contract allows. `Allowed` says what documents 01 and 02 ask of tables, length, tokens, brackets, grammar,
+-- limits, names and the sum: READ accepts just what is allowed; and where there is room for the parts of the rule that is allowed, their number is the answer
 pub record AcceptanceClaim : Type 0 where
   pub accepted : (text file : List ℕ) (list : List Part) (r : Reading) → readAnswer r ≡ readCall text file list .result
       → (accepts r ≡ true) ↔ Allowed text file
   pub given : (text file : List ℕ) (list : List Part) (r : Reading) → readAnswer r ≡ readCall text file list .result
-      → (w : Allowed text file) → parts (w .rule) ≤ length list → r ≡ Parts (parts (w .rule))
+      → (w : Allowed text file) → parts (w .named .rule) ≤ length list → r ≡ Parts (parts (w .named .rule))

@@ -19,7 +19,6 @@ use card::COMPARISON_OR_YES;
 use card::COMPARISON_PLACE;
 use card::EVERY_ROW;
 use card::LEFT_PLACE;
-use card::MOST_ENTRIES;
 use card::NOT_BLANK;
 use card::OR_ENTRY;
 use card::RECORD_SIZE;
@@ -31,6 +30,7 @@ use rule::AND_PART;
 use rule::NOT_NULL_PART;
 use rule::NULL_PART;
 use rule::OR_PART;
+use tables::MOST_ENTRIES;
 use values::CONSTANT;
 
 // A number of two bytes, from place i on.

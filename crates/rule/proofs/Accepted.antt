@@ -1,9 +1,9 @@
 -- An accepted text is just what the grammar, names and limits allow.
-use mathlib.Core.Path.{_≡_, refl, ap, _∙_}
+use mathlib.Core.Path.{_≡_, refl, sym, ap, _∙_}
 use mathlib.Core.Bool.{Bool, true, false, not, _&&_}
-use mathlib.Core.List.{List}
+use mathlib.Core.List.{List, [], _∷_}
 use mathlib.Core.Option.{Option, none, some}
-use Prim.Native.Nat.{ℕ, _≤_}
+use Prim.Native.Nat.{ℕ, _≤_, _<_}
 use native.Mathlib.Omega.{arith}
 use borrow.Author.Tests.{ltb-false, le-ltb, leb-true, le-leb, not-false, not-true}
 use lib.Dec.{ltb, leb}
@@ -11,20 +11,21 @@ use lib.IntN.{pos}
 use lib.ListN.{length}
 use Rattle.tables.specs.Lists.{_>>=_, isMissing}
 use Rattle.tables.specs.Tables.{sizesFit, marksFit, columnsOf}
-use Rattle.tables.specs.Values.{judgedLevels}
-use Rattle.tables.specs.Refusals.{tablesRefusals}
-use Rattle.tables.proofs.Refusals.{first-nil, first-none, none-first}
+use Rattle.tables.specs.Values.{mostEntries, judgedLevels}
+use Rattle.tables.specs.Refusals.{_if_, firstApplying, tablesRefusals}
+use Rattle.tables.proofs.Refusals.{first-nil, skipped, first-none, first-one, none-first, other-first}
 use Rattle.rule.specs.Tokens.{tokensOf, opensFit}
 use Rattle.rule.specs.Condition.{WrittenCondition, parts, fromsDeep}
 use Rattle.rule.specs.Reader.{readAll}
 use Rattle.rule.specs.Names.{mostParts, mostFroms, limitsFit, outermost, ruleIn}
+use Rattle.rule.specs.Sum.{entrySum, sumFits}
 use Rattle.rule.specs.Calls.{mostBytes, fails, isThere, conditionOf, ruleOf, readingRefusals, Accepted}
-use Rattle.rule.specs.Claims.{Allowed, AcceptedClaim, PartsClaim}
+use Rattle.rule.specs.Claims.{Named, Allowed, AcceptedClaim, TooManyEntries, ManyEntriesClaim, PartsClaim}
 use Rattle.rule.proofs.Reading.{read-sound, read-complete}
 use Rattle.rule.proofs.Constants.{tokens-fit, reading-constants}
 use Rattle.rule.proofs.Fits.{names-fit, fits-scoped}
 use Rattle.rule.proofs.Parts.{parts-back, parts-length}
-use Rattle.rule.proofs.Sum.{sum-few}
+use Rattle.rule.proofs.Sum.{sum-fits, fits-sum, sum-unfits, unfits-sum}
 
 -- something is there
 there : {A : Type 0} (o : Option A) → isMissing o ≡ false → (x : A) × (o ≡ some x)
@@ -45,24 +46,30 @@ record Unrefused (text file : List ℕ) : Type 0 where
   no-7 : fails limitsFit (conditionOf text) ≡ false
   no-8 : fails (λ a. isThere (ruleIn (columnsOf file) outermost a)) (conditionOf text) ≡ false
 
-accepted-unrefused : (text file : List ℕ) → Accepted text file → Unrefused text file
-unfolding readingRefusals tablesRefusals conditionOf
-accepted-unrefused text file e =
-    let e1 = none-first 1 (not (sizesFit file)) _ e in
-    let e2 = none-first 2 (not (marksFit file)) _ (e1 .1) in
-    let e3 = none-first 3 (ltb mostBytes (length text)) _ (e2 .1) in
-    let e4 = none-first 4 (isMissing (tokensOf text)) _ (e3 .1) in
-    let e5 = none-first 5 (fails (opensFit (pos 0)) (tokensOf text)) _ (e4 .1) in
-    let e6 = none-first 6 (fails (λ ts. isThere (readAll ts)) (tokensOf text)) _ (e5 .1) in
-    let e7 = none-first 7 (fails limitsFit (conditionOf text)) _ (e6 .1) in
-    let e8 = none-first 8 (fails (λ a. isThere (ruleIn (columnsOf file) outermost a)) (conditionOf text)) _ (e7 .1) in
-    record { no-1 = e1 .0; no-2 = e2 .0; no-3 = e3 .0; no-4 = e4 .0; no-5 = e5 .0; no-6 = e6 .0; no-7 = e7 .0; no-8 = e8 .0 }
+-- 13, which is left where none of them applies
+abbrev overSum : List ℕ → List ℕ → Bool
+overSum text file = fails sumFits (ruleOf text (columnsOf file))
 
-unrefused-accepted : (text file : List ℕ) → Unrefused text file → Accepted text file
-unfolding readingRefusals tablesRefusals conditionOf
-unrefused-accepted text file u =
-    first-none 1 _ _ (u .no-1) (first-none 2 _ _ (u .no-2) (first-none 3 _ _ (u .no-3) (first-none 4 _ _ (u .no-4)
-    (first-none 5 _ _ (u .no-5) (first-none 6 _ _ (u .no-6) (first-none 7 _ _ (u .no-7) (first-none 8 _ _ (u .no-8) first-nil)))))))
+-- what reading gives is none of 1 to 8: none of these applies, and so 13 decides
+unrefused : (text file : List ℕ) (o : Option ℕ) → ((n : ℕ) → n ≤ 8 → some n ≡ o → ⊥) → firstApplying (readingRefusals text file) ≡ o
+    → Unrefused text file × (firstApplying ((13 if overSum text file) ∷ []) ≡ o)
+unfolding readingRefusals tablesRefusals conditionOf ruleOf
+unrefused text file o h e =
+    let e1 = other-first 1 (not (sizesFit file)) _ o (h 1 (omega arith)) e in
+    let e2 = other-first 2 (not (marksFit file)) _ o (h 2 (omega arith)) (e1 .1) in
+    let e3 = other-first 3 (ltb mostBytes (length text)) _ o (h 3 (omega arith)) (e2 .1) in
+    let e4 = other-first 4 (isMissing (tokensOf text)) _ o (h 4 (omega arith)) (e3 .1) in
+    let e5 = other-first 5 (fails (opensFit (pos 0)) (tokensOf text)) _ o (h 5 (omega arith)) (e4 .1) in
+    let e6 = other-first 6 (fails (λ ts. isThere (readAll ts)) (tokensOf text)) _ o (h 6 (omega arith)) (e5 .1) in
+    let e7 = other-first 7 (fails limitsFit (conditionOf text)) _ o (h 7 (omega arith)) (e6 .1) in
+    let e8 = other-first 8 (fails (λ a. isThere (ruleIn (columnsOf file) outermost a)) (conditionOf text)) _ o (h 8 (omega arith)) (e7 .1) in
+    (record { no-1 = e1 .0; no-2 = e2 .0; no-3 = e3 .0; no-4 = e4 .0; no-5 = e5 .0; no-6 = e6 .0; no-7 = e7 .0; no-8 = e8 .0 }, e8 .1)
+
+refused-by-sum : (text file : List ℕ) → Unrefused text file → firstApplying (readingRefusals text file) ≡ firstApplying ((13 if overSum text file) ∷ [])
+unfolding readingRefusals tablesRefusals conditionOf ruleOf
+refused-by-sum text file u =
+    skipped 1 _ _ (u .no-1) ∙ skipped 2 _ _ (u .no-2) ∙ skipped 3 _ _ (u .no-3) ∙ skipped 4 _ _ (u .no-4)
+    ∙ skipped 5 _ _ (u .no-5) ∙ skipped 6 _ _ (u .no-6) ∙ skipped 7 _ _ (u .no-7) ∙ skipped 8 _ _ (u .no-8)
 
 limits-are : (a : WrittenCondition) → limitsFit a ≡ true → (parts a ≤ mostParts) × (fromsDeep a ≤ mostFroms)
 unfolding limitsFit
@@ -77,10 +84,11 @@ pub limits-of : (a : WrittenCondition) → parts a ≤ mostParts → fromsDeep a
 unfolding limitsFit
 limits-of a p q = rw (le-leb (parts a) mostParts p, le-leb (fromsDeep a) mostFroms q)
 
-pub accepted-allowed : (text file : List ℕ) → Accepted text file → Allowed text file
+-- ---- 1 to 8 leave just what grammar, limits and names allow
+
+unrefused-named : (text file : List ℕ) → Unrefused text file → Named text file
 unfolding conditionOf
-accepted-allowed text file e =
-    let u = accepted-unrefused text file e in
+unrefused-named text file u =
     let t = there (tokensOf text) (u .no-4) in
     let a = there (readAll (t .0)) (not-true _ (passed (λ ts. isThere (readAll ts)) (t .0) (rw (t .1) at (u .no-6)))) in
     let is : conditionOf text ≡ some (a .0) = ap (_>>= readAll) (t .1) ∙ a .1 in
@@ -101,12 +109,12 @@ accepted-allowed text file e =
       names = r .1;
     }
 
-allowed-accepted : (text file : List ℕ) → Allowed text file → Accepted text file
+named-unrefused : (text file : List ℕ) → Named text file → Unrefused text file
 unfolding conditionOf
-allowed-accepted text file w =
+named-unrefused text file w =
     let read : readAll (w .tokens) ≡ some (w .condition) = read-complete (w .tokens) (w .condition) (w .reads) in
     let is : conditionOf text ≡ some (w .condition) = ap (_>>= readAll) (w .are-tokens) ∙ read in
-    unrefused-accepted text file record {
+    record {
       no-1 = ap not (w .tables-sized);
       no-2 = ap not (w .tables-marked);
       no-3 = le-ltb mostBytes (length text) (w .short);
@@ -117,16 +125,71 @@ allowed-accepted text file w =
       no-8 = rw (is, w .names);
     }
 
+pub named-rule : (text file : List ℕ) (w : Named text file) → ruleOf text (columnsOf file) ≡ some (w .rule)
+unfolding ruleOf conditionOf
+named-rule text file w = ap (_>>= ruleIn (columnsOf file) outermost) (ap (_>>= readAll) (w .are-tokens) ∙ read-complete (w .tokens) (w .condition) (w .reads)) ∙ w .names
+
+-- ---- and 13 goes by the sum
+
+module _ (text file : List ℕ) (w : Named text file) where
+  over-is : overSum text file ≡ not (sumFits (w .rule))
+  over-is = ap (fails sumFits) (named-rule text file w)
+
+  few-of : overSum text file ≡ false → entrySum (w .rule) ≤ mostEntries
+  few-of e = fits-sum (w .rule) (not-false _ (sym over-is ∙ e))
+
+  of-few : entrySum (w .rule) ≤ mostEntries → overSum text file ≡ false
+  of-few h = over-is ∙ ap not (sum-fits (w .rule) h)
+
+  many-of : overSum text file ≡ true → mostEntries < entrySum (w .rule)
+  many-of e = unfits-sum (w .rule) (not-true _ (sym over-is ∙ e))
+
+  of-many : mostEntries < entrySum (w .rule) → overSum text file ≡ true
+  of-many h = over-is ∙ ap not (sum-unfits (w .rule) h)
+
+no-such : {A : Type 0} (n : ℕ) → _≡_ {A = Option ℕ} (some n) none → A
+no-such n e = let z : _≡_ {A = ℕ} 0 1 = cc in absurd (omega arith)
+
+accepted-allowed : (text file : List ℕ) → Accepted text file → Allowed text file
+accepted-allowed text file e =
+    let u = unrefused text file none (λ n h f. no-such n f) e in
+    let w = unrefused-named text file (u .0) in
+    record { named = w; few-entries = few-of text file w (none-first 13 _ _ (u .1) .0) }
+
+allowed-accepted : (text file : List ℕ) → Allowed text file → Accepted text file
+allowed-accepted text file a =
+    refused-by-sum text file (named-unrefused text file (a .named)) ∙ first-none 13 _ _ (of-few text file (a .named) (a .few-entries)) first-nil
+
 pub accepted-claim : AcceptedClaim
 accepted-claim text file = (accepted-allowed text file, allowed-accepted text file)
+
+pub accepted-named : (text file : List ℕ) → Accepted text file → Named text file
+accepted-named text file e = accepted-allowed text file e .named
+
+-- 13 is given only where it applies
+thirteen-applies : (b : Bool) → firstApplying ((13 if b) ∷ []) ≡ some 13 → b ≡ true
+unfolding firstApplying
+thirteen-applies true e = refl
+thirteen-applies false e = no-such 13 (sym e)
+
+pub many-entries-claim : ManyEntriesClaim
+many-entries-claim text file = (over, given)
+  where
+    over : firstApplying (readingRefusals text file) ≡ some 13 → TooManyEntries text file
+    over e =
+        let u = unrefused text file (some 13) (λ n h f. let z : n ≡ 13 = cc in omega arith) e in
+        let w = unrefused-named text file (u .0) in
+        record { named = w; many-entries = many-of text file w (thirteen-applies _ (u .1)) }
+
+    given : TooManyEntries text file → firstApplying (readingRefusals text file) ≡ some 13
+    given a = refused-by-sum text file (named-unrefused text file (a .named)) ∙ first-one 13 _ _ (of-many text file (a .named) (a .many-entries))
 
 -- ---- the rule of an accepted text
 
 pub parts-claim : PartsClaim
-unfolding ruleOf conditionOf
 parts-claim text file e =
-    let w = accepted-allowed text file e in
-    let read : conditionOf text ≡ some (w .condition) = ap (_>>= readAll) (w .are-tokens) ∙ read-complete (w .tokens) (w .condition) (w .reads) in
+    let allowed = accepted-allowed text file e in
+    let w = allowed .named in
     let constants = reading-constants (w .reads) (tokens-fit text (w .are-tokens)) in
     let resolved = names-fit (columnsOf file) (w .condition) constants (w .names) in
     let scoped = fits-scoped (columnsOf file) 1 judgedLevels refl (w .rule) (resolved .fits) in
@@ -135,12 +198,12 @@ parts-claim text file e =
     let deep : fromsDeep (w .rule) ≤ mostFroms = omega arith in
     record {
       rule = w .rule;
-      is-rule = ap (_>>= ruleIn (columnsOf file) outermost) read ∙ w .names;
+      is-rule = named-rule text file w;
       fits = resolved .fits;
       scoped = scoped;
       few-parts = omega arith;
       few-froms = deep;
-      few-entries = omega (arith, sum-few (w .rule));
+      few-entries = allowed .few-entries;
       records = parts-length (w .rule) 0;
       back = parts-back (w .rule) deep scoped;
     }

@@ -3,8 +3,8 @@ use mathlib.Core.List.{[], _∷_}
 use Prim.Native.Nat.{ℕ}
 use lib.IntN.{ℤ}
 use Rattle.rule.specs.Tokens.{Token, Letter, Number}
-use Rattle.rule.specs.Condition.{From, WrittenValue, Plain, Named, Source, Over, WrittenCondition}
-use Rattle.rule.specs.Grammar.{Tokens, IsValue, number, column, IsFrom, single, IsCondition, one-conjunction, joined-by-or, IsConjunction, one-factor, joined-by-and, IsFactor, not-factor, one-test, IsTest, bracketed, exists, is-null, is-not-null, compared, some-of, all-of, is-in, not-in, IsList, list}
+use Rattle.rule.specs.Condition.{Unary, From, WrittenValue, Plain, Named, Source, Over, WrittenCondition}
+use Rattle.rule.specs.Grammar.{Tokens, IsValue, number, column, IsFrom, single, IsTruthTest, is-truth, is-not-truth, IsCondition, one-conjunction, joined-by-or, IsConjunction, one-factor, joined-by-and, IsFactor, not-factor, one-test, IsTest, bracketed, truth-tested, exists, is-null, is-not-null, compared, some-of, all-of, is-in, not-in, IsList, list}
 use Rattle.rule.specs.Throughout.{FromThroughout, Throughout}
 
 abbrev pub EachToken : (Token → Type 0) → Tokens → Type 0
@@ -23,6 +23,10 @@ module _ (P : Token → Type 0) (Q : WrittenValue → Type 0) (R : Source → Ty
   from-carried : {ts rest : Tokens} {f : From Source} → IsFrom ts f rest → EachToken P ts → FromThroughout R f × EachToken P rest
   from-carried single f = (over _ _ (f .0) (f .1 .0), f .1 .1)
 
+  truth-carried : {ts rest : Tokens} {u : Unary} → IsTruthTest ts u rest → EachToken P ts → EachToken P rest
+  truth-carried (is-truth w) f = f .1 .1
+  truth-carried (is-not-truth w) f = f .1 .1 .1
+
   mutual
     unfolding Throughout
 
@@ -40,6 +44,7 @@ module _ (P : Token → Type 0) (Q : WrittenValue → Type 0) (R : Source → Ty
 
     test-carried : {ts rest : Tokens} {a : WrittenCondition} → IsTest ts a rest → EachToken P ts → Throughout Q R a × EachToken P rest
     test-carried (bracketed r) f = let x = condition-carried r (f .1) in (x .0, x .1 .1)
+    test-carried (truth-tested r t) f = let x = condition-carried r (f .1) in (x .0, truth-carried t (x .1 .1))
     test-carried (exists g r) f = let x = from-carried g (f .1 .1 .1) in let y = condition-carried r (x .1 .1) in ((x .0, y .0), y .1 .1)
     test-carried (is-null v) f = let x = value-carried v f in (x .0, x .1 .1 .1)
     test-carried (is-not-null v) f = let x = value-carried v f in (x .0, x .1 .1 .1 .1)

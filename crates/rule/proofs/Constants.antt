@@ -61,7 +61,7 @@ number-fits sign before digits = go (between 1 mostDigits (length digits)) (inRa
 first-fits : (b : ℕ) (bs : List ℕ) → Every LexedFits (firstToken b bs)
 unfolding firstToken words signs
 first-fits b bs =
-    either LexedFits (isCapital b) (word-fits words (takeWhile isCapital (b ∷ bs)) (tt, (tt, (tt, (tt, (tt, (tt, (tt, (tt, (tt, (tt, (tt, (tt, tt)))))))))))))
+    either LexedFits (isCapital b) (word-fits words (takeWhile isCapital (b ∷ bs)) (tt, (tt, (tt, (tt, (tt, (tt, (tt, (tt, (tt, (tt, (tt, (tt, (tt, (tt, (tt, tt))))))))))))))))
     (either LexedFits (isSmall b) (there tt)
     (either LexedFits (isDigit b) (number-fits pos 0 (takeWhile isDigit (b ∷ bs)))
     (either LexedFits (eqb b 45) (number-fits (λ n. negℤ (pos n)) 1 (takeWhile isDigit bs)) (sign-fits signs (b ∷ bs) (tt, (tt, (tt, (tt, (tt, (tt, (tt, (tt, (tt, tt)))))))))))))

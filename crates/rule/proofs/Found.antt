@@ -10,10 +10,11 @@ use lib.IntN.{ℤ}
 use borrow.Author.Tests.{eqb-true}
 use Rattle.tables.specs.Lists.{only, _>>=_, _<|>_}
 use Rattle.tables.specs.Values.{Comparison, Eq, Ne, Quantifier, Some, All, Null, NotNull}
-use Rattle.rule.specs.Tokens.{Fixed, Compares, Letter, Number, AND, OR, NOT, EXISTS, IN, SOME, ALL, IS, NULL, SELECT, FROM, WHERE, Open, Close, Point}
-use Rattle.rule.specs.Condition.{Compare, Mark, From, Single, Atom, Listed, WrittenValue, Plain, Named, Source, Over, WrittenCondition}
-use Rattle.rule.specs.Grammar.{Tokens, IsValue, number, column, IsFrom, single, IsCondition, IsTest, bracketed, exists, is-null, is-not-null, compared, some-of, all-of, is-in, not-in, IsList, list}
-use Rattle.rule.specs.Reader.{expect, readNumber, readLetter, readComparison, readValue, readFrom, Opening, OfList, closed, Start, Whole, Around, startList, startValue, start}
+use Rattle.rule.specs.Tokens.{Token, Fixed, Compares, Letter, Number, AND, OR, NOT, EXISTS, IN, SOME, ALL, IS, NULL, SELECT, FROM, WHERE, Open, Close, Point, TRUE, FALSE, UNKNOWN}
+use Rattle.rule.specs.Truth.{Truth, False, Unknown, True}
+use Rattle.rule.specs.Condition.{Compare, Mark, Unary, Is, IsNot, From, Single, Atom, Apply, Listed, WrittenValue, Plain, Named, Source, Over, WrittenCondition}
+use Rattle.rule.specs.Grammar.{Tokens, IsValue, number, column, IsFrom, single, IsTruth, is-true, is-false, is-unknown, IsTruthTest, is-truth, is-not-truth, IsCondition, IsTest, bracketed, truth-tested, exists, is-null, is-not-null, compared, some-of, all-of, is-in, not-in, IsList, list}
+use Rattle.rule.specs.Reader.{expect, readNumber, readLetter, readComparison, readValue, readFrom, Opening, Bracket, OfList, closed, Start, Whole, Around, startList, startValue, start, Found, branch, readTruth, readTruthTest, truthTested, ended}
 
 module _ {A : Type 0} where
   pub bind-ind : {B : Type 0} (P : Option B → Type 0) (o : Option A) (f : A → Option B) → P none → ((x : A) → o ≡ some x → P (f x)) → P (o >>= f)
@@ -90,11 +91,74 @@ module _ {B : Type 0} (Q : Tokens → Option B → Type 0) (missing : (ts : Toke
       letter-at (λ ws o. Q (FROM ∷ Number n ∷ ws) o) (λ ws. missing (FROM ∷ Number n ∷ ws)) _ (λ x ws.
       expect-at (λ xs o. Q (FROM ∷ Number n ∷ Letter x ∷ xs) o) (λ xs. missing (FROM ∷ Number n ∷ Letter x ∷ xs)) 12 _ (λ xs. h (Single (Over n x)) (Number n ∷ Letter x ∷ WHERE ∷ xs) xs single) ws) vs) us) ts)
 
--- what a start promises: the whole test is read, or it is once its condition and the bracket behind it are
+-- a branch on the next token
+module _ (Q : Tokens → Found → Type 0) (n : ℕ) (there : Tokens → Found) (missing : Tokens → Found)
+    (h : (us : Tokens) → Q (Fixed n ∷ us) (there us)) (z : (ts : Tokens) → Q ts (missing ts)) where
+  pub branch-at : (ts : Tokens) → Q ts (branch (expect (Fixed n) ts) there (λ _. missing ts))
+  unfolding expect
+  branch-at [] = z []
+  branch-at (Fixed k ∷ us) = go (eqb n k) refl
+    where
+      go : (b : Bool) → eqb n k ≡ b → Q (Fixed k ∷ us) (branch (only b us) there (λ _. missing (Fixed k ∷ us)))
+      go true e = subst (λ (j : ℕ). Q (Fixed j ∷ us) (there us)) (eqb-true n k e) (h us)
+      go false e = z (Fixed k ∷ us)
+  branch-at (Compares op ∷ us) = z (Compares op ∷ us)
+  branch-at (Letter x ∷ us) = z (Letter x ∷ us)
+  branch-at (Number m ∷ us) = z (Number m ∷ us)
+
+-- what readTruth finds is one of the three words
+data TruthFound : Tokens → Option (Truth × Tokens) → Type 0 where
+  no-truth : {ts : Tokens} → TruthFound ts none
+  a-truth : {w : Token} {t : Truth} {rest : Tokens} → IsTruth w t → TruthFound (w ∷ rest) (some (t, rest))
+
+truth-right : (ts : Tokens) → TruthFound ts (readTruth ts)
+unfolding readTruth
+truth-right ts =
+    or-ind (TruthFound ts) _ _ (or-ind (TruthFound ts) _ _
+    (expect-at TruthFound (λ _. no-truth) 16 _ (λ us. a-truth is-true) ts)
+    (expect-at TruthFound (λ _. no-truth) 17 _ (λ us. a-truth is-false) ts))
+    (expect-at TruthFound (λ _. no-truth) 18 _ (λ us. a-truth is-unknown) ts)
+
+-- and what readTruthTest finds is a truth test, with the IS before it
+data UnaryFound : Tokens → Option (Unary × Tokens) → Type 0 where
+  no-unary : {ts : Tokens} → UnaryFound ts none
+  a-unary : {u : Unary} {ts rest : Tokens} → IsTruthTest (IS ∷ ts) u rest → UnaryFound ts (some (u, rest))
+
+unary-right : (ts : Tokens) → UnaryFound ts (readTruthTest ts)
+unfolding readTruthTest
+unary-right ts =
+    or-ind (UnaryFound ts) _ _ (positive (readTruth ts) (truth-right ts))
+    (expect-at UnaryFound (λ _. no-unary) 3 _ (λ us. negative (readTruth us) (truth-right us)) ts)
+  where
+    positive : {us : Tokens} (o : Option (Truth × Tokens)) → TruthFound us o → UnaryFound us (o >>= (λ t. some (Is (t .0), t .1)))
+    positive none p = no-unary
+    positive (some x) (a-truth w) = a-unary (is-truth w)
+
+    negative : {us : Tokens} (o : Option (Truth × Tokens)) → TruthFound us o → UnaryFound (NOT ∷ us) (o >>= (λ t. some (IsNot (t .0), t .1)))
+    negative none p = no-unary
+    negative (some x) (a-truth w) = a-unary (is-not-truth w)
+
+-- what a test comes to
+pub data TestFound (ts : Tokens) : Found → Type 0 where
+  no-test : TestFound ts none
+  a-test : {a : WrittenCondition} {rest : Tokens} → IsTest ts a rest → TestFound ts (some (a, rest))
+
+-- what a start promises: the whole test is read, or it is once its condition, the bracket behind it and what may follow that are
 pub data Promised (ts : Tokens) : Option Start → Type 0 where
   nothing : Promised ts none
   whole : {a : WrittenCondition} {rest : Tokens} → IsTest ts a rest → Promised ts (some (Whole a rest))
-  around : {o : Opening} {us : Tokens} → ((w : WrittenCondition) (rest : Tokens) → IsCondition us w (Close ∷ rest) → IsTest ts (closed o w) rest) → Promised ts (some (Around o us))
+  around : {o : Opening} {us : Tokens} → ((w : WrittenCondition) (rest : Tokens) → IsCondition us w (Close ∷ rest) → TestFound ts (ended o (closed o w) rest)) → Promised ts (some (Around o us))
+
+-- brackets, with the truth test that may follow them
+bracket-promised : (us : Tokens) (w : WrittenCondition) (rest : Tokens) → IsCondition us w (Close ∷ rest) → TestFound (Open ∷ us) (truthTested w rest)
+unfolding truthTested
+bracket-promised us w =
+    branch-at (λ ts o. IsCondition us w (Close ∷ ts) → TestFound (Open ∷ us) o) 8 _ (λ ts. some (w, ts))
+    (λ vs c. followed (readTruthTest vs) (unary-right vs) c) (λ ts c. a-test (bracketed c))
+  where
+    followed : {vs : Tokens} (o : Option (Unary × Tokens)) → UnaryFound vs o → IsCondition us w (Close ∷ IS ∷ vs) → TestFound (Open ∷ us) (o >>= (λ u. some (Apply (u .0) w, u .1)))
+    followed none p c = no-test
+    followed (some x) (a-unary t) c = a-test (truth-tested c t)
 
 -- a list that is read to its WHERE; `h` makes the test of it
 list-promised : (q : Quantifier) (op : Comparison) (l : WrittenValue) (ts us : Tokens)
@@ -105,7 +169,7 @@ list-promised q op l ts =
     expect-at Q (λ _ _. nothing) 13 _ (λ us.
     expect-at (λ vs o. Q (Open ∷ vs) o) (λ _ _. nothing) 10 _ (λ vs.
     value-at (λ ws o. Q (Open ∷ SELECT ∷ ws) o) (λ _ _. nothing) _ (λ v ws xs is.
-    from-at (λ ys o. IsValue ws v ys → Q (Open ∷ SELECT ∷ ws) o) (λ _ _ _. nothing) _ (λ g ys zs is′ is″ h. around (λ w rest c. h v g w rest (list is″ is′ c))) xs is) vs) us)
+    from-at (λ ys o. IsValue ws v ys → Q (Open ∷ SELECT ∷ ws) o) (λ _ _ _. nothing) _ (λ g ys zs is′ is″ h. around (λ w rest c. a-test (h v g w rest (list is″ is′ c)))) xs is) vs) us)
 
 -- what stands behind a value: the productions in the order of startValue
 module _ (l : WrittenValue) where
@@ -128,8 +192,8 @@ pub start-promised : (ts : Tokens) → Promised ts (start ts)
 unfolding start
 start-promised ts =
     or-ind (Promised ts) _ _ (or-ind (Promised ts) _ _
-    (expect-at Promised (λ _. nothing) 13 _ (λ us. around (λ w rest c. bracketed c)) ts)
-    (expect-at Promised (λ _. nothing) 4 _ (λ us. expect-at (λ vs o. Promised (EXISTS ∷ vs) o) (λ _. nothing) 13 _ (λ vs. from-at (λ ws o. Promised (EXISTS ∷ Open ∷ ws) o) (λ _. nothing) _ (λ g ws xs is. around (λ w rest c. exists is c)) vs) us) ts))
+    (expect-at Promised (λ _. nothing) 13 _ (λ us. around (bracket-promised us)) ts)
+    (expect-at Promised (λ _. nothing) 4 _ (λ us. expect-at (λ vs o. Promised (EXISTS ∷ vs) o) (λ _. nothing) 13 _ (λ vs. from-at (λ ws o. Promised (EXISTS ∷ Open ∷ ws) o) (λ _. nothing) _ (λ g ws xs is. around (λ w rest c. a-test (exists is c))) vs) us) ts))
     (value-at Promised (λ _. nothing) _ (λ l us vs is. value-promised l vs us is) ts)
 
 -- ---- what may stand behind a form: a form is found where the token behind it does not go on with it
@@ -168,6 +232,21 @@ no-is (condition-ends end-after) = refl
 no-is (condition-ends close-after) = refl
 no-is (condition-ends or-after) = refl
 no-is and-after = refl
+
+-- so a bracketed condition is no truth test there
+pub untested : {rest : Tokens} (a : WrittenCondition) → AfterTest rest → truthTested a rest ≡ some (a, rest)
+unfolding truthTested
+untested {rest} a k = ap (λ (o : Option Tokens). branch o (λ us. readTruthTest us >>= (λ u. some (Apply (u .0) a, u .1))) (λ _. some (a, rest))) (no-is k)
+
+-- and a truth test is found
+pub tested-found : {ts rest : Tokens} {u : Unary} (a : WrittenCondition) → IsTruthTest ts u rest → truthTested a ts ≡ some (Apply u a, rest)
+unfolding truthTested readTruthTest readTruth expect
+tested-found a (is-truth is-true) = refl
+tested-found a (is-truth is-false) = refl
+tested-found a (is-truth is-unknown) = refl
+tested-found a (is-not-truth is-true) = refl
+tested-found a (is-not-truth is-false) = refl
+tested-found a (is-not-truth is-unknown) = refl
 
 -- behind a value stands no point, the sign within a value
 no-point : {rest : Tokens} → AfterValue rest → expect Point rest ≡ none

@@ -1,13 +1,14 @@
 -- The numbers of the kinds: no two kinds have the same; between which numbers those of a group stand, and that every number between them is one of them;
 -- what is in a group is one of its members.
 use mathlib.Core.Path.{_≡_, refl, sym, ap, _∙_}
-use mathlib.Core.Logic.{inl, inr, ⊎-elim}
+use mathlib.Core.Logic.{_⊎_, inl, inr, ⊎-elim}
 use Prim.Native.Nat.{ℕ, _≤_}
 use native.Mathlib.Nat.{eq-or-lt-of-le}
 use native.Mathlib.Omega.{arith}
 use Rattle.tables.specs.Lists.{numbered}
 use Rattle.tables.specs.Values.{Connective, And, Or, Some, All, MarkTest, Null, NotNull}
-use Rattle.rule.specs.Condition.{Unary, Not}
+use Rattle.rule.specs.Truth.{False, Unknown, True}
+use Rattle.rule.specs.Condition.{Unary, Not, Is, IsNot}
 use Rattle.rule.specs.Parts.{Kind, JoinKind, UnaryKind, CompareKind, MarkKind, ExistsKind, ListKind, joinKind, unaryKind, compareKind, markKind, existsKind, listKind, kindNumber, kinds}
 use Rattle.rule.specs.Groups.{KindNumber, lastKind, JoinNumber, UnaryNumber, MarkNumber, TestNumber, ListNumber, FromNumber}
 use Rattle.rule.proofs.Parts.{kind-back}
@@ -37,12 +38,33 @@ pub some-join : {n : ℕ} → JoinNumber n → (n ≡ joinKind And → ⊥) → 
 some-join (And, e) f g = f e
 some-join (Or, e) f g = g e
 
--- NOT
-unary-bounds : (n : ℕ) → UnaryNumber n → (joinKind And ≤ n) × (n ≤ lastKind)
-unary-bounds n (Not, e) = (omega arith, omega arith)
+-- NOT and the truth tests
+abbrev TruthBounds : ℕ → Type 0
+TruthBounds n = (unaryKind (Is True) ≤ n) × (n ≤ unaryKind (IsNot Unknown))
 
-pub some-unary : {n : ℕ} → UnaryNumber n → (n ≡ unaryKind Not → ⊥) → ⊥
-some-unary (Not, e) f = f e
+unary-is : {n : ℕ} → UnaryNumber n → (n ≡ unaryKind Not) ⊎ TruthBounds n
+unary-is (Not, e) = inl e
+unary-is (Is True, e) = inr (omega arith, omega arith)
+unary-is (Is False, e) = inr (omega arith, omega arith)
+unary-is (Is Unknown, e) = inr (omega arith, omega arith)
+unary-is (IsNot True, e) = inr (omega arith, omega arith)
+unary-is (IsNot False, e) = inr (omega arith, omega arith)
+unary-is (IsNot Unknown, e) = inr (omega arith, omega arith)
+
+unary-bounds : (n : ℕ) → UnaryNumber n → (joinKind And ≤ n) × (n ≤ lastKind)
+unary-bounds n u = ⊎-elim (λ e. (omega arith, omega arith)) (λ b. (omega arith, omega arith)) (unary-is u)
+
+pub truth-number : (n : ℕ) → unaryKind (Is True) ≤ n → n ≤ unaryKind (IsNot Unknown) → UnaryNumber n
+truth-number n low high =
+    ⊎-elim (λ e. (Is True, sym e)) (λ l.
+    ⊎-elim (λ e. (IsNot True, sym e)) (λ l.
+    ⊎-elim (λ e. (Is False, sym e)) (λ l.
+    ⊎-elim (λ e. (IsNot False, sym e)) (λ l.
+    ⊎-elim (λ e. (Is Unknown, sym e)) (λ l. (IsNot Unknown, omega arith))
+    (eq-or-lt-of-le l)) (eq-or-lt-of-le l)) (eq-or-lt-of-le l)) (eq-or-lt-of-le l)) (eq-or-lt-of-le low)
+
+pub some-unary : {n : ℕ} → UnaryNumber n → (n ≡ unaryKind Not → ⊥) → (TruthBounds n → ⊥) → ⊥
+some-unary u f g = ⊎-elim f g (unary-is u)
 
 -- tests
 mark-bounds : (n : ℕ) → MarkNumber n → (markKind Null ≤ n) × (n ≤ markKind NotNull)
@@ -78,11 +100,6 @@ from-bounds n (inr q) = (omega (arith, list-bounds n q), omega (arith, list-boun
 pub from-number : (n : ℕ) → existsKind ≤ n → n ≤ listKind All → FromNumber n
 from-number n low high = ⊎-elim (λ e. inl (sym e)) (λ l. inr (list-number n l high)) (eq-or-lt-of-le low)
 
-pub some-from : {n : ℕ} → FromNumber n → (n ≡ existsKind → ⊥) → (n ≡ listKind Some → ⊥) → (n ≡ listKind All → ⊥) → ⊥
-some-from (inl e) f g h = f e
-some-from (inr (Some, e)) f g h = g e
-some-from (inr (All, e)) f g h = h e
-
 -- all kinds
 pub kind-bounds : (k : Kind) → (joinKind And ≤ kindNumber k) × (kindNumber k ≤ lastKind)
 kind-bounds (JoinKind j) = let b = join-bounds _ (j, refl) in (omega arith, omega arith)
@@ -91,12 +108,3 @@ kind-bounds CompareKind = (omega arith, omega arith)
 kind-bounds (MarkKind m) = let b = mark-bounds _ (m, refl) in (omega arith, omega arith)
 kind-bounds ExistsKind = (omega arith, omega arith)
 kind-bounds (ListKind q) = let b = list-bounds _ (q, refl) in (omega arith, omega arith)
-
--- what is in no other group is a test
-pub test-else : {n : ℕ} → KindNumber n → (JoinNumber n → ⊥) → (UnaryNumber n → ⊥) → (FromNumber n → ⊥) → TestNumber n
-test-else (JoinKind j, e) a b c = absurd (a (j, e))
-test-else (UnaryKind u, e) a b c = absurd (b (u, e))
-test-else (CompareKind, e) a b c = inl e
-test-else (MarkKind m, e) a b c = inr (m, e)
-test-else (ExistsKind, e) a b c = absurd (c (inl e))
-test-else (ListKind q, e) a b c = absurd (c (inr (q, e)))

@@ -9,7 +9,8 @@ use lib.ListN.{length, length-append}
 use Rattle.tables.specs.Lists.{numbered}
 use Rattle.tables.specs.Values.{Value, Constant, Column, And, Or, Some, All, Null, NotNull}
 use Rattle.tables.proofs.Values.{comparison-back}
-use Rattle.rule.specs.Condition.{Compare, Mark, Not, From, Single, Atom, Join, Apply, Exists, Listed, Rule, parts, letters, fromsDeep}
+use Rattle.rule.specs.Truth.{False, Unknown, True}
+use Rattle.rule.specs.Condition.{Compare, Mark, Not, Is, IsNot, From, Single, Atom, Join, Apply, Exists, Listed, Rule, parts, letters, fromsDeep}
 use Rattle.rule.specs.Names.{ValueScoped, Scoped}
 use Rattle.rule.specs.Claims.{EndsClaim}
 use Rattle.rule.specs.Parts.{taggedOf, Kind, JoinKind, UnaryKind, CompareKind, MarkKind, ExistsKind, ListKind, kindNumber, kinds, tableOf, fromWith, partsFrom, partsOf, valueOf, rulesOf, ruleOfParts}
@@ -25,6 +26,12 @@ pub kind-back : (k : Kind) → numbered kinds (kindNumber k) (UnaryKind Not) ≡
 kind-back (JoinKind And) = refl
 kind-back (JoinKind Or) = refl
 kind-back (UnaryKind Not) = refl
+kind-back (UnaryKind (Is True)) = refl
+kind-back (UnaryKind (Is False)) = refl
+kind-back (UnaryKind (Is Unknown)) = refl
+kind-back (UnaryKind (IsNot True)) = refl
+kind-back (UnaryKind (IsNot False)) = refl
+kind-back (UnaryKind (IsNot Unknown)) = refl
 kind-back CompareKind = refl
 kind-back (MarkKind Null) = refl
 kind-back (MarkKind NotNull) = refl

@@ -12,11 +12,11 @@ use lib.ListN.{length}
 use Rattle.tables.specs.Lists.{only, _>>=_, _<|>_}
 use Rattle.tables.specs.Values.{Comparison, Eq, Ne, And, Or, Quantifier, Some, All}
 use Rattle.rule.specs.Tokens.{Fixed, Compares, Letter, Number, AND, OR, NOT, EXISTS, FROM, WHERE, Open, Close}
-use Rattle.rule.specs.Condition.{Not, From, Join, Apply, WrittenValue, Source, WrittenCondition}
-use Rattle.rule.specs.Grammar.{Tokens, IsValue, number, column, IsFrom, single, IsCondition, one-conjunction, joined-by-or, IsConjunction, one-factor, joined-by-and, IsFactor, not-factor, one-test, IsTest, bracketed, exists, is-null, is-not-null, compared, some-of, all-of, is-in, not-in, IsList, list, Reads}
-use Rattle.rule.specs.Reader.{expect, readValue, Opening, Bracket, OfExists, OfList, closed, Start, Whole, Around, startList, start, Goal, condition, conjunction, factor, test, more-or, more-and, Found, branch, started, closing, read, depthFor, reading, atEnd, readAll}
+use Rattle.rule.specs.Condition.{Unary, Not, From, Join, Apply, WrittenValue, Source, WrittenCondition}
+use Rattle.rule.specs.Grammar.{Tokens, IsValue, number, column, IsFrom, single, IsTruthTest, is-truth, is-not-truth, IsCondition, one-conjunction, joined-by-or, IsConjunction, one-factor, joined-by-and, IsFactor, not-factor, one-test, IsTest, bracketed, truth-tested, exists, is-null, is-not-null, compared, some-of, all-of, is-in, not-in, IsList, list, Reads}
+use Rattle.rule.specs.Reader.{expect, readValue, Opening, Bracket, OfExists, OfList, closed, Start, Whole, Around, startList, start, Goal, condition, conjunction, factor, test, more-or, more-and, Found, branch, started, ended, closing, read, depthFor, reading, atEnd, readAll}
 use Rattle.rule.specs.Claims.{ReadingClaim}
-use Rattle.rule.proofs.Found.{bind-ind, expect-at, Promised, nothing, whole, around, start-promised, AfterCondition, end-after, close-after, or-after, AfterTest, condition-ends, and-after, no-and, null-found, not-null-found, compared-found, from-found, list-found, some-found, all-found, in-found, not-in-found}
+use Rattle.rule.proofs.Found.{bind-ind, expect-at, branch-at, TestFound, no-test, a-test, Promised, nothing, whole, around, start-promised, AfterCondition, end-after, close-after, or-after, AfterTest, condition-ends, and-after, no-and, untested, tested-found, null-found, not-null-found, compared-found, from-found, list-found, some-found, all-found, in-found, not-in-found}
 
 -- ---- a reading of the function is one of the grammar
 
@@ -43,20 +43,9 @@ met g ts x e r = go (rw e at r)
     go : Right g ts (some x) → Means g ts (x .0) (x .1)
     go (found m) = m
 
--- a branch on the next token
-module _ (Q : Tokens → Found → Type 0) (n : ℕ) (there : Tokens → Found) (missing : Tokens → Found)
-    (h : (us : Tokens) → Q (Fixed n ∷ us) (there us)) (z : (ts : Tokens) → Q ts (missing ts)) where
-  branch-at : (ts : Tokens) → Q ts (branch (expect (Fixed n) ts) there (λ _. missing ts))
-  unfolding expect
-  branch-at [] = z []
-  branch-at (Fixed k ∷ us) = go (eqb n k) refl
-    where
-      go : (b : Bool) → eqb n k ≡ b → Q (Fixed k ∷ us) (branch (only b us) there (λ _. missing (Fixed k ∷ us)))
-      go true e = subst (λ (j : ℕ). Q (Fixed j ∷ us) (there us)) (eqb-true n k e) (h us)
-      go false e = z (Fixed k ∷ us)
-  branch-at (Compares op ∷ us) = z (Compares op ∷ us)
-  branch-at (Letter x ∷ us) = z (Letter x ∷ us)
-  branch-at (Number m ∷ us) = z (Number m ∷ us)
+test-found : {ts : Tokens} {o : Found} → TestFound ts o → Right test ts o
+test-found no-test = none-found
+test-found (a-test t) = found t
 
 -- a test, once its start is known
 test-right : (ts : Tokens) (o : Option Start) (inner : Tokens → Found) → ((us : Tokens) → Right condition us (inner us)) → Promised ts o → Right test ts (started o (λ op us. inner us >>= closing op))
@@ -64,7 +53,7 @@ test-right ts none inner r nothing = none-found
 test-right ts (some (Whole a rest)) inner r (whole t) = found t
 test-right ts (some (Around op us)) inner r (around h) =
     bind-ind (Right test ts) (inner us) (closing op) none-found
-    (λ x e. expect-at (λ vs o. IsCondition us (x .0) vs → Right test ts o) (λ _ _. none-found) 14 (λ rest. some (closed op (x .0), rest)) (λ rest c. found (h (x .0) rest c)) (x .1) (met condition us x e (r us)))
+    (λ x e. expect-at (λ vs o. IsCondition us (x .0) vs → Right test ts o) (λ _ _. none-found) 14 (λ rest. ended op (closed op (x .0)) rest) (λ rest c. test-found (h (x .0) rest c)) (x .1) (met condition us x e (r us)))
 
 sound : (d : ℕ) (g : Goal) (ts : Tokens) → Right g ts (read d g ts)
 unfolding read
@@ -101,6 +90,10 @@ value-inside column = omega arith
 from-inside : {ts rest : Tokens} {f : From Source} → IsFrom ts f rest → length rest ≤ length ts
 from-inside single = omega arith
 
+truth-inside : {ts rest : Tokens} {u : Unary} → IsTruthTest ts u rest → length rest ≤ length ts
+truth-inside (is-truth w) = omega arith
+truth-inside (is-not-truth w) = omega arith
+
 mutual
   condition-inside : {ts rest : Tokens} {a : WrittenCondition} → IsCondition ts a rest → length rest ≤ length ts
   condition-inside (one-conjunction r) = conjunction-inside r
@@ -116,6 +109,7 @@ mutual
 
   test-inside : {ts rest : Tokens} {a : WrittenCondition} → IsTest ts a rest → length rest ≤ length ts
   test-inside (bracketed r) = omega (arith, condition-inside r)
+  test-inside (truth-tested r t) = omega (arith, condition-inside r, truth-inside t)
   test-inside (exists f r) = omega (arith, from-inside f, condition-inside r)
   test-inside (is-null v) = omega (arith, value-inside v)
   test-inside (is-not-null v) = omega (arith, value-inside v)
@@ -181,6 +175,7 @@ and-goes {d} {ts} {us} {rest} {a} {b} l r q = go (r .depth) (r .deep) (r .same)
 no-not : {ts rest : Tokens} {a : WrittenCondition} → IsTest ts a rest → expect NOT ts ≡ none
 unfolding expect
 no-not (bracketed r) = refl
+no-not (truth-tested r t) = refl
 no-not (exists f r) = refl
 no-not (is-null number) = refl
 no-not (is-null column) = refl
@@ -232,7 +227,7 @@ module _ {a : WrittenCondition} {rest : Tokens} where
 
   -- and one around a condition
   around-step : (d : ℕ) (op : Opening) (ts us : Tokens) → depthFor test ts ≤ d → length us < length ts → start ts ≡ some (Around op us)
-      → ((e : ℕ) → depthFor condition us ≤ e → read e condition us ≡ some (a, Close ∷ rest)) → read d test ts ≡ some (closed op a, rest)
+      → ((e : ℕ) → depthFor condition us ≤ e → read e condition us ≡ some (a, Close ∷ rest)) → read d test ts ≡ ended op (closed op a) rest
   unfolding read expect
   around-step zero op ts us h l e r = absurd (omega arith)
   around-step (suc d) op ts us h l e r =
@@ -271,7 +266,9 @@ mutual
   factor-read {ts} (one-test r) d h k = factor-step d ts h (no-not r) (λ e g. test-read r e g k)
 
   test-read : {ts rest : Tokens} {a : WrittenCondition} → IsTest ts a rest → (d : ℕ) → depthFor test ts ≤ d → AfterTest rest → read d test ts ≡ some (a, rest)
-  test-read (bracketed {ts = us} r) d h k = around-step d Bracket (Open ∷ us) us h (omega arith) (bracket-start us) (λ e g. closes (condition-goes r e g close-after))
+  test-read (bracketed {ts = us} r) d h k = around-step d Bracket (Open ∷ us) us h (omega arith) (bracket-start us) (λ e g. closes (condition-goes r e g close-after)) ∙ untested _ k
+  test-read (truth-tested {ts = us} r t) d h k =
+      around-step d Bracket (Open ∷ us) us h (omega arith) (bracket-start us) (λ e g. closes (condition-goes r e g close-after)) ∙ tested-found _ t
   test-read (exists {us = us} {f = f} is r) d h k =
       around-step d (OfExists f) _ us h (omega (arith, from-inside is)) (exists-start is) (λ e g. closes (condition-goes r e g close-after))
   test-read {ts} (is-null v) d h k = whole-step d ts h (null-found v)

@@ -1,4 +1,4 @@
--- READ, JUDGE and the list of admitted rows (document 01, What the product holds): which refusal, or which answer, for any bytes and any row number.
+-- READ, JUDGE and the list of admitted rows (document 01, What the product holds; refusal 13: document 02, Point 1): which refusal, or which answer, for any bytes and any row number.
 use mathlib.Core.Path.{_≡_}
 use mathlib.Core.Bool.{Bool, false, not}
 use mathlib.Core.List.{List, [], _∷_, _++_}
@@ -16,6 +16,7 @@ use Rattle.rule.specs.Grammar.{Tokens}
 use Rattle.rule.specs.Reader.{readAll}
 use Rattle.rule.specs.Names.{limitsFit, outermost, ruleIn}
 use Rattle.rule.specs.Parts.{partsOf}
+use Rattle.rule.specs.Sum.{sumFits}
 use Rattle.rule.specs.declared.Part.{Part}
 use Rattle.rule.specs.Truth.{Truth, Unknown, isTrue}
 use Rattle.rule.specs.Meaning.{judged}
@@ -45,7 +46,8 @@ ruleOf text columns = conditionOf text >>= ruleIn columns outermost
 abbrev pub textRefusals : List ℕ → List Refusal
 textRefusals text = (3 if ltb mostBytes (length text)) ∷ (4 if isMissing (tokensOf text)) ∷ []
 
--- 5 to 8, of its tokens and of the condition that they read as, with the columns of the tables
+-- 5 to 8, of its tokens and of the condition that they read as, with the columns of the tables; then 13, of the rule that it is: 'the sum is over 192; it
+-- belongs to reading and comes after 8'
 abbrev pub tokensRefusals : List ℕ → Option Tokens → List Refusal
 tokensRefusals columns tokens =
     let condition = tokens >>= readAll in
@@ -53,6 +55,7 @@ tokensRefusals columns tokens =
     ∷ (6 if fails (λ ts. isThere (readAll ts)) tokens)
     ∷ (7 if fails limitsFit condition)
     ∷ (8 if fails (λ a. isThere (ruleIn columns outermost a)) condition)
+    ∷ (13 if fails sumFits (condition >>= ruleIn columns outermost))
     ∷ []
 
 unfoldable pub readingRefusals : List ℕ → List ℕ → List Refusal
@@ -83,13 +86,17 @@ judgeCall text file row =
     unless (firstApplying (judgeRefusals text file row)) (λ _. withRule (ruleOf text (columnsOf file)) Unknown (judged (tablesOf file) row))
 
 -- ---- the order of each call's refusals, by their numbers: where several apply, the first in the call's list is given. By document 01 it is 'the lowest
--- applying number', so each list rises; and 'reading goes before judging'
+-- applying number', and 'reading goes before judging'; 13 has its place by document 02, Point 1, with reading and after 8
+
+-- those of reading
+abbrev pub readingOrder : List ℕ
+readingOrder = 1 ∷ 2 ∷ 3 ∷ 4 ∷ 5 ∷ 6 ∷ 7 ∷ 8 ∷ 13 ∷ []
 
 abbrev pub readOrder : List ℕ
-readOrder = 1 ∷ 2 ∷ 3 ∷ 4 ∷ 5 ∷ 6 ∷ 7 ∷ 8 ∷ 12 ∷ []
+readOrder = readingOrder ++ (12 ∷ [])
 
 abbrev pub judgeOrder : List ℕ
-judgeOrder = 1 ∷ 2 ∷ 3 ∷ 4 ∷ 5 ∷ 6 ∷ 7 ∷ 8 ∷ 11 ∷ []
+judgeOrder = readingOrder ++ (11 ∷ [])
 
 -- ---- the rows that a rule admits
 

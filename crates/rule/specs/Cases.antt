@@ -1,4 +1,5 @@
--- Document 01, Proved cases: the texts and the tables' bytes, and what JUDGE is to answer; and texts at the edges of the refusals of reading.
+-- Document 01, Proved cases: the texts and the tables' bytes, and what JUDGE is to answer; and texts at the edges of the refusals of reading. Document 02,
+-- Point 1: the table of its truth tests.
 use mathlib.Core.List.{List, [], _∷_, _++_, map}
 use mathlib.Core.Option.{Option}
 use Prim.Native.Nat.{ℕ, zero, suc}
@@ -13,6 +14,7 @@ use Rattle.rule.specs.Tokens.{bytes, Token, Fixed, Compares, Letter, Num
 use Rattle.rule.specs.declared.TaggedValue.{TaggedValue}
 use Rattle.rule.specs.declared.Part.{Part}
 use Rattle.rule.specs.Truth.{Truth, False, Unknown, True}
+use Rattle.rule.specs.Condition.{Unary, Is, IsNot}
 use Rattle.rule.specs.Calls.{readingRefusals, readCall, judgeCall}
 
 -- the three tables of the proved cases; the value bytes of the two blank cells are 7 and 9, since they may be anything
@@ -39,6 +41,26 @@ U = Unknown
 abbrev F : Truth
 F = False
 
+-- ---- the truth tests on each value, as SQL-92 tabulates them (8.12, <search condition>, General Rules): a line for each test, a column for each value
+
+abbrev pub truthTests : List Unary
+truthTests = Is True ∷ IsNot True ∷ Is False ∷ IsNot False ∷ Is Unknown ∷ IsNot Unknown ∷ []
+
+abbrev pub truthValues : List Truth
+truthValues = T ∷ F ∷ U ∷ []
+
+abbrev pub truthTable : List (List Truth)
+truthTable =
+    (T ∷ F ∷ F ∷ [])
+    ∷ (F ∷ T ∷ T ∷ [])
+    ∷ (F ∷ T ∷ F ∷ [])
+    ∷ (T ∷ F ∷ T ∷ [])
+    ∷ (F ∷ F ∷ T ∷ [])
+    ∷ (T ∷ T ∷ F ∷ [])
+    ∷ []
+
+-- ---- the proved cases
+
 -- the texts with ALL2 and ALL3 written out, and their values on rows 0, 1 and 2
 abbrev pub cases : List Case
 cases =
@@ -63,7 +85,8 @@ judgedAt c = map (judgeCall (bytes (c .text)) caseTables) (0 ∷ 1 ∷ 2 ∷ [])
 abbrev pub expectedAt : Case → List (Answer Truth)
 expectedAt c = map Given (c .values)
 
--- each comparison at less, equal and greater, with negative numbers; IS NOT NULL; blank with blank; AND before OR
+-- each comparison at less, equal and greater, with negative numbers; IS NOT NULL; blank with blank; AND before OR; each truth test on true, unknown and
+-- false; NOT before one; around one that is unknown; in a WHERE
 abbrev pub testCases : List Case
 testCases =
     ("m.1 = 2" gives (F ∷ T ∷ F ∷ []))
@@ -81,9 +104,19 @@ testCases =
     ∷ ("m.2 IS NOT NULL" gives (T ∷ F ∷ T ∷ []))
     ∷ ("m.2 = m.2" gives (T ∷ U ∷ T ∷ []))
     ∷ ("0 = 0 OR 0 = 1 AND 0 = 2" gives (T ∷ T ∷ T ∷ []))
+    ∷ ("(m.2 > 0) IS TRUE" gives (T ∷ F ∷ F ∷ []))
+    ∷ ("(m.2 > 0) IS NOT TRUE" gives (F ∷ T ∷ T ∷ []))
+    ∷ ("(m.2 > 0) IS FALSE" gives (F ∷ F ∷ T ∷ []))
+    ∷ ("(m.2 > 0) IS NOT FALSE" gives (T ∷ T ∷ F ∷ []))
+    ∷ ("(m.2 > 0) IS UNKNOWN" gives (F ∷ T ∷ F ∷ []))
+    ∷ ("(m.2 > 0) IS NOT UNKNOWN" gives (T ∷ F ∷ T ∷ []))
+    ∷ ("NOT (m.2 > 0) IS FALSE" gives (T ∷ T ∷ F ∷ []))
+    ∷ ("((m.2 > 0) IS UNKNOWN) IS UNKNOWN" gives (F ∷ F ∷ F ∷ []))
+    ∷ ("m.1 = ALL (SELECT v.1 FROM 2 v WHERE (v.1 = 1) IS NOT UNKNOWN)" gives (T ∷ F ∷ F ∷ []))
+    ∷ ("m.1 = ALL (SELECT v.1 FROM 2 v WHERE (v.1 IS NULL) IS NOT UNKNOWN)" gives (U ∷ F ∷ F ∷ []))
     ∷ []
 
--- ---- the parts of two rules, in full: kind, comparison, table, end, left and right value
+-- ---- the parts of three rules, in full: kind, comparison, table, end, left and right value
 
 abbrev field : ℕ → ℤ → TaggedValue
 field t n = record { tag = t; number = n }
@@ -134,8 +167,30 @@ nestedCase = record {
       ∷ [];
 }
 
+-- each of the truth tests
+abbrev pub truthCase : PartsCase
+truthCase = record {
+  text = "NOT ((m.1 = 1) IS TRUE AND (m.2 IS NULL) IS NOT TRUE) IS FALSE OR ((m.2 > 0) IS UNKNOWN) IS NOT FALSE OR (1 = 1) IS NOT UNKNOWN";
+  parts =
+      partBy 2 0 0 14 unused unused
+      ∷ partBy 2 0 0 12 unused unused
+      ∷ partBy 3 0 0 9 unused unused
+      ∷ partBy 12 0 0 9 unused unused
+      ∷ partBy 1 0 0 9 unused unused
+      ∷ partBy 10 0 0 7 unused unused
+      ∷ partBy 4 1 0 7 (field 0 (pos 1)) (field 255 (pos 1))
+      ∷ partBy 11 0 0 9 unused unused
+      ∷ partBy 5 0 0 9 (field 0 (pos 2)) unused
+      ∷ partBy 13 0 0 12 unused unused
+      ∷ partBy 14 0 0 12 unused unused
+      ∷ partBy 4 5 0 12 (field 0 (pos 2)) (field 255 (pos 0))
+      ∷ partBy 15 0 0 14 unused unused
+      ∷ partBy 4 1 0 14 (field 255 (pos 1)) (field 255 (pos 1))
+      ∷ [];
+}
+
 abbrev pub partsCases : List PartsCase
-partsCases = chainCase ∷ nestedCase ∷ []
+partsCases = chainCase ∷ nestedCase ∷ truthCase ∷ []
 
 abbrev filler : Part
 filler = partBy 99 99 99 99 (field 99 (pos 99)) (field 99 (negsuc 99))
@@ -150,13 +205,13 @@ partsGiven c = record { result = Given (length (c .parts)); buffer = c .parts ++
 -- ---- every word and every sign, once
 
 unfoldable pub everyWord : List ℕ
-everyWord = bytes "AND OR NOT EXISTS IN SOME ALL IS NULL SELECT FROM WHERE ( ) . = <> < <= > >= a z 0 -1"
+everyWord = bytes "AND OR NOT EXISTS IN SOME ALL IS NULL SELECT FROM WHERE ( ) . = <> < <= > >= a z 0 -1 TRUE FALSE UNKNOWN"
 
 abbrev pub everyToken : List Token
 everyToken =
     Fixed 1 ∷ Fixed 2 ∷ Fixed 3 ∷ Fixed 4 ∷ Fixed 5 ∷ Fixed 6 ∷ Fixed 7 ∷ Fixed 8 ∷ Fixed 9 ∷ Fixed 10 ∷ Fixed 11 ∷ Fixed 12
     ∷ Fixed 13 ∷ Fixed 14 ∷ Fixed 15 ∷ Compares Eq ∷ Compares Ne ∷ Compares Lt ∷ Compares Le ∷ Compares Gt ∷ Compares Ge
-    ∷ Letter 97 ∷ Letter 122 ∷ Number (pos 0) ∷ Number (negsuc 0) ∷ []
+    ∷ Letter 97 ∷ Letter 122 ∷ Number (pos 0) ∷ Number (negsuc 0) ∷ Fixed 16 ∷ Fixed 17 ∷ Fixed 18 ∷ []
 
 -- ---- texts at the edges of the refusals, with the tables above
 
@@ -164,6 +219,11 @@ everyToken =
 unfoldable pub chained : ℕ → List ℕ
 chained zero = bytes "1 = 1"
 chained (suc n) = bytes "1 = 1 OR " ++ chained n
+
+-- a text in n brackets, each followed by IS UNKNOWN: of a sum n the next is 1 + 2n
+unfoldable pub unknownOf : ℕ → List ℕ → List ℕ
+unknownOf zero text = text
+unknownOf (suc n) text = bytes "(" ++ unknownOf n text ++ bytes ") IS UNKNOWN"
 
 unfoldable pub edges : List Edge
 edges =
@@ -195,7 +255,20 @@ edges =
     -- the nearest binding: table 1 has two columns, table 2 has one
     ∷ (bytes "EXISTS (FROM 1 v WHERE EXISTS (FROM 2 v WHERE v.2 = 1))" refused 8) ∷ accepted (bytes "EXISTS (FROM 2 v WHERE EXISTS (FROM 1 v WHERE v.2 = 1))")
     -- NOT before NOT, NOT before nothing, and a bracket that is left open
-    ∷ accepted (bytes "NOT NOT 1 = 1") ∷ (bytes "NOT" refused 6) ∷ (bytes "(1 = 1" refused 6) ∷ []
+    ∷ accepted (bytes "NOT NOT 1 = 1") ∷ (bytes "NOT" refused 6) ∷ (bytes "(1 = 1" refused 6)
+    -- truth tests: behind a bracketed condition alone, once, with one of the three words
+    ∷ accepted (bytes "(1 = 1)IS TRUE") ∷ (bytes "(1 = 1) IS TRUE IS TRUE" refused 6) ∷ accepted (bytes "((1 = 1) IS TRUE) IS TRUE") ∷ (bytes "1 = 1 IS TRUE" refused 6)
+    ∷ (bytes "TRUE" refused 6) ∷ (bytes "(TRUE) IS TRUE" refused 6) ∷ (bytes "m.1 IS TRUE" refused 6) ∷ (bytes "(m.1) IS TRUE" refused 6) ∷ (bytes "(1 = 1) IS NULL" refused 6)
+    ∷ (bytes "(1 = 1) IS" refused 6) ∷ (bytes "(1 = 1) IS NOT" refused 6) ∷ (bytes "(1 = 1) IS NOT NOT TRUE" refused 6) ∷ (bytes "(1 = 1) NOT TRUE" refused 6)
+    ∷ (bytes "EXISTS (FROM 1 v WHERE 1 = 1) IS TRUE" refused 6) ∷ (bytes "m.1 IN (SELECT v.1 FROM 2 v WHERE 1 = 1) IS FALSE" refused 6) ∷ (bytes "m.1 IS NULL IS TRUE" refused 6)
+    ∷ accepted (bytes "NOT (1 = 1) IS UNKNOWN AND (1 = 1) IS NOT FALSE OR 1 = 1") ∷ (bytes "(1 = 1) IS TRUEFALSE" refused 4) ∷ (bytes "(1 = 1) IS UNKNOW" refused 4)
+    -- they count among the 64 parts
+    ∷ accepted (bytes "(" ++ chained 31 ++ bytes ") IS TRUE") ∷ ((bytes "((" ++ chained 31 ++ bytes ") IS TRUE) IS TRUE") refused 7)
+    -- the sum: 192 may pass, 193 may not, and it comes after names; a sum that no number of 32 bits holds
+    ∷ accepted (unknownOf 6 (bytes "1 = 1")) ∷ (unknownOf 7 (bytes "1 = 1") refused 13) ∷ (unknownOf 7 (bytes "k.1 = 1") refused 8)
+    ∷ accepted (unknownOf 6 (bytes "1 = 1") ++ bytes " OR EXISTS (FROM 1 v WHERE " ++ unknownOf 5 (bytes "1 = 1") ++ bytes ")")
+    ∷ ((unknownOf 6 (bytes "1 = 1") ++ bytes " OR EXISTS (FROM 1 v WHERE EXISTS (FROM 1 v WHERE " ++ unknownOf 5 (bytes "1 = 1") ++ bytes "))") refused 13)
+    ∷ (unknownOf 32 (bytes "1 = 1") refused 13) ∷ []
 
 abbrev pub refusalAt : Edge → Option ℕ
 refusalAt e = firstApplying (readingRefusals (e .input) caseTables)

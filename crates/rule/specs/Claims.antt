@@ -1,6 +1,6 @@
 -- What proofs/ shows of these definitions.
 use mathlib.Core.Path.{_≡_}
-use mathlib.Core.Bool.{true}
+use mathlib.Core.Bool.{true, false}
 use mathlib.Core.List.{List, _++_, map}
 use mathlib.Core.Logic.{_↔_}
 use mathlib.Core.Option.{none, some}
@@ -11,16 +11,17 @@ use Rattle.tables.specs.Tables.{sizesFit, marksFit, columnsOf, rowCount, tables
 use Rattle.tables.specs.Refusals.{Refused, Given, numbers, firstApplying, lendRefusals}
 use Rattle.tables.specs.Values.{mostEntries, judgedLevels}
 use Rattle.rule.specs.Tokens.{tokensOf, opensFit}
-use Rattle.rule.specs.Condition.{WrittenCondition, Rule, parts, fromsDeep}
+use Rattle.rule.specs.Truth.{Truth, isUnknown}
+use Rattle.rule.specs.Condition.{Is, IsNot, WrittenCondition, Rule, parts, fromsDeep}
 use Rattle.rule.specs.Grammar.{Tokens, Reads}
 use Rattle.rule.specs.Reader.{readAll}
 use Rattle.rule.specs.Names.{mostParts, mostFroms, outermost, ruleIn, Fits, Scoped}
 use Rattle.rule.specs.Parts.{partsFrom, partsOf, ruleOfParts}
 use Rattle.rule.specs.Sum.{entrySum, publishedSum}
 use Rattle.rule.specs.declared.Part.{Part}
-use Rattle.rule.specs.Meaning.{judged}
+use Rattle.rule.specs.Meaning.{unary3, judged}
 use Rattle.rule.specs.Calls.{mostBytes, ruleOf, readingRefusals, Accepted, readCall, judgeRefusals, judgeCall, readOrder, judgeOrder}
-use Rattle.rule.specs.Cases.{cases, judgedAt, expectedAt, testCases, partsCases, partsRead, partsGiven, everyWord, everyToken, edges, refusalAt}
+use Rattle.rule.specs.Cases.{truthTests, truthValues, truthTable, cases, judgedAt, expectedAt, testCases, partsCases, partsRead, partsGiven, everyWord, everyToken, edges, refusalAt}
 
 -- the reader finds a reading exactly when the grammar has one, and no tokens have two
 pub record ReadingClaim : Type 0 where
@@ -29,8 +30,8 @@ pub record ReadingClaim : Type 0 where
   pub finds-none : (ts : Tokens) → readAll ts ≡ none → (a : WrittenCondition) → ¬ Reads ts a
   pub single : (ts : Tokens) (a b : WrittenCondition) → Reads ts a → Reads ts b → a ≡ b
 
--- demand 2, first half: a text is a rule just when grammar, names and limits allow it. What they allow, with the tables of a file:
-pub record Allowed (text file : List ℕ) : Type 0 where
+-- demand 2, first half: a text is a rule just when grammar, names and limits allow it. What the refusals 1 to 8 leave, with the tables of a file:
+pub record Named (text file : List ℕ) : Type 0 where
   pub tables-sized : sizesFit file ≡ true
   pub tables-marked : marksFit file ≡ true
   pub short : length text ≤ mostBytes
@@ -44,8 +45,21 @@ pub record Allowed (text file : List ℕ) : Type 0 where
   pub rule : Rule
   pub names : ruleIn (columnsOf file) outermost condition ≡ some rule
 
+-- and of these what is allowed: the sum is at most 192
+pub record Allowed (text file : List ℕ) : Type 0 where
+  pub named : Named text file
+  pub few-entries : entrySum (named .rule) ≤ mostEntries
+
 abbrev pub AcceptedClaim : Type 0
 AcceptedClaim = (text file : List ℕ) → Accepted text file ↔ Allowed text file
+
+-- 13 is given exactly when none of 1 to 8 applies and the sum is over 192
+pub record TooManyEntries (text file : List ℕ) : Type 0 where
+  pub named : Named text file
+  pub many-entries : mostEntries < entrySum (named .rule)
+
+abbrev pub ManyEntriesClaim : Type 0
+ManyEntriesClaim = (text file : List ℕ) → (firstApplying (readingRefusals text file) ≡ some 13) ↔ TooManyEntries text file
 
 -- an accepted text is a rule: what it names exists, it keeps to the limits, its card has no more entries than a card may have (SumClaim of the crate
 -- translation says that `entrySum` counts them), it has one record for each part, and it can be had back from them
@@ -71,6 +85,12 @@ EndsClaim = (r : Rule) (k : ℕ) (d : Part) → getD (partsFrom k r) 0 d .end �
 -- the number of entries is the sum that the section Card publishes, counted over the kinds of the rule's parts
 abbrev pub PublishedSumClaim : Type 0
 PublishedSumClaim = (r : Rule) → entrySum r ≡ publishedSum r
+
+-- the six truth tests on each of the three values, as SQL-92 tabulates them; and their outcome is never unknown
+pub record TruthTestsClaim : Type 0 where
+  pub table : map (λ u. map (unary3 u) truthValues) truthTests ≡ truthTable
+  pub is-known : (t a : Truth) → isUnknown (unary3 (Is t) a) ≡ false
+  pub is-not-known : (t a : Truth) → isUnknown (unary3 (IsNot t) a) ≡ false
 
 -- READ and JUDGE by cases: a refusal of reading is passed up unchanged, with the buffer as it was; of an accepted text, READ gives the parts
 -- unless the buffer has fewer elements, and JUDGE the value unless table 1 has no such row

@@ -2,15 +2,18 @@
 use Prim.Native.Nat.{ℕ, _+_, max}
 use lib.IntN.{ℤ}
 use Rattle.tables.specs.Values.{Value, Comparison, Connective, Quantifier, MarkTest}
+use Rattle.rule.specs.Truth.{Truth}
 
 -- the tests without inner parts, over operands A. Mark Null l: l IS NULL; Mark NotNull l: l IS NOT NULL.
 pub data Test (A : Type 0) : Type 0 where
   Compare : Comparison → A → A → Test A
   Mark : MarkTest → A → Test A
 
--- what a part without a FROM says of the one condition in it
+-- what a part without a FROM says of the one condition in it: NOT, or a truth test (document 02, Point 1). Is True: IS TRUE; IsNot True: IS NOT TRUE.
 pub data Unary : Type 0 where
   Not : Unary
+  Is : Truth → Unary
+  IsNot : Truth → Unary
 
 -- what a FROM says, over tables S: it names one
 pub data From (S : Type 0) : Type 0 where
@@ -46,7 +49,7 @@ abbrev pub letters : {S : Type 0} → From S → ℕ
 letters (Single s) = 1
 
 module _ {A S : Type 0} where
-  -- what counts as a part: each connective, each NOT and each test; brackets do not
+  -- what counts as a part: each connective, each NOT, each test and each truth test; brackets do not
   unfoldable pub parts : Condition A S → ℕ
   parts (Atom x) = 1
   parts (Join j a b) = 1 + parts a + parts b

@@ -1,11 +1,12 @@
--- Document 01, Rule text: the grammar, production by production, in its order.
+-- Document 01, Rule text: the grammar, production by production, in its order; with the truth tests of document 02, Point 1.
 -- `IsFactor ts a rest`: the tokens ts begin with a factor, which reads as a, and the tokens rest come after it.
 use mathlib.Core.List.{List, [], _∷_}
 use Prim.Native.Nat.{ℕ}
 use lib.IntN.{ℤ}
 use Rattle.tables.specs.Values.{Comparison, Eq, Ne, And, Or, Some, All, Null, NotNull}
-use Rattle.rule.specs.Tokens.{Token, Compares, Letter, Number, AND, OR, NOT, EXISTS, IN, SOME, ALL, IS, NULL, SELECT, FROM, WHERE, Open, Close, Point}
-use Rattle.rule.specs.Condition.{Compare, Mark, Not, From, Single, Atom, Join, Apply, Exists, Listed, WrittenValue, Plain, Named, Source, Over, WrittenCondition}
+use Rattle.rule.specs.Tokens.{Token, Compares, Letter, Number, AND, OR, NOT, EXISTS, IN, SOME, ALL, IS, NULL, SELECT, FROM, WHERE, Open, Close, Point, TRUE, FALSE, UNKNOWN}
+use Rattle.rule.specs.Truth.{Truth, False, Unknown, True}
+use Rattle.rule.specs.Condition.{Compare, Mark, Unary, Not, Is, IsNot, From, Single, Atom, Join, Apply, Exists, Listed, WrittenValue, Plain, Named, Source, Over, WrittenCondition}
 
 abbrev pub Tokens : Type 0
 Tokens = List Token
@@ -21,6 +22,19 @@ pub data IsValue : Tokens → WrittenValue → Tokens → Type 0 where
 pub data IsFrom : Tokens → From Source → Tokens → Type 0 where
   -- number letter
   single : {n : ℤ} {x : ℕ} {rest : Tokens} → IsFrom (Number n ∷ Letter x ∷ rest) (Single (Over n x)) rest
+
+-- the words of a truth test: TRUE, FALSE or UNKNOWN
+pub data IsTruth : Token → Truth → Type 0 where
+  is-true : IsTruth TRUE True
+  is-false : IsTruth FALSE False
+  is-unknown : IsTruth UNKNOWN Unknown
+
+-- what may follow a bracketed condition: 'IS or IS NOT, then TRUE, FALSE or UNKNOWN'
+pub data IsTruthTest : Tokens → Unary → Tokens → Type 0 where
+  -- IS truth
+  is-truth : {w : Token} {t : Truth} {rest : Tokens} → IsTruth w t → IsTruthTest (IS ∷ w ∷ rest) (Is t) rest
+  -- IS NOT truth
+  is-not-truth : {w : Token} {t : Truth} {rest : Tokens} → IsTruth w t → IsTruthTest (IS ∷ NOT ∷ w ∷ rest) (IsNot t) rest
 
 mutual
   -- condition: conjunctions with OR between them; what stands left of the last OR is one condition
@@ -46,10 +60,12 @@ mutual
     -- test
     one-test : {ts rest : Tokens} {a : WrittenCondition} → IsTest ts a rest → IsFactor ts a rest
 
-  -- test: its nine forms, in the paper's order; IN is SOME with =, NOT IN is ALL with <>
+  -- test: its nine forms, in the paper's order, the first of which may be followed by a truth test, once; IN is SOME with =, NOT IN is ALL with <>
   pub data IsTest : Tokens → WrittenCondition → Tokens → Type 0 where
     -- ( condition )
     bracketed : {ts rest : Tokens} {a : WrittenCondition} → IsCondition ts a (Close ∷ rest) → IsTest (Open ∷ ts) a rest
+    -- ( condition ) truth test
+    truth-tested : {ts us rest : Tokens} {u : Unary} {a : WrittenCondition} → IsCondition ts a (Close ∷ us) → IsTruthTest us u rest → IsTest (Open ∷ ts) (Apply u a) rest
     -- EXISTS ( FROM number letter WHERE condition )
     exists : {ts us rest : Tokens} {f : From Source} {w : WrittenCondition}
         → IsFrom ts f (WHERE ∷ us) → IsCondition us w (Close ∷ rest) → IsTest (EXISTS ∷ Open ∷ FROM ∷ ts) (Exists f w) rest

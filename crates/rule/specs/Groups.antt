@@ -3,7 +3,8 @@ use mathlib.Core.Path.{_≡_}
 use mathlib.Core.Logic.{_⊎_}
 use Prim.Native.Nat.{ℕ}
 use Rattle.tables.specs.Values.{Connective, Quantifier, MarkTest}
-use Rattle.rule.specs.Condition.{Unary}
+use Rattle.rule.specs.Truth.{Unknown}
+use Rattle.rule.specs.Condition.{Unary, IsNot}
 use Rattle.rule.specs.Parts.{Kind, kindNumber, joinKind, unaryKind, compareKind, markKind, existsKind, listKind}
 
 -- the number of a kind
@@ -12,7 +13,7 @@ KindNumber n = (k : Kind) × (n ≡ kindNumber k)
 
 -- the last of these numbers
 abbrev pub lastKind : ℕ
-lastKind = 9
+lastKind = unaryKind (IsNot Unknown)
 
 -- the number of AND or of OR
 abbrev pub JoinNumber : ℕ → Type 0

@@ -1,16 +1,18 @@
--- Document 01, Meaning: the value of a rule with each level at a row: true, false or unknown. Cards are not mentioned here.
-use mathlib.Core.Bool.{cond}
+-- Document 01, Meaning, with the truth tests of document 02, Point 1: the value of a rule with each level at a row: true, false or unknown. Cards are not mentioned here.
+use mathlib.Core.Bool.{cond, not}
 use mathlib.Core.List.{List, map}
 use Prim.Native.Nat.{ℕ}
 use Rattle.tables.specs.Lists.{any, keep, isThereOne}
 use Rattle.tables.specs.Tables.{Cell, Tables, rowsOf}
 use Rattle.tables.specs.Values.{Value, Comparison, holds, Quantifier, Some, All, Env, judgedRow, _▸_, cellOf, byNumbers, markPasses}
-use Rattle.rule.specs.Truth.{Truth, False, Unknown, True, truth, isTrue, isUnknown, isFalse, not3, join3}
-use Rattle.rule.specs.Condition.{Test, Compare, Mark, Unary, Not, From, Single, Atom, Join, Apply, Exists, Listed, Rule}
+use Rattle.rule.specs.Truth.{Truth, False, Unknown, True, truth, isTrue, isUnknown, isFalse, isThat, not3, join3}
+use Rattle.rule.specs.Condition.{Test, Compare, Mark, Unary, Not, Is, IsNot, From, Single, Atom, Join, Apply, Exists, Listed, Rule}
 
--- what NOT makes of a value
+-- what NOT makes of a value; and a truth test, of which 'the outcome is never unknown, as in SQL-92' (TruthTestsClaim)
 abbrev pub unary3 : Unary → Truth → Truth
 unary3 Not a = not3 a
+unary3 (Is t) a = truth (isThat t a)
+unary3 (IsNot t) a = truth (not (isThat t a))
 
 -- ---- tests
 

@@ -10,7 +10,8 @@ use Rattle.tables.specs.Lists.{numbered}
 use Rattle.tables.specs.Values.{constantTag, Value, Constant, Column, unusedValue, anyValue, Uses, Comparison, Eq, comparisonNumber, comparisonOf, Connective, And, Or, Quantifier, Some, All, MarkTest, Null, NotNull}
 use Rattle.rule.specs.declared.TaggedValue.{TaggedValue}
 use Rattle.rule.specs.declared.Part.{Part}
-use Rattle.rule.specs.Condition.{Test, Compare, Mark, Unary, Not, From, Single, Atom, Join, Apply, Exists, Listed, Rule, parts}
+use Rattle.rule.specs.Truth.{False, Unknown, True}
+use Rattle.rule.specs.Condition.{Test, Compare, Mark, Unary, Not, Is, IsNot, From, Single, Atom, Join, Apply, Exists, Listed, Rule, parts}
 
 -- 'a value is a tag (255 constant, else level 0 to 3) and a number'
 abbrev pub taggedOf : Value → TaggedValue
@@ -27,13 +28,20 @@ pub data Kind : Type 0 where
   ExistsKind : Kind
   ListKind : Quantifier → Kind
 
--- 'kind (1 and, 2 or, 3 not, 4 comparison, 5 IS NULL, 6 IS NOT NULL, 7 exists, 8 some, 9 all)'
+-- 'kind (1 and, 2 or, 3 not, 4 comparison, 5 IS NULL, 6 IS NOT NULL, 7 exists, 8 some, 9 all)'; and of document 02, Point 1: 'kind 10 to 15: IS TRUE,
+-- IS NOT TRUE, IS FALSE, IS NOT FALSE, IS UNKNOWN, IS NOT UNKNOWN'
 abbrev pub joinKind : Connective → ℕ
 joinKind And = 1
 joinKind Or = 2
 
 abbrev pub unaryKind : Unary → ℕ
 unaryKind Not = 3
+unaryKind (Is True) = 10
+unaryKind (IsNot True) = 11
+unaryKind (Is False) = 12
+unaryKind (IsNot False) = 13
+unaryKind (Is Unknown) = 14
+unaryKind (IsNot Unknown) = 15
 
 abbrev pub compareKind : ℕ
 compareKind = 4
@@ -60,9 +68,10 @@ kindNumber (ListKind q) = listKind q
 -- the kinds in the order of their numbers, from 1 on
 abbrev pub kinds : List Kind
 kinds =
-    JoinKind And ∷ JoinKind Or ∷ UnaryKind Not ∷ CompareKind ∷ MarkKind Null ∷ MarkKind NotNull ∷ ExistsKind ∷ ListKind Some ∷ ListKind All ∷ []
+    JoinKind And ∷ JoinKind Or ∷ UnaryKind Not ∷ CompareKind ∷ MarkKind Null ∷ MarkKind NotNull ∷ ExistsKind ∷ ListKind Some ∷ ListKind All
+    ∷ UnaryKind (Is True) ∷ UnaryKind (IsNot True) ∷ UnaryKind (Is False) ∷ UnaryKind (IsNot False) ∷ UnaryKind (Is Unknown) ∷ UnaryKind (IsNot Unknown) ∷ []
 
--- the fields that a kind uses besides kind and end: AND, OR and NOT none, a comparison its comparison and both values, IS NULL and IS NOT NULL the left
+-- the fields that a kind uses besides kind and end: AND, OR, NOT and truth tests none, a comparison its comparison and both values, IS NULL and IS NOT NULL the left
 -- value, EXISTS the table, a list all
 abbrev pub uses : Kind → Uses
 uses (JoinKind j) = record { table = false; comparison = false; left = false; right = false }

@@ -7,8 +7,9 @@ use lib.IntN.{ℤ}
 use lib.ListN.{length}
 use Rattle.tables.specs.Lists.{only, _>>=_, _<|>_}
 use Rattle.tables.specs.Values.{Comparison, Eq, Ne, Connective, And, Or, Quantifier, Some, All, Null, NotNull}
-use Rattle.rule.specs.Tokens.{Token, isFixed, Fixed, Compares, Letter, Number, AND, OR, NOT, EXISTS, IN, SOME, ALL, IS, NULL, SELECT, FROM, WHERE, Open, Close, Point}
-use Rattle.rule.specs.Condition.{Compare, Mark, Not, From, Single, Atom, Join, Apply, Exists, Listed, WrittenValue, Plain, Named, Source, Over, WrittenCondition}
+use Rattle.rule.specs.Tokens.{Token, isFixed, Fixed, Compares, Letter, Number, AND, OR, NOT, EXISTS, IN, SOME, ALL, IS, NULL, SELECT, FROM, WHERE, Open, Close, Point, TRUE, FALSE, UNKNOWN}
+use Rattle.rule.specs.Truth.{Truth, False, Unknown, True}
+use Rattle.rule.specs.Condition.{Compare, Mark, Unary, Not, Is, IsNot, From, Single, Atom, Join, Apply, Exists, Listed, WrittenValue, Plain, Named, Source, Over, WrittenCondition}
 use Rattle.rule.specs.Grammar.{Tokens}
 
 -- ---- one token
@@ -132,9 +133,32 @@ started none around = none
 started (some (Whole a rest)) around = some (a, rest)
 started (some (Around o us)) around = around o us
 
+-- TRUE, FALSE or UNKNOWN
+unfoldable pub readTruth : Tokens → Option (Truth × Tokens)
+readTruth ts =
+    (expect TRUE ts >>= (λ us. some (True, us)))
+    <|> (expect FALSE ts >>= (λ us. some (False, us)))
+    <|> (expect UNKNOWN ts >>= (λ us. some (Unknown, us)))
+
+-- a truth test, behind its IS
+unfoldable pub readTruthTest : Tokens → Option (Unary × Tokens)
+readTruthTest ts =
+    (readTruth ts >>= (λ t. some (Is (t .0), t .1)))
+    <|> (expect NOT ts >>= (λ us. readTruth us >>= (λ t. some (IsNot (t .0), t .1))))
+
+-- a bracketed condition, with the truth test that follows it, if there is one: where an IS follows, it has to be one
+unfoldable pub truthTested : WrittenCondition → Tokens → Found
+truthTested a ts = branch (expect IS ts) (λ us. readTruthTest us >>= (λ u. some (Apply (u .0) a, u .1))) (λ _. some (a, ts))
+
+-- a test whose bracket is closed, and what may follow it: a truth test, behind brackets alone
+abbrev pub ended : Opening → WrittenCondition → Tokens → Found
+ended Bracket a rest = truthTested a rest
+ended (OfExists f) a rest = some (a, rest)
+ended (OfList q op l s f) a rest = some (a, rest)
+
 -- the bracket that closes behind the condition that a test holds
 abbrev pub closing : Opening → WrittenCondition × Tokens → Found
-closing o w = expect Close (w .1) >>= (λ rest. some (closed o (w .0), rest))
+closing o w = expect Close (w .1) >>= (λ rest. ended o (closed o (w .0)) rest)
 
 -- a reading at the front of some tokens, taken as far as OR and AND go on; depth bounds how deep the calls go. Nothing but this file and its
 -- proofs speaks of depths

@@ -1,17 +1,27 @@
--- Document 01, Card: how many entries the card of a rule has; and the sum that is published for it.
-use mathlib.Core.Bool.{cond}
+-- Document 01, Card, with the truth tests of document 02, Point 1: how many entries the card of a rule has; and the sum that is published for it.
+use mathlib.Core.Bool.{Bool, cond}
 use mathlib.Core.List.{List, [], _∷_}
 use Prim.Native.Nat.{ℕ, _+_, _-_, _*_}
-use lib.Dec.{eqb}
+use lib.Dec.{eqb, leb}
 use lib.ListN.{length}
-use Rattle.tables.specs.Values.{Some, All}
+use Rattle.tables.specs.Values.{mostEntries, Some, All}
 use Rattle.rule.specs.declared.Part.{Part}
-use Rattle.rule.specs.Condition.{Unary, Not, Condition, Atom, Join, Apply, Exists, Listed, Rule, letters}
+use Rattle.rule.specs.Truth.{Truth, False, Unknown, True}
+use Rattle.rule.specs.Condition.{Unary, Not, Is, IsNot, Condition, Atom, Join, Apply, Exists, Listed, Rule, letters}
 use Rattle.rule.specs.Parts.{unaryKind, listKind, partsOf}
+
+-- how often a truth test needs what the condition in it has: IS UNKNOWN and IS NOT UNKNOWN 'use the inner condition twice, joined by one entry', so the sum
+-- is '1 plus twice the inner sum there'; the others 'add no entry and nothing to the sum'
+abbrev pub truthSum : Truth → ℕ → ℕ
+truthSum True n = n
+truthSum False n = n
+truthSum Unknown n = 1 + 2 * n
 
 -- how many entries a part around a condition of n entries has with them: NOT has none of its own
 abbrev pub unarySum : Unary → ℕ → ℕ
 unarySum Not n = n
+unarySum (Is t) n = truthSum t n
+unarySum (IsNot t) n = truthSum t n
 
 -- a test has one entry, AND and OR one before those of their sides; a FROM has one for each of its letters, and a list two more, its AND or OR and
 -- its comparison
@@ -29,14 +39,41 @@ unfoldable pub ofKind : ℕ → List Part → ℕ
 ofKind kind [] = 0
 ofKind kind (p ∷ ps) = cond (eqb (p .kind) kind) 1 0 + ofKind kind ps
 
--- the parts of kind 3, which have no entry
+-- the parts of kind 3 and of kinds 10 to 13, which have no entry
 abbrev pub withoutEntry : List Part → ℕ
-withoutEntry ps = ofKind (unaryKind Not) ps
+withoutEntry ps =
+    ofKind (unaryKind Not) ps
+    + (ofKind (unaryKind (Is True)) ps + ofKind (unaryKind (IsNot True)) ps + (ofKind (unaryKind (Is False)) ps + ofKind (unaryKind (IsNot False)) ps))
 
 -- the parts of kinds 8 and 9, which have two entries more than others
 abbrev pub ofLists : List Part → ℕ
 ofLists ps = ofKind (listKind Some) ps + ofKind (listKind All) ps
 
--- n = parts − (parts of kind 3) + 2 × (parts of kinds 8 and 9)
+-- what a part of kind 14 or 15 around a condition of n entries adds to that and to its own entry: the n once more
+abbrev pub truthTwice : Truth → ℕ → ℕ
+truthTwice True n = 0
+truthTwice False n = 0
+truthTwice Unknown n = n
+
+abbrev pub unaryTwice : Unary → ℕ → ℕ
+unaryTwice Not n = 0
+unaryTwice (Is t) n = truthTwice t n
+unaryTwice (IsNot t) n = truthTwice t n
+
+-- the inner sums of all parts of kinds 14 and 15
+unfoldable pub usedTwice : Rule → ℕ
+usedTwice (Atom x) = 0
+usedTwice (Join j a b) = usedTwice a + usedTwice b
+usedTwice (Apply u a) = unaryTwice u (entrySum a) + usedTwice a
+usedTwice (Exists f w) = usedTwice w
+usedTwice (Listed q op l s f w) = usedTwice w
+
+-- n = parts − (parts of kind 3) + 2 × (parts of kinds 8 and 9), where kinds 10 to 13 count as kind 3 does; and where a part is of kind 14 or 15, its inner
+-- sum once more
 abbrev pub publishedSum : Rule → ℕ
-publishedSum r = let ps = partsOf r in length ps - withoutEntry ps + 2 * ofLists ps
+publishedSum r = let ps = partsOf r in length ps - withoutEntry ps + 2 * ofLists ps + usedTwice r
+
+-- ---- refusal 13 does not apply: the sum is at most 192
+
+unfoldable pub sumFits : Rule → Bool
+sumFits r = leb (entrySum r) mostEntries

@@ -72,6 +72,16 @@ Close = Fixed 14
 abbrev pub Point : Token
 Point = Fixed 15
 
+-- document 02, Point 1: 'the three become words'
+abbrev pub TRUE : Token
+TRUE = Fixed 16
+
+abbrev pub FALSE : Token
+FALSE = Fixed 17
+
+abbrev pub UNKNOWN : Token
+UNKNOWN = Fixed 18
+
 -- the token t is the one with the number k
 abbrev pub isFixed : Token → ℕ → Bool
 isFixed (Fixed n) k = eqb n k
@@ -92,7 +102,8 @@ s is t = record { text = bytes s; token = t }
 unfoldable pub words : List Spelling
 words =
     ("AND" is AND) ∷ ("OR" is OR) ∷ ("NOT" is NOT) ∷ ("EXISTS" is EXISTS) ∷ ("IN" is IN) ∷ ("SOME" is SOME) ∷ ("ALL" is ALL)
-    ∷ ("IS" is IS) ∷ ("NULL" is NULL) ∷ ("SELECT" is SELECT) ∷ ("FROM" is FROM) ∷ ("WHERE" is WHERE) ∷ []
+    ∷ ("IS" is IS) ∷ ("NULL" is NULL) ∷ ("SELECT" is SELECT) ∷ ("FROM" is FROM) ∷ ("WHERE" is WHERE)
+    ∷ ("TRUE" is TRUE) ∷ ("FALSE" is FALSE) ∷ ("UNKNOWN" is UNKNOWN) ∷ []
 
 -- the signs; where one begins another, the longer stands first
 unfoldable pub signs : List Spelling

@@ -1,4 +1,4 @@
--- Document 01, Meaning: true, false and unknown, and what AND, OR and NOT make of them.
+-- Document 01, Meaning: true, false and unknown, and what AND, OR and NOT make of them. Document 02, Point 1: which of them a truth test asks for.
 use mathlib.Core.Bool.{Bool, true, false}
 use Prim.Native.Nat.{ℕ}
 use Rattle.tables.specs.Values.{Connective, And, Or}
@@ -30,6 +30,12 @@ abbrev pub isFalse : Truth → Bool
 isFalse False = true
 isFalse Unknown = false
 isFalse True = false
+
+-- a value is the one that a truth test asks for: TRUE, FALSE or UNKNOWN
+abbrev pub isThat : Truth → Truth → Bool
+isThat True a = isTrue a
+isThat False a = isFalse a
+isThat Unknown a = isUnknown a
 
 -- the opposite; unknown stays
 abbrev pub not3 : Truth → Truth

@@ -8,7 +8,7 @@ pub struct TaggedValue {
     pub number: i32,
 }
 
-// A part of a rule: its kind, 1 to 9; its comparison, 1 to 6; the number of its table; the number of the first part after it and its inner parts; its
+// A part of a rule: its kind, 1 to 15; its comparison, 1 to 6; the number of its table; the number of the first part after it and its inner parts; its
 // values. What the numbers mean is in specs/Parts.antt; fields that a kind does not use are 0.
 #[repr(C)]
 pub struct Part {
@@ -38,3 +38,15 @@ pub const EXISTS_PART: usize = 7;
 pub const SOME_PART: usize = 8;
 
 pub const ALL_PART: usize = 9;
+
+pub const IS_TRUE_PART: usize = 10;
+
+pub const IS_NOT_TRUE_PART: usize = 11;
+
+pub const IS_FALSE_PART: usize = 12;
+
+pub const IS_NOT_FALSE_PART: usize = 13;
+
+pub const IS_UNKNOWN_PART: usize = 14;
+
+pub const IS_NOT_UNKNOWN_PART: usize = 15;

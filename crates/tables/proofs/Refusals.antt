@@ -34,6 +34,12 @@ unfolding firstApplying
 none-first n true rs e = let z : _≡_ {A = ℕ} 0 1 = cc in absurd (omega arith)
 none-first n false rs e = (refl, e)
 
+-- what a list gives is not its first number: the first does not apply, and so the rest gives it
+pub other-first : (n : ℕ) (b : Bool) (rs : List Refusal) (o : Option ℕ) → (some n ≡ o → ⊥) → firstApplying ((n if b) ∷ rs) ≡ o → (b ≡ false) × (firstApplying rs ≡ o)
+unfolding firstApplying
+other-first n true rs o h e = absurd (h e)
+other-first n false rs o h e = (refl, e)
+
 -- where none of a list applies, what follows it decides
 pub first-append : (rs ss : List Refusal) → firstApplying rs ≡ none → firstApplying (rs ++ ss) ≡ firstApplying ss
 first-append [] ss e = refl

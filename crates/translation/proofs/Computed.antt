@@ -2,11 +2,11 @@
 use mathlib.Core.Path.{refl}
 use Rattle.card.proofs.Opened.{opened as card-opened}
 use Rattle.rule.proofs.Opened.{opened as rule-opened}
-use Rattle.rule.specs.Cases.{chained}
+use Rattle.rule.specs.Cases.{chained, unknownOf}
 use Rattle.translation.specs.Translation.{negated, cardOf}
 use Rattle.translation.specs.Calls.{ruleBytes, cardCall}
-use Rattle.translation.specs.Cases.{workedText, fullText, thirdCard, readRefusal, refusalExamples}
-use Rattle.translation.specs.Claims.{WorkedCardClaim, FullCardClaim, LaterCaseClaim, GateCaseClaim, RefusalsClaim}
+use Rattle.translation.specs.Cases.{workedText, fullText, unknownText, truthText, thirdCard, readRefusal, refusalExamples}
+use Rattle.translation.specs.Claims.{WorkedCardClaim, FullCardClaim, TruthTestCardsClaim, LaterCaseClaim, GateCaseClaim, RefusalsClaim}
 
 pub worked-card-claim : WorkedCardClaim
 unfolding card-opened rule-opened negated cardOf ruleBytes cardCall workedText
@@ -15,6 +15,10 @@ worked-card-claim = refl
 pub full-card-claim : FullCardClaim
 unfolding card-opened rule-opened negated cardOf ruleBytes cardCall fullText
 full-card-claim = refl
+
+pub truth-test-cards-claim : TruthTestCardsClaim
+unfolding card-opened rule-opened negated cardOf ruleBytes cardCall unknownText truthText
+truth-test-cards-claim = record { unknown = refl; every = refl }
 
 pub later-case-claim : LaterCaseClaim
 unfolding card-opened rule-opened
@@ -25,5 +29,5 @@ unfolding card-opened rule-opened negated cardOf ruleBytes cardCall thirdCard
 gate-case-claim = record { runs = refl; lists-3 = refl; lists-2 = refl; lists-1 = refl }
 
 pub refusals-claim : RefusalsClaim
-unfolding card-opened rule-opened negated cardOf ruleBytes cardCall workedText chained readRefusal refusalExamples
+unfolding card-opened rule-opened negated cardOf ruleBytes cardCall workedText chained unknownOf readRefusal refusalExamples
 refusals-claim = refl

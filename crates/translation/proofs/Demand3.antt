@@ -28,7 +28,7 @@ use Rattle.rule.specs.Sum.{entrySum}
 use Rattle.rule.specs.Meaning.{judged}
 use Rattle.rule.specs.Calls.{readingRefusals, Accepted, withRule, trueAt, trueRows}
 use Rattle.rule.specs.Claims.{AcceptedAs}
-use Rattle.rule.proofs.Accepted.{accepted-allowed, parts-claim}
+use Rattle.rule.proofs.Accepted.{accepted-named, parts-claim}
 use Rattle.translation.specs.Translation.{ruleCard}
 use Rattle.translation.specs.Calls.{ruleBytes, cardCall}
 use Rattle.translation.specs.Claims.{CardRefusedClaim, Demand3Claim}
@@ -71,7 +71,7 @@ module _ (text file : List ℕ) (accepted : Accepted text file) where
     card = ruleCard rule;
     bytes = refl;
     few = few-entries rule (accepted-as .few-entries);
-    sized = columns-fit file (is-so _ (accepted-allowed text file accepted .tables-sized));
+    sized = columns-fit file (is-so _ (accepted-named text file accepted .tables-sized));
     fits = card-fits (columnsOf file) rule AsNo judgedLevels (omega (arith, accepted-as .few-froms)) (accepted-as .fits);
   }
 

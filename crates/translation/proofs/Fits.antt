@@ -9,11 +9,12 @@ use lib.Ieee.Fits.{and-i}
 use lib.ListN.{length, length-append, List·getD-append}
 use Rattle.tables.specs.Bytes.{between}
 use Rattle.tables.specs.Values.{mostLevels, Value, Constant, Column, And, Or, Quantifier, Some, All, valueFits}
-use Rattle.card.specs.Card.{mostRowEntries, Interpretation, AsNo, CompareLeaf, MarkLeaf, Card, LeafEntry, PairEntry, RowEntry, rowEntryFits, cardFits}
-use Rattle.rule.specs.Condition.{Compare, Mark, Unary, Not, From, Single, Atom, Join, Apply, Exists, Listed, Rule, letters, fromsDeep}
+use Rattle.card.specs.Card.{mostRowEntries, Interpretation, AsNo, AsYes, CompareLeaf, MarkLeaf, Card, LeafEntry, PairEntry, RowEntry, rowEntryFits, cardFits}
+use Rattle.rule.specs.Truth.{False, Unknown, True}
+use Rattle.rule.specs.Condition.{Compare, Mark, Unary, Not, Is, IsNot, From, Single, Atom, Join, Apply, Exists, Listed, Rule, letters, fromsDeep}
 use Rattle.rule.specs.Names.{within, ValueFits, FromFits, Fits}
 use Rattle.rule.proofs.Fits.{value-tested}
-use Rattle.translation.specs.Translation.{other, negated, rowsCard, unaryCard, cardOf}
+use Rattle.translation.specs.Translation.{other, negated, rowsCard, unknownCard, unaryCard, cardOf}
 
 module _ (columns : List ℕ) where
   negated-fits : (c : Card) (levels : List ℕ) → cardFits columns levels (negated c) ≡ cardFits columns levels c
@@ -40,9 +41,19 @@ module _ (columns : List ℕ) where
   longer : (levels : List ℕ) (f : From ℕ) (n : ℕ) → length levels + (letters f + n) ≤ mostLevels → length (within levels f) + n ≤ mostLevels
   longer levels (Single t) n h = simp length-append (omega arith)
 
+  unknown-fits : (levels : List ℕ) (c : Interpretation → Card) → ((i : Interpretation) → T (cardFits columns levels (c i))) → T (cardFits columns levels (unknownCard c))
+  unfolding cardFits
+  unknown-fits levels c fits = and-i (cardFits columns levels (negated (c AsNo))) _ (rw negated-fits (fits AsNo)) (fits AsYes)
+
   unary-fits : (u : Unary) (i : Interpretation) (levels : List ℕ) (c : Interpretation → Card)
       → ((i : Interpretation) → T (cardFits columns levels (c i))) → T (cardFits columns levels (unaryCard u i c))
   unary-fits Not i levels c fits = rw negated-fits (fits (other i))
+  unary-fits (Is True) i levels c fits = fits _
+  unary-fits (IsNot True) i levels c fits = rw negated-fits (fits _)
+  unary-fits (Is False) i levels c fits = rw negated-fits (fits _)
+  unary-fits (IsNot False) i levels c fits = fits _
+  unary-fits (Is Unknown) i levels c fits = unknown-fits levels c fits
+  unary-fits (IsNot Unknown) i levels c fits = rw negated-fits (unknown-fits levels c fits)
 
   pub card-fits : (r : Rule) (i : Interpretation) (levels : List ℕ) → length levels + fromsDeep r ≤ mostLevels → Fits columns levels r → T (cardFits columns levels (cardOf i r))
   unfolding cardFits cardOf Fits fromsDeep

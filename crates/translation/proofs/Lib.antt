@@ -1,4 +1,5 @@
 pub mod Computed
+pub mod Negating
 pub mod Order
 pub mod Logic
 pub mod Says

@@ -1,4 +1,4 @@
--- The order of CARD's refusals, and that the orders of all calls rise.
+-- The order of CARD's refusals, and that the orders of CHECK, RUN and LIST rise.
 use mathlib.Core.Path.{refl}
 use mathlib.Core.Bool.{Bool, true, _&&_}
 use mathlib.Core.List.{List, [], _∷_, IsChain, IsChain·nil, IsChain·singleton, IsChain·cons-cons}
@@ -6,9 +6,7 @@ use Prim.Native.Nat.{ℕ, _<_}
 use lib.Dec.{T, ltb, ltb→lt}
 use Rattle.tables.proofs.Tests.{both}
 use Rattle.card.specs.Calls.{checkOrder, runOrder, listOrder}
-use Rattle.rule.specs.Calls.{readOrder, judgeOrder}
 use Rattle.rule.proofs.Opened.{opened as rule-opened}
-use Rattle.translation.specs.Calls.{cardOrder}
 use Rattle.translation.specs.Claims.{OrderClaim, RisingClaim}
 
 pub order-claim : OrderClaim
@@ -28,9 +26,6 @@ rising (a ∷ (b ∷ l)) t = let (less, rest) = both (ltb a b) (rises (b ∷ l))
 
 pub rising-claim : RisingClaim
 rising-claim = record {
-  reading = rising readOrder tt;
-  judging = rising judgeOrder tt;
-  making = rising cardOrder tt;
   checking = rising checkOrder tt;
   running = rising runOrder tt;
   listing = rising listOrder tt;

@@ -20,7 +20,7 @@ use Rattle.rule.specs.Condition.{Rule}
 use Rattle.rule.specs.Sum.{entrySum}
 use Rattle.rule.specs.declared.Part.{Part}
 use Rattle.rule.specs.Calls.{ruleOf, Accepted}
-use Rattle.rule.proofs.Accepted.{accepted-allowed, parts-claim}
+use Rattle.rule.proofs.Accepted.{accepted-named, parts-claim}
 use Rattle.rule.proofs.Calls.{calls-claim as rule-by-cases}
 use Rattle.translation.proofs.Demand3.{card-bytes-few, demand-3-claim}
 use Rattle.translation.specs.Claims.{RoomClaim}
@@ -51,7 +51,7 @@ room-claim = record {
       ap (λ (l : Lent Part). isGiven (l .result)) (rule-by-cases .read-given text file parts a (p .rule) (p .is-rule) (omega (arith, p .few-parts)));
   making = λ text file card a room.
       let d = demand-3-claim text file a in
-      let fits = is-so (sizesFit file) (accepted-allowed text file a .tables-sized) in
+      let fits = is-so (sizesFit file) (accepted-named text file a .tables-sized) in
       let short = card-bytes-few file (d .rule) (tables-few file fits) (few text file a (d .rule) (d .is-rule)) in
       ap (λ (l : Lent ℕ). isGiven (l .result)) (d .cards card .long (omega (arith, short)));
   listing = λ card file rows e room.

@@ -14,9 +14,9 @@ use Rattle.tables.specs.Tables.{Cell, Blank, Present, Row, Tables, rowsOf}
 use Rattle.tables.proofs.Rows.{any-kept}
 use Rattle.tables.specs.Values.{Value, Constant, Column, Comparison, Eq, Ne, Lt, Le, Gt, Ge, holds, And, Or, Quantifier, Some, All, MarkTest, Null, NotNull, Env, _▸_, cellOf, markPasses}
 use Rattle.card.specs.Card.{Interpretation, AsNo, AsYes, unknownSays, Leaf, CompareLeaf, MarkLeaf, Card, LeafEntry, PairEntry, RowEntry, compares, leafSays, overRows, answer}
-use Rattle.rule.specs.Condition.{Test, Compare, Mark, Unary, Not, From, Single, Atom, Join, Apply, Exists, Listed, Rule, letters}
+use Rattle.rule.specs.Condition.{Test, Compare, Mark, Unary, Not, Is, IsNot, From, Single, Atom, Join, Apply, Exists, Listed, Rule, letters}
 use Rattle.rule.specs.Names.{ValueScoped, Scoped}
-use Rattle.rule.specs.Truth.{Truth, isTrue}
+use Rattle.rule.specs.Truth.{Truth, False, Unknown, True, isTrue, isFalse, isUnknown}
 use Rattle.rule.specs.Meaning.{unary3, compare3, test3, ranged, meaning}
 use Rattle.translation.specs.Translation.{other, otherComparison, otherMark, otherLeaf, negated, leafOf, rowsCard, unaryCard, cardOf}
 use Rattle.translation.specs.Claims.{TranslationClaim}
@@ -79,10 +79,23 @@ leaf-says : (env : Env) (i : Interpretation) (x : Test Value) → leafSays env (
 leaf-says env i (Compare op l r) = compares-says i op (cellOf env l) (cellOf env r)
 leaf-says env i (Mark m l) = simp says-truth
 
+-- unknown is what is neither true nor false
+unknown-says : (v : Truth) → not (says AsNo v) && says AsYes v ≡ isUnknown v
+unknown-says False = refl
+unknown-says Unknown = refl
+unknown-says True = refl
+
 -- what is said of one condition, whose card says what it means in both interpretations
 unary-says : (ts : Tables) (env : Env) (u : Unary) (i : Interpretation) (c : Interpretation → Card) (v : Truth)
     → ((i : Interpretation) → answer ts env (c i) ≡ says i v) → answer ts env (unaryCard u i c) ≡ says i (unary3 u v)
+unfolding answer
 unary-says ts env Not i c v inner = simp (negated-not, says-not, inner (other i))
+unary-says ts env (Is True) i c v inner = simp (says-truth, isTrue-says, inner AsNo)
+unary-says ts env (IsNot True) i c v inner = simp (negated-not, says-truth, isTrue-says, inner AsNo)
+unary-says ts env (Is False) i c v inner = simp (negated-not, says-truth, isFalse-says, inner AsYes)
+unary-says ts env (IsNot False) i c v inner = simp (says-truth, isFalse-says, Bool·not-not, inner AsYes)
+unary-says ts env (Is Unknown) i c v inner = simp (negated-not, says-truth, ← unknown-says, inner AsNo, inner AsYes)
+unary-says ts env (IsNot Unknown) i c v inner = simp (negated-not, says-truth, ← unknown-says, inner AsNo, inner AsYes)
 
 -- ---- what a FROM ranges over
 

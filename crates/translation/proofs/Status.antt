@@ -39,7 +39,8 @@ module _ (rs : List Refusal) (above : Above (firstApplying rs)) where
   unfolding readingRefusals tablesRefusals
   reading-above text file =
       also-above 1 _ _ (omega arith) (also-above 2 _ _ (omega arith) (also-above 3 _ _ (omega arith) (also-above 4 _ _ (omega arith)
-      (also-above 5 _ _ (omega arith) (also-above 6 _ _ (omega arith) (also-above 7 _ _ (omega arith) (also-above 8 _ _ (omega arith) above)))))))
+      (also-above 5 _ _ (omega arith) (also-above 6 _ _ (omega arith) (also-above 7 _ _ (omega arith) (also-above 8 _ _ (omega arith)
+      (also-above 13 _ _ (omega arith) above))))))))
 
   gate-above : (card file : List ℕ) → Above (firstApplying (gateRefusals card file ++ rs))
   unfolding gateRefusals tablesRefusals checkRefusals

@@ -1,11 +1,11 @@
 -- CARD (document 01, What the product holds): which refusal, or which card bytes, for any text, tables and room.
-use mathlib.Core.List.{List, [], _∷_}
+use mathlib.Core.List.{List, [], _∷_, _++_}
 use Prim.Native.Nat.{ℕ}
 use Rattle.tables.specs.Tables.{columnsOf}
 use Rattle.tables.specs.Refusals.{Lent, lend}
 use Rattle.card.specs.Layout.{cardBytes}
 use Rattle.rule.specs.Condition.{Rule}
-use Rattle.rule.specs.Calls.{ruleOf, readingRefusals, withRule}
+use Rattle.rule.specs.Calls.{ruleOf, readingRefusals, readingOrder, withRule}
 use Rattle.translation.specs.Translation.{ruleCard}
 
 -- the card bytes of a rule, for the columns of a tables file
@@ -16,7 +16,6 @@ ruleBytes file r = cardBytes (columnsOf file) (ruleCard r)
 unfoldable pub cardCall : List ℕ → List ℕ → List ℕ → Lent ℕ
 cardCall text file buffer = lend (readingRefusals text file) (withRule (ruleOf text (columnsOf file)) [] (ruleBytes file)) buffer
 
--- the order of CARD's refusals, by their numbers: where several apply, the first in this list is given. By document 01 it is 'the lowest applying
--- number', so the list rises
+-- the order of CARD's refusals, by their numbers: where several apply, the first in this list is given. Those of reading come first
 abbrev pub cardOrder : List ℕ
-cardOrder = 1 ∷ 2 ∷ 3 ∷ 4 ∷ 5 ∷ 6 ∷ 7 ∷ 8 ∷ 12 ∷ []
+cardOrder = readingOrder ++ (12 ∷ [])

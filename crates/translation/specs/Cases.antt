@@ -1,4 +1,5 @@
--- Document 01, the worked card under Card and the examples of 'Gate says why not': their texts and bytes, and what is to come of them.
+-- Document 01, the worked card under Card and the examples of 'Gate says why not', and cards of document 02, Point 1: their texts and bytes, and what is to
+-- come of them.
 use mathlib.Core.List.{List, [], _∷_, _++_, map}
 use mathlib.Core.Option.{Option, none, some}
 use Prim.Native.Nat.{ℕ}
@@ -9,7 +10,7 @@ use Rattle.card.specs.Calls.{checkCall, runCall}
 use Rattle.rule.specs.Tokens.{bytes}
 use Rattle.rule.specs.Calls.{readCall, judgeCall}
 use Rattle.card.specs.Cases.{workedCard}
-use Rattle.rule.specs.Cases.{caseTables, chained, unused, partBy}
+use Rattle.rule.specs.Cases.{caseTables, chained, unknownOf, unused, partBy, truthCase}
 use Rattle.translation.specs.Calls.{cardCall}
 
 -- ---- the text and the tables of the worked card
@@ -50,6 +51,41 @@ fullCard =
     ∷ 16 ∷ 0 ∷ 0 ∷ 1 ∷ 0 ∷ 2 ∷ 0 ∷ 0 ∷ 0 ∷ 1 ∷ 1 ∷ 0 ∷ 0 ∷ 0
     ∷ []
 
+-- ---- the card of IS UNKNOWN, for the tables of the worked card; and one with every truth test, for those of the proved cases
+
+unfoldable pub unknownText : List ℕ
+unknownText = bytes "(m.3 > 0) IS UNKNOWN"
+
+-- and, then <= and >, both of kind 6
+abbrev pub unknownBytes : List ℕ
+unknownBytes =
+    3 ∷ 0 ∷ 1 ∷ 3
+    ∷ 1 ∷ 6 ∷ 6
+    ∷ 3 ∷ 0 ∷ 0 ∷ 0 ∷ 0 ∷ 0 ∷ 0 ∷ 0 ∷ 0 ∷ 0 ∷ 0 ∷ 0 ∷ 0 ∷ 0
+    ∷ 2 ∷ 0 ∷ 0 ∷ 4 ∷ 0 ∷ 3 ∷ 0 ∷ 0 ∷ 0 ∷ 255 ∷ 0 ∷ 0 ∷ 0 ∷ 0
+    ∷ 3 ∷ 0 ∷ 0 ∷ 5 ∷ 0 ∷ 3 ∷ 0 ∷ 0 ∷ 0 ∷ 255 ∷ 0 ∷ 0 ∷ 0 ∷ 0
+    ∷ []
+
+unfoldable pub truthText : List ℕ
+truthText = bytes (truthCase .text)
+
+abbrev pub truthBytes : List ℕ
+truthBytes =
+    11 ∷ 0 ∷ 3 ∷ 2 ∷ 1 ∷ 1
+    ∷ 2 ∷ 2 ∷ 1 ∷ 5 ∷ 8 ∷ 1 ∷ 6 ∷ 6 ∷ 2 ∷ 5 ∷ 5
+    ∷ 11 ∷ 0 ∷ 0 ∷ 0 ∷ 0 ∷ 0 ∷ 0 ∷ 0 ∷ 0 ∷ 0 ∷ 0 ∷ 0 ∷ 0 ∷ 0
+    ∷ 8 ∷ 0 ∷ 0 ∷ 0 ∷ 0 ∷ 0 ∷ 0 ∷ 0 ∷ 0 ∷ 0 ∷ 0 ∷ 0 ∷ 0 ∷ 0
+    ∷ 5 ∷ 0 ∷ 0 ∷ 0 ∷ 0 ∷ 0 ∷ 0 ∷ 0 ∷ 0 ∷ 0 ∷ 0 ∷ 0 ∷ 0 ∷ 0
+    ∷ 4 ∷ 0 ∷ 0 ∷ 1 ∷ 0 ∷ 1 ∷ 0 ∷ 0 ∷ 0 ∷ 255 ∷ 1 ∷ 0 ∷ 0 ∷ 0
+    ∷ 5 ∷ 0 ∷ 0 ∷ 0 ∷ 0 ∷ 2 ∷ 0 ∷ 0 ∷ 0 ∷ 0 ∷ 0 ∷ 0 ∷ 0 ∷ 0
+    ∷ 8 ∷ 0 ∷ 0 ∷ 0 ∷ 0 ∷ 0 ∷ 0 ∷ 0 ∷ 0 ∷ 0 ∷ 0 ∷ 0 ∷ 0 ∷ 0
+    ∷ 7 ∷ 0 ∷ 0 ∷ 4 ∷ 0 ∷ 2 ∷ 0 ∷ 0 ∷ 0 ∷ 255 ∷ 0 ∷ 0 ∷ 0 ∷ 0
+    ∷ 8 ∷ 0 ∷ 0 ∷ 5 ∷ 0 ∷ 2 ∷ 0 ∷ 0 ∷ 0 ∷ 255 ∷ 0 ∷ 0 ∷ 0 ∷ 0
+    ∷ 11 ∷ 0 ∷ 0 ∷ 0 ∷ 0 ∷ 0 ∷ 0 ∷ 0 ∷ 0 ∷ 0 ∷ 0 ∷ 0 ∷ 0 ∷ 0
+    ∷ 10 ∷ 0 ∷ 0 ∷ 1 ∷ 255 ∷ 1 ∷ 0 ∷ 0 ∷ 0 ∷ 255 ∷ 1 ∷ 0 ∷ 0 ∷ 0
+    ∷ 11 ∷ 0 ∷ 0 ∷ 2 ∷ 255 ∷ 1 ∷ 0 ∷ 0 ∷ 0 ∷ 255 ∷ 1 ∷ 0 ∷ 0 ∷ 0
+    ∷ []
+
 -- ---- a later file for the tables of the proved cases
 
 abbrev pub laterTables : List ℕ
@@ -83,7 +119,8 @@ threeRows = (1 ∷ 2 ∷ 3 ∷ 0 ∷ []) ++ replicate 30 0
 unfoldable pub readRefusal : List ℕ → List ℕ → Option ℕ
 readRefusal text file = refusalOf (readCall text file (replicate 64 (partBy 0 0 0 0 unused unused)) .result)
 
--- the examples of the table, in its order; 6 has two
+-- the examples of the table, in its order; 6 has two. Then 13 from each call that reads, before 11 and 12: seven IS UNKNOWN in one another, a sum of 255; and
+-- 11 and 12 where six of them, 127, are no reason to refuse
 unfoldable pub refusalExamples : List (Option ℕ)
 refusalExamples =
     readRefusal (bytes "1 = 1") (0 ∷ [])
@@ -99,7 +136,13 @@ refusalExamples =
     ∷ refusalOf (runCall workedCard threeRows 0)
     ∷ refusalOf (judgeCall (bytes "m.1 = 1") threeRows 3)
     ∷ refusalOf (cardCall workedText workedTables (replicate 18 0) .result)
+    ∷ readRefusal (unknownOf 7 (bytes "1 = 1")) emptyTables
+    ∷ refusalOf (readCall (unknownOf 7 (bytes "1 = 1")) emptyTables [] .result)
+    ∷ refusalOf (judgeCall (unknownOf 7 (bytes "1 = 1")) emptyTables 99)
+    ∷ refusalOf (cardCall (unknownOf 7 (bytes "1 = 1")) emptyTables [] .result)
+    ∷ refusalOf (judgeCall (unknownOf 6 (bytes "1 = 1")) emptyTables 99)
+    ∷ refusalOf (cardCall (unknownOf 6 (bytes "1 = 1")) emptyTables [] .result)
     ∷ []
 
 abbrev pub refusalNumbers : List (Option ℕ)
-refusalNumbers = map some (1 ∷ 2 ∷ 3 ∷ 4 ∷ 5 ∷ 6 ∷ 6 ∷ 7 ∷ 8 ∷ 9 ∷ 10 ∷ 11 ∷ 12 ∷ [])
+refusalNumbers = map some (1 ∷ 2 ∷ 3 ∷ 4 ∷ 5 ∷ 6 ∷ 6 ∷ 7 ∷ 8 ∷ 9 ∷ 10 ∷ 11 ∷ 12 ∷ 13 ∷ 13 ∷ 13 ∷ 13 ∷ 11 ∷ 12 ∷ [])

@@ -10,22 +10,22 @@ use Rattle.tables.specs.Claims.{BlanksDiffer}
 use Rattle.tables.specs.Values.{Env}
 use Rattle.tables.specs.Refusals.{Answer, Refused, Given, numbers, firstApplying, lendRefusals}
 use Rattle.tables.specs.Exports.{statusOf, isGiven}
-use Rattle.card.specs.Card.{AsNo, AsYes, Card, answer, entries}
+use Rattle.card.specs.Card.{Interpretation, AsNo, AsYes, Card, answer, entries}
 use Rattle.card.specs.Sound.{mostCardBytes}
 use Rattle.card.specs.Calls.{gateRefusals, checkOrder, runOrder, listOrder, checkCall, runCall, listCall}
 use Rattle.card.specs.Cases.{workedCard}
 use Rattle.rule.specs.Cases.{caseTables}
-use Rattle.rule.specs.Condition.{Rule}
+use Rattle.rule.specs.Condition.{Is, IsNot, Apply, Rule}
 use Rattle.rule.specs.declared.Part.{Part}
 use Rattle.rule.specs.Names.{mostParts, Scoped}
 use Rattle.rule.specs.Sum.{entrySum}
-use Rattle.rule.specs.Calls.{readingRefusals, Accepted, readCall, judgeCall, readOrder, judgeOrder, admitCall}
-use Rattle.rule.specs.Truth.{isTrue, isFalse}
+use Rattle.rule.specs.Calls.{readingRefusals, Accepted, readCall, judgeCall, admitCall}
+use Rattle.rule.specs.Truth.{Truth, isTrue, isFalse}
 use Rattle.rule.specs.Meaning.{meaning}
 use Rattle.translation.specs.Translation.{negated, cardOf, ruleCard}
 use Rattle.translation.specs.Calls.{cardCall, cardOrder}
 use Rattle.translation.specs.Demand3.{Later, Demand3For}
-use Rattle.translation.specs.Cases.{workedText, workedTables, fullText, fullCard, laterTables, thirdCard, refusalExamples, refusalNumbers}
+use Rattle.translation.specs.Cases.{workedText, workedTables, fullText, fullCard, unknownText, unknownBytes, truthText, truthBytes, laterTables, thirdCard, refusalExamples, refusalNumbers}
 
 -- for every rule whose levels exist, all tables and rows: false-interpreted, the card says yes exactly where the rule is true;
 -- true-interpreted, it says no exactly where the rule is false; and negating any card negates its answer
@@ -33,6 +33,11 @@ pub record TranslationClaim : Type 0 where
   pub yes-is-true : (ts : Tables) (env : Env) (r : Rule) → Scoped (length env) r → answer ts env (cardOf AsNo r) ≡ isTrue (meaning ts env r)
   pub no-is-false : (ts : Tables) (env : Env) (r : Rule) → Scoped (length env) r → not (answer ts env (cardOf AsYes r)) ≡ isFalse (meaning ts env r)
   pub negates : (ts : Tables) (env : Env) (c : Card) → answer ts env (negated c) ≡ not (answer ts env c)
+
+-- the truth tests' cards: the same in either interpretation around them; and of IS NOT the negated card of IS, with each of the three words
+pub record TruthCardsClaim : Type 0 where
+  pub either : (t : Truth) (i i′ : Interpretation) (a : Rule) → cardOf i (Apply (Is t) a) ≡ cardOf i′ (Apply (Is t) a)
+  pub negation : (t : Truth) (i : Interpretation) (a : Rule) → cardOf i (Apply (IsNot t) a) ≡ negated (cardOf i (Apply (Is t) a))
 
 -- the number of a card's entries is what the rule's own definitions count, which is the published sum (PublishedSumClaim of the crate rule)
 abbrev pub SumClaim : Type 0
@@ -45,6 +50,11 @@ WorkedCardClaim = cardCall workedText workedTables (replicate 21 7) ≡ record {
 -- a card with every kind; 3 + 3 + 15 × 16 bytes
 abbrev pub FullCardClaim : Type 0
 FullCardClaim = cardCall fullText caseTables (replicate 246 7) ≡ record { result = Given 246; buffer = fullCard }
+
+-- the card of IS UNKNOWN around one comparison, 3 + 1 + 15 × 3 bytes; and a card with every truth test, 3 + 3 + 15 × 11 bytes
+pub record TruthTestCardsClaim : Type 0 where
+  pub unknown : cardCall unknownText workedTables (replicate 49 7) ≡ record { result = Given 49; buffer = unknownBytes }
+  pub every : cardCall truthText caseTables (replicate 171 7) ≡ record { result = Given 171; buffer = truthBytes }
 
 -- case 3 through RUN and LIST: with room for three rows, for two and for one
 pub record GateCaseClaim : Type 0 where
@@ -79,11 +89,9 @@ CardRefusedClaim = (text file buffer : List ℕ) (n : ℕ) → firstApplying (re
 abbrev pub OrderClaim : Type 0
 OrderClaim = (text file answer buffer : List ℕ) → numbers (lendRefusals (readingRefusals text file) answer buffer) ≡ cardOrder
 
--- the published orders of the calls rise, and so the first that applies is the lowest (LowestClaim of the crate tables)
+-- the published orders of CHECK, RUN and LIST rise, and so the first that applies is the lowest (LowestClaim of the crate tables); those of READ, JUDGE and
+-- CARD do not, since 13 comes before 11 and 12
 pub record RisingClaim : Type 0 where
-  pub reading : IsChain _<_ readOrder
-  pub judging : IsChain _<_ judgeOrder
-  pub making : IsChain _<_ cardOrder
   pub checking : IsChain _<_ checkOrder
   pub running : IsChain _<_ runOrder
   pub listing : IsChain _<_ listOrder

@@ -1,8 +1,9 @@
--- Document 01, Card: the card of a rule, in its two interpretations.
+-- Document 01, Card, with the truth tests of document 02, Point 1: the card of a rule, in its two interpretations.
 use Prim.Native.Nat.{ℕ}
 use Rattle.tables.specs.Values.{Comparison, Eq, Ne, Lt, Le, Gt, Ge, Value, Connective, And, Or, Quantifier, Some, All, MarkTest, Null, NotNull}
 use Rattle.card.specs.Card.{Interpretation, AsNo, AsYes, Leaf, CompareLeaf, MarkLeaf, Card, LeafEntry, PairEntry, RowEntry}
-use Rattle.rule.specs.Condition.{Test, Compare, Mark, Unary, Not, From, Single, Atom, Join, Apply, Exists, Listed, Rule}
+use Rattle.rule.specs.Truth.{False, Unknown, True}
+use Rattle.rule.specs.Condition.{Test, Compare, Mark, Unary, Not, Is, IsNot, From, Single, Atom, Join, Apply, Exists, Listed, Rule}
 
 -- ---- the two interpretations
 
@@ -59,9 +60,21 @@ abbrev pub listCard : Quantifier → From ℕ → Card → Card → Card
 listCard Some f w c = rowsCard Some f (PairEntry And w c)
 listCard All f w c = rowsCard All f (PairEntry Or (negated w) c)
 
--- the card around a condition, of which inner is the card in each interpretation: NOT takes the other interpretation, and negates that
+-- 'IS UNKNOWN gives and, then the negated false-interpretation, then the true-interpretation': not true, and not false
+abbrev pub unknownCard : (Interpretation → Card) → Card
+unknownCard inner = PairEntry And (negated (inner AsNo)) (inner AsYes)
+
+-- the card around a condition, of which inner is the card in each interpretation: NOT takes the other interpretation, and negates that. A truth test is never
+-- unknown, so its card is the same in either interpretation: IS TRUE is the false-interpretation, which says yes exactly where the condition is true, IS NOT
+-- FALSE the true-interpretation, which says no exactly where it is false; 'IS NOT UNKNOWN is the negation' of IS UNKNOWN
 abbrev pub unaryCard : Unary → Interpretation → (Interpretation → Card) → Card
 unaryCard Not i inner = negated (inner (other i))
+unaryCard (Is True) i inner = inner AsNo
+unaryCard (IsNot True) i inner = negated (inner AsNo)
+unaryCard (Is False) i inner = negated (inner AsYes)
+unaryCard (IsNot False) i inner = inner AsYes
+unaryCard (Is Unknown) i inner = unknownCard inner
+unaryCard (IsNot Unknown) i inner = negated (unknownCard inner)
 
 -- EXISTS asks for a row of its WHERE. Every WHERE is false-interpreted, whatever is around it, before any negating.
 unfoldable pub cardOf : Interpretation → Rule → Card

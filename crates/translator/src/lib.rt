@@ -11,11 +11,11 @@ ghost use Rattle.cells.specs.Code.{Sized};
 ghost use Rattle.translation.specs.Calls.{cardCall};
 ghost use Rattle.translator.specs.Answers.{madeAnswer};
 ghost use Rattle.translator.specs.Code.{CardReady, CardWritten};
-use card::MOST_ENTRIES;
 use card::RECORD_SIZE;
 use cells::Reason;
 use names::PART_NUMBERS;
 use parser::Parsed;
+use tables::MOST_ENTRIES;
 
 // The sizes of a card: its entries, its tables, and the columns of each.
 fn write_sizes(file: &[u8], entries: usize, out: &mut [u8])

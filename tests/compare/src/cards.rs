@@ -237,10 +237,10 @@ fn bad_end(draw: &mut Draw, sheet: &mut Sheet) {
     sheet.bytes[at..at + 2].copy_from_slice(&(other as u16).to_le_bytes());
 }
 
-/// A kind that there is not, or another one with fields of the first.
+/// A kind that there is not, though parts have some of these, or another one with fields of the first.
 fn bad_kind(draw: &mut Draw, sheet: &mut Sheet) {
     let at = sheet.kind_at(draw.below(sheet.count));
-    sheet.bytes[at] = draw.pick(&[0, 9, 255, 1, 2, 3, 4, 5, 6, 7, 8]);
+    sheet.bytes[at] = draw.pick(&[0, 9, 10, 14, 255, 1, 2, 3, 4, 5, 6, 7, 8]);
 }
 
 fn bad_table(draw: &mut Draw, sheet: &mut Sheet) {

@@ -2,17 +2,23 @@
 
 use crate::draw::Draw;
 use crate::limits::{MOST_OPEN, MOST_PARTS, MOST_TEXT_BYTES};
-use crate::rules::{self, Bounds, Token, SIGNS};
+use crate::rules::{self, Bounds};
 use crate::tables::Size;
+use crate::tokens::{self, Token, SIGNS};
+use crate::truths;
 
-const WORDS: [&str; 12] = ["AND", "OR", "NOT", "EXISTS", "IN", "SOME", "ALL", "IS", "NULL", "SELECT", "FROM", "WHERE"];
+#[rustfmt::skip]
+const WORDS: [&str; 15] = [
+    "AND", "OR", "NOT", "EXISTS", "IN", "SOME", "ALL", "IS", "NULL", "SELECT", "FROM", "WHERE", "TRUE", "FALSE", "UNKNOWN",
+];
 const LOOSE: [&str; 16] = ["(", ")", ".", "(", ")", ".", "m", "m", "v", "k", "1", "1", "2", "0", "-1", "3"];
 
 /// What is no token, or reads as more than one.
 #[rustfmt::skip]
-const NO_TOKENS: [&str; 32] = [
-    "AN", "NOTNOT", "ANDOR", "ISNULL", "A", "Z", "@", "\t", "\r", "\0", "\u{b}", "-", "--1", "- 1", "==", "!=", ",", "+1", "[", "`", "{",
-    "/", ":", ";", "'", "<=>", "=<", "00000000001", "-00000000001", "2147483648", "-2147483649", "9999999999",
+const NO_TOKENS: [&str; 36] = [
+    "AN", "NOTNOT", "ANDOR", "ISNULL", "ISTRUE", "TRUEFALSE", "NOTUNKNOWN", "UNKNOW", "A", "Z", "@", "\t", "\r", "\0", "\u{b}", "-",
+    "--1", "- 1", "==", "!=", ",", "+1", "[", "`", "{", "/", ":", ";", "'", "<=>", "=<",
+    "00000000001", "-00000000001", "2147483648", "-2147483649", "9999999999",
 ];
 
 /// Numbers about the ends of the range and about ten digits.
@@ -23,10 +29,10 @@ const EDGE_NUMBERS: [&str; 14] = [
 ];
 
 /// Bytes that rules are made of, and a few beside them.
-const USEFUL_BYTES: &[u8] = b"ANDORTISEXULFMWHC mvk.12-0()<>=\n 19A(:/`{@[\t";
+const USEFUL_BYTES: &[u8] = b"ANDORTISEXULFMWHCK mvk.12-0()<>=\n 19A(:/`{@[\t";
 
 /// The small examples of the table of refusals, and rules of the proved cases.
-const EXAMPLES: [&str; 18] = [
+const EXAMPLES: [&str; 25] = [
     "",
     "m.1 =",
     "m.1 = 2147483648",
@@ -45,15 +51,23 @@ const EXAMPLES: [&str; 18] = [
     "NOT EXISTS (FROM 2 v WHERE v.1 > 1)",
     "m.1 = SOME (SELECT m.1 FROM 2 m WHERE m.1 = 1)",
     "m.2=ALL(SELECT v.1 FROM 2 v WHERE v.1 IS NULL)",
+    "(m.2 > 0) IS UNKNOWN",
+    "(m.2 > 0) IS NOT TRUE",
+    "(m.1 IN (SELECT v.1 FROM 2 v WHERE 1 = 1)) IS NOT UNKNOWN",
+    "EXISTS (FROM 2 v WHERE (v.1 = m.1) IS NOT FALSE)",
+    "((1 = 1) IS TRUE) IS TRUE",
+    "(1 = 1) IS TRUE IS TRUE",
+    "EXISTS (FROM 2 v WHERE 1 = 1) IS TRUE",
 ];
 
 /// A text of the paper's own, or its nearest neighbour.
 pub fn example(draw: &mut Draw) -> Vec<u8> {
-    match draw.below(EXAMPLES.len() + 3) {
+    match draw.below(EXAMPLES.len() + 4) {
         0 => vec![b' '; MOST_TEXT_BYTES + 1],
         1 => vec![b'('; MOST_OPEN + 1],
         2 => ["1 = 1"; MOST_PARTS / 2 + 1].join(" OR ").into_bytes(),
-        place => EXAMPLES[place - 3].into(),
+        3 => [&"(".repeat(7), "m.2 > 0", &") IS UNKNOWN".repeat(7)].concat().into_bytes(),
+        place => EXAMPLES[place - 4].into(),
     }
 }
 
@@ -63,7 +77,7 @@ fn loose(draw: &mut Draw) -> Token {
         0 => Token::new(draw.pick(&WORDS)),
         1 => Token::new(draw.pick(&SIGNS)),
         2 => Token::new(draw.pick(&LOOSE)),
-        _ => rules::number(draw),
+        _ => tokens::number(draw),
     }
 }
 
@@ -71,7 +85,7 @@ fn loose(draw: &mut Draw) -> Token {
 pub fn soup(draw: &mut Draw) -> Vec<u8> {
     let count = if draw.percent(95) { draw.below(14) } else { draw.below(900) };
     let tokens: Vec<Token> = (0..count).map(|_| loose(draw)).collect();
-    rules::loosely_spaced(draw, &tokens)
+    tokens::loosely_spaced(draw, &tokens)
 }
 
 /// Any bytes, or any of those that rules are made of.
@@ -139,9 +153,9 @@ pub fn damaged_bytes(draw: &mut Draw, mut text: Vec<u8>) -> Vec<u8> {
 /// A rule with one byte more between two tokens, any of all 256: few of them are gaps or tokens.
 pub fn stray_byte(draw: &mut Draw, tokens: &[Token]) -> Vec<u8> {
     let (before, behind) = tokens.split_at(draw.below(tokens.len() + 1));
-    let mut text = rules::spaced(draw, before);
+    let mut text = tokens::spaced(draw, before);
     text.push(draw.word() as u8);
-    text.extend(rules::spaced(draw, behind));
+    text.extend(tokens::spaced(draw, behind));
     text
 }
 
@@ -152,7 +166,7 @@ pub fn near_limit(draw: &mut Draw, sizes: &[Size], bounds: Bounds) -> Vec<u8> {
         0 => {
             let parts = draw.between(MOST_PARTS - 1, MOST_PARTS + 2);
             let tokens = rules::rule(draw, sizes, parts, bounds);
-            rules::spaced(draw, &tokens)
+            tokens::spaced(draw, &tokens)
         }
         1 => many_nots(draw, sizes, bounds),
         2 => deep_froms(draw, sizes),
@@ -160,17 +174,17 @@ pub fn near_limit(draw: &mut Draw, sizes: &[Size], bounds: Bounds) -> Vec<u8> {
         4 => {
             let tokens = rules::rule(draw, sizes, parts, bounds);
             let length = draw.between(MOST_TEXT_BYTES - 1, MOST_TEXT_BYTES + 2);
-            rules::stretched(draw, &tokens, length)
+            tokens::stretched(draw, &tokens, length)
         }
         5 => {
             let mut tokens = rules::rule(draw, sizes, parts, bounds);
             edge_number(draw, &mut tokens);
-            rules::spaced(draw, &tokens)
+            tokens::spaced(draw, &tokens)
         }
         6 => {
             let mut tokens = rules::rule(draw, sizes, parts, bounds);
             absent_name(draw, &mut tokens, sizes);
-            rules::spaced(draw, &tokens)
+            tokens::spaced(draw, &tokens)
         }
         _ => vast(draw),
     }
@@ -192,6 +206,9 @@ fn vast(draw: &mut Draw) -> Vec<u8> {
         ("", "m.", "1=1"),
         ("1", "=1", ""),
         ("1=", "0 ", ""),
+        ("(1=1)", " IS TRUE", ""),
+        ("(1=1)IS", " NOT", " FALSE"),
+        ("(m.1=1)IS UNKNOWN", " OR(1=1)IS UNKNOWN", ""),
     ]);
     let most = (MOST_TEXT_BYTES - first.len() - last.len()) / again.len();
     let times = if draw.percent(50) { most + draw.below(2) } else { draw.between(0, most) };
@@ -213,7 +230,7 @@ fn many_nots(draw: &mut Draw, sizes: &[Size], bounds: Bounds) -> Vec<u8> {
     if bracketed {
         tokens.push(Token::new(")"));
     }
-    rules::spaced(draw, &tokens)
+    tokens::spaced(draw, &tokens)
 }
 
 /// FROMs around one another, two to five of them, beside other tests.
@@ -240,7 +257,7 @@ fn deep_froms(draw: &mut Draw, sizes: &[Size]) -> Vec<u8> {
 }
 
 /// The most brackets that stand open at some token. Closing ones count even where none is open.
-fn most_open(tokens: &[Token]) -> usize {
+pub fn most_open(tokens: &[Token]) -> usize {
     let (mut open, mut most) = (0i64, 0);
     for token in tokens {
         open += i64::from(token.is("(")) - i64::from(token.is(")"));
@@ -265,7 +282,7 @@ fn many_brackets(draw: &mut Draw, sizes: &[Size], bounds: Bounds) -> Vec<u8> {
     wrapped.append(&mut tokens);
     let closing = if draw.percent(85) { count } else { draw.pick(&[0, count.saturating_sub(1), count + 1]) };
     wrapped.extend(vec![Token::new(")"); closing]);
-    rules::spaced(draw, &wrapped)
+    tokens::spaced(draw, &wrapped)
 }
 
 /// The place of a token that fits, if there is one.
@@ -282,7 +299,7 @@ fn edge_number(draw: &mut Draw, tokens: &mut [Token]) {
 }
 
 /// A letter, a column or a table becomes one that may be absent.
-fn absent_name(draw: &mut Draw, tokens: &mut [Token], sizes: &[Size]) {
+pub fn absent_name(draw: &mut Draw, tokens: &mut [Token], sizes: &[Size]) {
     let named = |place: usize| tokens[place].is_letter() || (place > 0 && (tokens[place - 1].is(".") || tokens[place - 1].is("FROM")));
     let Some(place) = place_of(draw, tokens, named) else { return };
     tokens[place] = if tokens[place].is_letter() {
@@ -301,7 +318,7 @@ pub fn several_faults(draw: &mut Draw, sizes: &[Size], bounds: Bounds) -> Vec<u8
     let parts = draw.between(1, 8);
     let mut tokens = rules::rule(draw, sizes, parts, bounds);
     let mut long = false;
-    let mut faults = [3, 4, 5, 6, 7, 8];
+    let mut faults = [3, 4, 5, 6, 7, 8, 13];
     for place in 0..draw.between(2, 3) {
         let other = draw.between(place, faults.len() - 1);
         faults.swap(place, other);
@@ -314,14 +331,15 @@ pub fn several_faults(draw: &mut Draw, sizes: &[Size], bounds: Bounds) -> Vec<u8
             5 => too_many_brackets(draw, &mut tokens),
             6 => damage_once(draw, &mut tokens),
             7 => too_large(draw, &mut tokens),
+            13 => truths::too_heavy(draw, &mut tokens),
             _ => absent_name(draw, &mut tokens, sizes),
         }
     }
     if long {
         let length = draw.between(MOST_TEXT_BYTES, MOST_TEXT_BYTES + 2);
-        return rules::stretched(draw, &tokens, length);
+        return tokens::stretched(draw, &tokens, length);
     }
-    rules::spaced(draw, &tokens)
+    tokens::spaced(draw, &tokens)
 }
 
 /// More brackets than may stand open, around everything, or opening ones alone somewhere.

@@ -4,7 +4,7 @@ use crate::draw::Draw;
 use crate::limits::{card_bytes, MOST_ENTRIES, MOST_PARTS, MOST_ROWS, MOST_TABLES, MOST_TEXT_BYTES};
 use crate::rules::{self, Bounds};
 use crate::tables::{self, Size};
-use crate::{cards, faults};
+use crate::{cards, faults, tokens, truths};
 
 #[derive(Clone, Copy, PartialEq, Eq, Debug)]
 pub enum Call {
@@ -108,39 +108,40 @@ fn right_text(draw: &mut Draw, sizes: &[Size], bounds: Bounds) -> Vec<u8> {
     let tokens = rules::rule(draw, sizes, parts, bounds);
     if draw.below(200) == 0 {
         let length = draw.between(3000, MOST_TEXT_BYTES);
-        return rules::stretched(draw, &tokens, length);
+        return tokens::stretched(draw, &tokens, length);
     }
-    rules::spaced(draw, &tokens)
+    tokens::spaced(draw, &tokens)
 }
 
 /// A text that is mostly refused, or near to be.
 fn other_text(draw: &mut Draw, sizes: &[Size], bounds: Bounds) -> Vec<u8> {
-    match draw.weighted(&[16, 13, 40, 15, 5, 4, 7]) {
+    match draw.weighted(&[16, 13, 40, 20, 5, 4, 7, 40]) {
         0 => {
             let parts = draw.between(1, 8);
             let mut tokens = rules::rule(draw, sizes, parts, bounds);
             faults::damaged_tokens(draw, &mut tokens);
             if draw.percent(70) {
-                rules::spaced(draw, &tokens)
+                tokens::spaced(draw, &tokens)
             } else {
-                rules::loosely_spaced(draw, &tokens)
+                tokens::loosely_spaced(draw, &tokens)
             }
         }
         1 => {
             let parts = draw.between(1, 8);
             let tokens = rules::rule(draw, sizes, parts, bounds);
-            let text = rules::spaced(draw, &tokens);
+            let text = tokens::spaced(draw, &tokens);
             faults::damaged_bytes(draw, text)
         }
         2 => faults::near_limit(draw, sizes, bounds),
         3 => faults::several_faults(draw, sizes, bounds),
         4 => faults::soup(draw),
         5 => faults::random_bytes(draw),
-        _ => {
+        6 => {
             let parts = draw.between(1, 4);
             let tokens = rules::rule(draw, sizes, parts, bounds);
             faults::stray_byte(draw, &tokens)
         }
+        _ => truths::text(draw, sizes, bounds),
     }
 }
 
@@ -185,9 +186,14 @@ fn sound_card(draw: &mut Draw, sizes: &[Size], bounds: Bounds) -> Vec<u8> {
 
 /// The card of a drawn rule. Only the columns of the tables count for it, so tables without rows are enough to make it.
 fn rule_card(draw: &mut Draw, sizes: &[Size], bounds: Bounds) -> Option<Vec<u8>> {
-    let parts = part_count(draw, sizes);
-    let tokens = rules::rule(draw, sizes, parts, bounds);
-    let text = rules::spaced(draw, &tokens);
+    let tokens = if draw.percent(4) {
+        let sum = draw.between(MOST_ENTRIES / 2, MOST_ENTRIES);
+        rules::rule_of_sum(draw, sizes, sum, bounds)
+    } else {
+        let parts = part_count(draw, sizes);
+        rules::rule(draw, sizes, parts, bounds)
+    };
+    let text = tokens::spaced(draw, &tokens);
     let empty: Vec<Size> = sizes.iter().map(|size| Size { rows: 0, ..*size }).collect();
     let mut card = [0; MOST_CARD_BYTES];
     let length = reference::card(&text, &tables::head(&empty), &mut card).ok()?;

@@ -1,4 +1,4 @@
-//! The limits of document 01 that inputs are drawn around.
+//! The limits of document 01 that inputs are drawn around. Document 02 has one of them for the sum of a rule's entries too.
 
 /// Bytes of a text.
 pub const MOST_TEXT_BYTES: usize = 4096;

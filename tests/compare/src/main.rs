@@ -17,6 +17,8 @@ mod limits;
 mod outcomes;
 mod rules;
 mod tables;
+mod tokens;
+mod truths;
 
 use calls::Space;
 use outcomes::Tally;

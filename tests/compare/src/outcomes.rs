@@ -10,7 +10,7 @@ pub enum Outcome {
 }
 
 /// The highest number of a refusal.
-const REFUSALS: usize = 12;
+const REFUSALS: usize = 13;
 
 /// The most sorts of answers that a call has.
 const SORTS: usize = 3;
@@ -27,11 +27,11 @@ fn answers(call: Call) -> &'static [&'static str] {
     }
 }
 
-/// The refusals that a call can give.
+/// The refusals that a call can give, in the order in which it looks for them.
 fn refusals(call: Call) -> &'static [u32] {
     match call {
-        Call::Read | Call::Card => &[1, 2, 3, 4, 5, 6, 7, 8, 12],
-        Call::Judge => &[1, 2, 3, 4, 5, 6, 7, 8, 11],
+        Call::Read | Call::Card => &[1, 2, 3, 4, 5, 6, 7, 8, 13, 12],
+        Call::Judge => &[1, 2, 3, 4, 5, 6, 7, 8, 13, 11],
         Call::Check => &[9],
         Call::Run => &[1, 2, 9, 10, 11],
         Call::List => &[1, 2, 9, 10, 12],

@@ -1,64 +1,15 @@
-//! Drawing of rules from the grammar, as tokens, and of the gaps between the tokens.
+//! Drawing of rules from the grammar, as tokens: of so many parts, or with so many entries on their card.
 
 use crate::draw::Draw;
 use crate::limits::{MOST_OPEN, MOST_PARTS};
 use crate::tables::{self, Size};
-use std::io::Write;
-
-pub const SIGNS: [&str; 6] = ["=", "<>", "<", "<=", ">", ">="];
-
-/// One token as it is written. It holds its own bytes, so that lists of tokens are cheap to make and to change.
-#[derive(Clone, Copy)]
-pub struct Token {
-    bytes: [u8; 15],
-    length: u8,
-}
-
-impl Token {
-    /// A token of at most 15 bytes.
-    pub fn new(written: &str) -> Token {
-        let mut bytes = [0; 15];
-        bytes[..written.len()].copy_from_slice(written.as_bytes());
-        Token { bytes, length: written.len() as u8 }
-    }
-
-    /// A number, its digits filled up with zeros in front to a width.
-    pub fn number(value: i64, width: usize) -> Token {
-        let mut bytes = [0; 15];
-        let sign = if value < 0 { "-" } else { "" };
-        let mut rest = &mut bytes[..];
-        write!(rest, "{}{:0width$}", sign, value.unsigned_abs(), width = width).expect("a number of at most 15 bytes");
-        let length = 15 - rest.len() as u8;
-        Token { bytes, length }
-    }
-
-    pub fn letter(letter: u8) -> Token {
-        let mut bytes = [0; 15];
-        bytes[0] = letter;
-        Token { bytes, length: 1 }
-    }
-
-    pub fn bytes(&self) -> &[u8] {
-        &self.bytes[..self.length as usize]
-    }
-
-    pub fn is(&self, written: &str) -> bool {
-        self.bytes() == written.as_bytes()
-    }
-
-    pub fn is_number(&self) -> bool {
-        self.bytes()[self.length as usize - 1].is_ascii_digit()
-    }
-
-    pub fn is_letter(&self) -> bool {
-        self.bytes[0].is_ascii_lowercase()
-    }
-}
+use crate::tokens::{self, Token, SIGNS};
 
 /// What keeps a drawn rule in its bounds.
 #[derive(Clone, Copy)]
 pub struct Bounds {
-    /// How often a rule's parts may be evaluated for one answer, together: the product of the rows around each part.
+    /// How often a rule's parts may be evaluated for one answer, together: the product of the rows around each part, and of 2 for
+    /// each IS UNKNOWN and IS NOT UNKNOWN around it, as a card has what these test twice.
     pub steps: usize,
     /// How many rows are judged for one answer.
     pub judged: usize,
@@ -78,10 +29,15 @@ struct Maker<'a> {
     open: usize,
     /// Evaluations of a part that stands here.
     steps: usize,
-    /// How often, in a hundred, a NOT, needless brackets and a FROM are drawn.
+    /// How often a card has the entries of a part that stands here.
+    copies: usize,
+    /// What a condition's parts, times their copies, may come to where it is tested by IS UNKNOWN or IS NOT UNKNOWN.
+    entries: usize,
+    /// How often, in a hundred, a NOT, needless brackets, a FROM and a truth test are drawn.
     nots: usize,
     brackets: usize,
     froms: usize,
+    truths: usize,
 }
 
 /// A number of parts, mostly small, at most as many as a rule has.
@@ -97,21 +53,27 @@ pub fn part_count(draw: &mut Draw) -> usize {
 
 /// The tokens of a rule of exactly so many parts, for tables of these sizes.
 pub fn rule(draw: &mut Draw, sizes: &[Size], parts: usize, bounds: Bounds) -> Vec<Token> {
-    let (nots, brackets, froms) = (draw.pick(&[3, 10, 25, 60]), draw.pick(&[0, 5, 15, 50]), draw.pick(&[0, 50, 70, 85, 95]));
-    let steps = bounds.judged.max(1);
-    let tokens = Vec::with_capacity(8 * parts);
-    let mut maker = Maker { draw, sizes, bounds, tokens, scope: vec![(b'm', 0)], open: 0, steps, nots, brackets, froms };
+    let mut maker = Maker::new(draw, sizes, bounds);
     maker.condition(parts);
     maker.tokens
 }
 
-/// A number as it may be written: with zeros in front, and `-0` for 0.
-pub fn number(draw: &mut Draw) -> Token {
-    let value = tables::value(draw);
-    match draw.below(32) {
-        0 => Token::number(i64::from(value), draw.between(2, 10)),
-        1 => Token::new(draw.pick(&["-0", "-00", "0000000000", "-0000000000", "-2147483648", "2147483647", "-0000000002"])),
-        _ => Token::number(i64::from(value), 1),
+/// The tokens of a rule whose card would have this many entries, mostly by IS UNKNOWN and IS NOT UNKNOWN around one another. It has
+/// a few fewer where the sum asks for a FROM that cannot stand.
+pub fn rule_of_sum(draw: &mut Draw, sizes: &[Size], sum: usize, bounds: Bounds) -> Vec<Token> {
+    let mut maker = Maker::new(draw, sizes, bounds);
+    maker.of_sum(sum);
+    maker.tokens
+}
+
+impl<'a> Maker<'a> {
+    fn new(draw: &'a mut Draw, sizes: &'a [Size], bounds: Bounds) -> Maker<'a> {
+        let (nots, brackets, entries) = (draw.pick(&[3, 10, 25, 60]), draw.pick(&[0, 5, 15, 50]), draw.pick(&[20, 60, 120, 300, 900]));
+        // where a table has many rows a rule has few parts, and most of these rules are to go through them
+        let tall = tables::is_tall(sizes) && draw.percent(60);
+        let (froms, truths) = if tall { (95, 0) } else { (draw.pick(&[0, 50, 70, 85, 95]), draw.pick(&[0, 15, 30, 60])) };
+        let (tokens, scope, steps) = (Vec::with_capacity(64), vec![(b'm', 0)], bounds.judged.max(1));
+        Maker { draw, sizes, bounds, tokens, scope, open: 0, steps, copies: 1, entries, nots, brackets, froms, truths }
     }
 }
 
@@ -176,13 +138,40 @@ impl Maker<'_> {
     fn test(&mut self, parts: usize) {
         if parts == 1 && (self.open == MOST_OPEN || !self.draw.percent(self.brackets)) {
             self.plain_test();
+        } else if parts > 1 && self.draw.percent(self.truths) {
+            let twice = self.draw.percent(45) && self.fits_twice(parts - 1);
+            self.truth_test(twice, |maker| maker.condition(parts - 1));
         } else if let Some(table) = self.source(parts) {
-            self.subquery(table, parts - 1);
+            let exists = self.draw.percent(35);
+            self.subquery(table, exists, |maker| maker.condition(parts - 1));
         } else {
             self.open();
             self.condition(parts);
             self.close();
         }
+    }
+
+    /// Whether so many parts may stand here twice.
+    fn fits_twice(&self, parts: usize) -> bool {
+        2 * self.copies * parts <= self.entries && 2 * self.steps * parts <= self.bounds.steps
+    }
+
+    /// A truth test of what is drawn inside. `twice`: whether it is one that uses that twice.
+    fn truth_test(&mut self, twice: bool, inside: impl FnOnce(&mut Self)) {
+        let (steps, copies) = (self.steps, self.copies);
+        if twice {
+            (self.steps, self.copies) = (2 * steps, 2 * copies);
+        }
+        self.open();
+        inside(self);
+        self.close();
+        (self.steps, self.copies) = (steps, copies);
+        self.push("IS");
+        if self.draw.percent(50) {
+            self.push("NOT");
+        }
+        let word = if twice { "UNKNOWN" } else { self.draw.pick(&["TRUE", "FALSE"]) };
+        self.push(word);
     }
 
     /// A test without an inner condition.
@@ -201,17 +190,25 @@ impl Maker<'_> {
 
     /// The place of a table for a FROM, if one is to stand here, and can, and is not too long to go through.
     fn source(&mut self, parts: usize) -> Option<usize> {
-        if parts == 1 || self.scope.len() > self.bounds.froms || !self.draw.percent(self.froms) {
+        if parts > 1 && self.draw.percent(self.froms) {
+            self.possible_source(parts)
+        } else {
+            None
+        }
+    }
+
+    /// The place of a table for a FROM, if one can stand here around so many parts or entries and is not too long to go through.
+    fn possible_source(&mut self, count: usize) -> Option<usize> {
+        if self.scope.len() > self.bounds.froms {
             return None;
         }
         let table = self.draw.below(self.sizes.len());
         let steps = self.steps * self.sizes[table].rows.max(1);
-        (steps * parts <= self.bounds.steps).then_some(table)
+        (steps * count <= self.bounds.steps).then_some(table)
     }
 
-    /// EXISTS, or a list with what stands before it. The value before a list is drawn outside it.
-    fn subquery(&mut self, table: usize, parts: usize) {
-        let exists = self.draw.percent(35);
+    /// EXISTS, or a list with what stands before it, around what is drawn inside. The value before a list is drawn outside it.
+    fn subquery(&mut self, table: usize, exists: bool, inside: impl FnOnce(&mut Self)) {
         if exists {
             self.push("EXISTS");
         } else {
@@ -228,7 +225,7 @@ impl Maker<'_> {
         if !exists {
             self.select(select_at);
         }
-        self.condition(parts);
+        inside(self);
         self.scope.pop();
         self.steps = steps;
         self.close();
@@ -264,7 +261,7 @@ impl Maker<'_> {
 
     fn value(&mut self) {
         if self.draw.percent(25) {
-            let number = number(self.draw);
+            let number = tokens::number(self.draw);
             self.tokens.push(number);
         } else {
             self.column();
@@ -283,72 +280,42 @@ impl Maker<'_> {
         self.push(".");
         self.tokens.push(Token::number(column as i64, width));
     }
-}
-
-/// Whether two tokens would read as others with no gap between them.
-fn needs_gap(before: &Token, after: &Token) -> bool {
-    let (last, first) = (before.bytes()[before.length as usize - 1], after.bytes[0]);
-    (last.is_ascii_uppercase() && first.is_ascii_uppercase())
-        || (last.is_ascii_digit() && first.is_ascii_digit())
-        || (matches!(before.bytes(), b"<" | b">") && matches!(first, b'=' | b'>'))
-}
-
-/// How many bytes of gap the tokens need at least: one entry before each token and one behind the last.
-fn least_gaps(tokens: &[Token]) -> Vec<usize> {
-    let mut gaps = vec![0; tokens.len() + 1];
-    for place in 1..tokens.len() {
-        gaps[place] = usize::from(needs_gap(&tokens[place - 1], &tokens[place]));
-    }
-    gaps
-}
-
-/// The text of tokens with gaps of these lengths.
-fn written(draw: &mut Draw, tokens: &[Token], gaps: &[usize]) -> Vec<u8> {
-    let feeds = draw.pick(&[0, 0, 10, 50, 100]);
-    let mut text = Vec::with_capacity(8 * tokens.len());
-    for (place, gap) in gaps.iter().enumerate() {
-        for _ in 0..*gap {
-            text.push(if feeds > 0 && draw.percent(feeds) { b'\n' } else { b' ' });
+    /// A factor whose entries come to a sum. Without a FROM sums are odd.
+    fn of_sum(&mut self, sum: usize) {
+        if sum < 2 || self.open == MOST_OPEN {
+            return self.plain_test();
         }
-        if let Some(token) = tokens.get(place) {
-            text.extend_from_slice(token.bytes());
+        let odd = sum % 2 == 1;
+        match self.draw.weighted(&[8, 8, 84]) {
+            0 => {
+                self.push("NOT");
+                self.of_sum(sum);
+            }
+            1 => self.truth_test(false, |maker| maker.of_sum(sum)),
+            _ if odd && self.draw.percent(75) => self.truth_test(true, |maker| maker.of_sum(sum / 2)),
+            _ => match self.possible_source(sum) {
+                Some(table) if !odd || self.draw.percent(25) => {
+                    let exists = sum < 4 || self.draw.percent(50);
+                    let own = if exists { 1 } else { 3 };
+                    self.subquery(table, exists, |maker| maker.of_sum(sum - own));
+                }
+                _ => self.pair_of_sum(sum),
+            },
         }
     }
-    text
-}
 
-/// The text of tokens: with no gap but where one is needed, with one everywhere, or with gaps here and there.
-pub fn spaced(draw: &mut Draw, tokens: &[Token]) -> Vec<u8> {
-    let mut gaps = least_gaps(tokens);
-    let (share, widest) = draw.pick(&[(0, 1), (0, 1), (20, 2), (100, 1), (100, 1), (100, 3), (60, 40)]);
-    for gap in gaps.iter_mut() {
-        if share == 100 || (share > 0 && draw.percent(share)) {
-            *gap = if widest == 1 { 1 } else { draw.between(1, widest) };
+    /// Two factors in brackets with a word between them, which has an entry too.
+    fn pair_of_sum(&mut self, sum: usize) {
+        if sum < 3 {
+            return self.plain_test();
         }
+        let odd = 1 + 2 * self.draw.below((sum - 1) / 2);
+        let (first, second) = if self.draw.percent(50) { (odd, sum - 1 - odd) } else { (sum - 1 - odd, odd) };
+        self.open();
+        self.of_sum(first);
+        let word = self.draw.pick(&["AND", "OR"]);
+        self.push(word);
+        self.of_sum(second);
+        self.close();
     }
-    written(draw, tokens, &gaps)
-}
-
-/// The text of tokens with every gap of one space, needed or not; or with none at all, so that tokens may run together.
-pub fn loosely_spaced(draw: &mut Draw, tokens: &[Token]) -> Vec<u8> {
-    let gap = usize::from(draw.percent(85));
-    written(draw, tokens, &vec![gap; tokens.len() + 1])
-}
-
-/// The text of tokens stretched by gaps to so many bytes, if it is not longer without them.
-pub fn stretched(draw: &mut Draw, tokens: &[Token], length: usize) -> Vec<u8> {
-    let mut gaps = least_gaps(tokens);
-    let least = gaps.iter().sum::<usize>() + tokens.iter().map(|token| token.bytes().len()).sum::<usize>();
-    let rest = length.saturating_sub(least);
-    match draw.below(4) {
-        0 => gaps[0] += rest,
-        1 => gaps[tokens.len()] += rest,
-        2 => gaps[draw.below(tokens.len() + 1)] += rest,
-        _ => {
-            let each = rest / gaps.len();
-            let over = rest % gaps.len();
-            gaps.iter_mut().enumerate().for_each(|(place, gap)| *gap += each + usize::from(place < over));
-        }
-    }
-    written(draw, tokens, &gaps)
 }

@@ -122,12 +122,14 @@ struct Filling {
     blanks: usize,
     /// What nearly all cells hold, if so: then an answer may hang on a single row, and often on the last.
     even: Option<(i32, bool)>,
+    /// One in so many cells holds something else all the same.
+    others: usize,
 }
 
 /// A cell's value and whether it is blank. What lies beneath a blank is either as likely a value as any, or anything.
 fn cell(draw: &mut Draw, filling: &Filling, last_row: bool) -> (i32, bool) {
     if let Some(same) = filling.even {
-        if !(last_row && draw.percent(50)) && draw.below(256) > 0 {
+        if !(last_row && draw.percent(50)) && draw.below(filling.others) > 0 {
             return same;
         }
     }
@@ -140,7 +142,7 @@ fn cell(draw: &mut Draw, filling: &Filling, last_row: bool) -> (i32, bool) {
 pub fn file(draw: &mut Draw, sizes: &[Size]) -> Vec<u8> {
     let blanks = draw.pick(&[0, 25, 40, 50, 50, 60, 75, 100]);
     let even = draw.percent(if is_tall(sizes) { 70 } else { 10 }).then(|| (value(draw), draw.percent(blanks)));
-    let filling = Filling { blanks, even };
+    let filling = Filling { blanks, even, others: draw.pick(&[256, 4096]) };
     let count = cells(sizes);
     let mut bytes = head(sizes);
     let mut value_at = bytes.len();

@@ -10,11 +10,13 @@ use borrow.Author.Tests.{eq-eqb, ne-eqb}
 use Rattle.tables.specs.Values.{And, Or, Some, All}
 use Rattle.rule.specs.Names.{mostParts}
 use Rattle.rule.specs.Condition.{Not}
+use Rattle.rule.specs.Groups.{UnaryNumber}
 use Rattle.rule.specs.Truth.{False, truthNumber}
-use Rattle.rule.proofs.Groups.{test-bounds, test-number}
+use Rattle.rule.proofs.Groups.{test-number}
 use Rattle.names.specs.Code.{partSize}
+use Rattle.parts.proofs.Parts.{kind-low, kind-high}
 use Rattle.evaluator.proofs.Truths.{over-none-by, quantifierOf, none-is, none-high, none-decides}
-use Rattle.evaluator.proofs.Evaluating.{RowsPassed, passed-none, passed-more, start, test-left, test-ready, test-evaluated, unary-inner, unary-room, unary-evaluated, next-bounds, left-inner, right-inner, decides-join, join-stops, join-evaluated, range-bounds, row-room, exists-ranging, exists-inner, exists-true, exists-lost, exists-false, listed-ranging, outer-ready, row-ready, row-valued, listed-decides, listed-ends, row-start, selected-ready, row-lost, row-compared}
+use Rattle.evaluator.proofs.Evaluating.{RowsPassed, passed-none, passed-more, start, test-left, truth-left, test-ready, test-evaluated, unary-inner, unary-room, unary-evaluated, next-bounds, left-inner, right-inner, decides-join, join-stops, join-evaluated, range-bounds, row-room, exists-ranging, exists-inner, exists-true, exists-lost, exists-false, listed-ranging, outer-ready, row-ready, row-valued, listed-decides, listed-ends, row-start, selected-ready, row-lost, row-compared}
 use borrow.Fn.Kinds.{PK, In}
 use borrow.Fn.PlainCycle.{Measures, is, falls, and}
 use Rattle.evaluator.proofs.evaluate_exists.Reads as evaluate-exists
@@ -386,12 +388,33 @@ evaluate-part-evaluate-list-requires-2 t c κs = let m = c .before .before .befo
 evaluate-part-evaluate-test-requires : (t : ℕ) → evaluate-part-lts.Need-evaluate-test-requires (evaluate-part-claims t) (evaluate-part-at t) evaluate-part.Post
 evaluate-part-evaluate-test-requires t c κs =
     let o = c .before .before .before .before .before .pre .1 in
-    test-ready o (test-left o (c .before .before .match .rest))
+    test-ready o (test-left o (c .before .before .match .rest) (omega (arith, c .if2 .taken)))
+
+-- a truth test
+evaluate-part-truth : (t : ℕ) (c : evaluate-part-lts.Then3 (evaluate-part-claims t) (evaluate-part-at t) evaluate-part.Post)
+    → let a = c .before .before .before .before .before .before .args in
+    UnaryNumber (getD (a .p .now) (partSize * a .s) 0)
+evaluate-part-truth t c = truth-left (c .before .before .before .before .before .before .pre .1) (c .before .before .before .match .rest) (omega (arith, c .before .if2 .left))
+
+evaluate-part-add-evaluate-part-2 : (t : ℕ) → evaluate-part-lts.Need-add-evaluate-part-2 (evaluate-part-claims t) (evaluate-part-at t) evaluate-part.Post
+evaluate-part-add-evaluate-part-2 t c = let z = start (c .before .before .before .before .before .before .pre .1) in omega arith
+
+evaluate-part-evaluate-part-requires-2 : (t : ℕ) → evaluate-part-lts.Need-evaluate-part-requires-2 (evaluate-part-claims t) (evaluate-part-at t) evaluate-part.Post
+evaluate-part-evaluate-part-requires-2 t c κs =
+    let o = c .before .before .before .before .before .before .pre in
+    let m = o .0 in
+    let z = start (o .1) in
+    (omega arith, unary-inner (o .1) (evaluate-part-truth t c))
+
+evaluate-part-unary-value-requires-2 : (t : ℕ) → evaluate-part-lts.Need-unary-value-requires-2 (evaluate-part-claims t) (evaluate-part-at t) evaluate-part.Post
+evaluate-part-unary-value-requires-2 t c κs =
+    let k = evaluate-part-truth t (c .before) in
+    (k, unary-room (c .before .before .before .before .before .before .before .pre .1) k (c .evaluate-part2 .result) (c .evaluate-part2 .ensures))
 
 evaluate-part-never-requires : (t : ℕ) → evaluate-part-lts.Need-never-requires (evaluate-part-claims t) (evaluate-part-at t) evaluate-part.Post
 evaluate-part-never-requires t c κs =
-    let b = test-bounds _ (test-left (c .before .before .before .before .pre .1) (c .before .match .rest)) in
-    ⊎-elim (λ w. omega (arith, w .taken, b)) (λ w. omega (arith, w .1 .left, b)) (c .if1 .came)
+    let o = c .before .before .before .before .pre .1 in
+    ⊎-elim (λ w. omega (arith, w .taken, kind-low _ _ (o .rule) (o .stands))) (λ w. omega (arith, w .2 .left, kind-high _ _ (o .rule) (o .stands))) (c .if1 .came)
 
 evaluate-part-returns : (t : ℕ) → evaluate-part-lts.Need-returns (evaluate-part-claims t) (evaluate-part-at t) evaluate-part.Post
 evaluate-part-returns t c = c .evaluate-pair .ensures
@@ -414,10 +437,14 @@ evaluate-part-returns-6 t c = c .evaluate-list2 .ensures
 
 evaluate-part-returns-7 : (t : ℕ) → evaluate-part-lts.Need-returns-7 (evaluate-part-claims t) (evaluate-part-at t) evaluate-part.Post
 evaluate-part-returns-7 t c = λ h.
-    test-evaluated h (test-left h (c .before .before .before .match .rest)) (c .evaluate-test .result) (c .evaluate-test .ensures)
+    test-evaluated h (test-left h (c .before .before .before .match .rest) (omega (arith, c .before .if2 .taken))) (c .evaluate-test .result) (c .evaluate-test .ensures)
 
 evaluate-part-returns-8 : (t : ℕ) → evaluate-part-lts.Need-returns-8 (evaluate-part-claims t) (evaluate-part-at t) evaluate-part.Post
-evaluate-part-returns-8 t c = absurd (c .never .ensures)
+evaluate-part-returns-8 t c = λ h.
+    unary-evaluated h (evaluate-part-truth t (c .before .before)) (c .before .evaluate-part2 .result) (c .before .evaluate-part2 .ensures) _ (c .unary-value2 .ensures)
+
+evaluate-part-returns-9 : (t : ℕ) → evaluate-part-lts.Need-returns-9 (evaluate-part-claims t) (evaluate-part-at t) evaluate-part.Post
+evaluate-part-returns-9 t c = absurd (c .never .ensures)
 
 evaluate-row-add-evaluate-where : (t : ℕ) → evaluate-row-lts.Need-add-evaluate-where (evaluate-row-claims t) (evaluate-row-at t) evaluate-row.Post
 evaluate-row-add-evaluate-where t c = let z = row-start (c .before .pre .1) in omega arith
@@ -589,6 +616,9 @@ pub +evaluate-exists+evaluate-list+evaluate-pair+evaluate-part+evaluate-row+eval
     (evaluate-part-evaluate-list-requires t)
     (evaluate-part-evaluate-list-requires-2 t)
     (evaluate-part-evaluate-test-requires t)
+    (evaluate-part-add-evaluate-part-2 t)
+    (evaluate-part-evaluate-part-requires-2 t)
+    (evaluate-part-unary-value-requires-2 t)
     (evaluate-part-never-requires t)
     (evaluate-part-returns t)
     (evaluate-part-returns-2 t)
@@ -597,7 +627,8 @@ pub +evaluate-exists+evaluate-list+evaluate-pair+evaluate-part+evaluate-row+eval
     (evaluate-part-returns-5 t)
     (evaluate-part-returns-6 t)
     (evaluate-part-returns-7 t)
-    (evaluate-part-returns-8 t))
+    (evaluate-part-returns-8 t)
+    (evaluate-part-returns-9 t))
     (λ t. evaluate-row-lts.spec (evaluate-row-claims t)
     (evaluate-row-at t)
     evaluate-row.Post

@@ -9,9 +9,9 @@ use borrow.Fn.Kinds.{In}
 use borrow.Fn.PlainCycle.{Measures}
 use lib.ListN.{length}
 use Rattle.phrases.specs.Code.{tokensFrom}
-use Rattle.grammar.specs.Code.{joinedBy}
+use Rattle.grammar.specs.Code.{joinedBy, closedReading}
 use Rattle.grammar.proofs.Chain.{Before, SoFar, begins, ready, turns, turns-not, ends, goes-on}
-use Rattle.grammar.proofs.Tests.{ready-at, shallow, factor-not, factor-reads, closed-reads, closed-not, unread-not, test-not, whole-reads, bracket-reads, around-not, around-reads}
+use Rattle.grammar.proofs.Tests.{ready-at, step-fits, shallow, factor-not, factor-reads, closed-reads, closed-not, unread-not, test-not, whole-reads, bracket-reads, around-not, around-reads}
 use Rattle.grammar.proofs.read_closed.Reads as read-closed
 use Rattle.grammar.proofs.read_closed.Kinds as read-closed-kinds
 use Rattle.grammar.proofs.+read_closed+read_condition+read_conjunction+read_factor+read_joined+read_operand+read_test.Lts-read_closed as read-closed-lts
@@ -39,6 +39,7 @@ use Rattle.grammar.proofs.larger.Reads as larger-reads
 use Rattle.grammar.proofs.note_join.Reads as note-join-reads
 use Rattle.grammar.proofs.note_nots.Reads as note-nots-reads
 use Rattle.grammar.proofs.note_part.Reads as note-part-reads
+use Rattle.grammar.proofs.note_truth_test.Reads as note-truth-test-reads
 use Rattle.phrases.proofs.start_test.Reads as start-test-reads
 use Rattle.phrases.proofs.token.Reads as token-reads
 use Rattle.grammar.proofs.+read_closed+read_condition+read_conjunction+read_factor+read_joined+read_operand+read_test.{statement}
@@ -136,7 +137,7 @@ module _ (t : ℕ) where
   read-operand-claims = (read-conjunction-below, read-conjunction.Post, read-factor-below, read-factor.Post)
 
   abbrev read-test-claims : read-test-lts.Claims
-  read-test-claims = (start-test-reads.Asked, start-test-reads.Learnt, note-part-reads.Asked, note-part-reads.Learnt, read-closed-below, read-closed.Post)
+  read-test-claims = (start-test-reads.Asked, start-test-reads.Learnt, note-part-reads.Asked, note-part-reads.Learnt, read-closed-below, read-closed.Post, note-truth-test-reads.Asked, note-truth-test-reads.Learnt)
 
   read-closed-returns : read-closed-lts.Need-returns read-closed-claims read-closed-at read-closed.Post
   read-closed-returns c =
@@ -283,8 +284,8 @@ module _ (t : ℕ) where
   read-test-note-part-requires : read-test-lts.Need-note-part-requires read-test-claims read-test-at read-test.Post
   read-test-note-part-requires c κs = c .before .before .before .before .before .before .pre .1 .size
 
-  read-test-add-t17 : read-test-lts.Need-add-t17 read-test-claims read-test-at read-test.Post
-  read-test-add-t17 c =
+  read-test-add-t18 : read-test-lts.Need-add-t18 read-test-claims read-test-at read-test.Post
+  read-test-add-t18 c =
       let pre = c .before .before .before .before .before .before .before .pre .1 in
       omega (arith, pre .few, pre .within, pre .short)
 
@@ -294,6 +295,14 @@ module _ (t : ℕ) where
       let start = b .before .before in
       let f = rw (c .before .before .next .given .1) at (b .start-test .ensures) in
       (omega (arith, start .pre .0, f .moved .later, f .moved .within), ready-at (start .pre .1) (omega (arith, f .moved .later)) (f .moved .within))
+
+  read-test-note-truth-test-requires : read-test-lts.Need-note-truth-test-requires read-test-claims read-test-at read-test.Post
+  read-test-note-truth-test-requires c κs =
+      let r = c .before .read-closed in
+      let b = c .before .before .before .before .before .before in
+      let start = b .before .before in
+      let f = rw (c .before .before .before .before .next .given .1) at (b .start-test .ensures) in
+      (start .pre .1 .short, (r .ensures .1, step-fits (closedReading _) _ _ _ _ _ (r .result) (omega (arith, start .pre .1 .few, f .moved .later)) (r .ensures .0)))
 
   read-test-read-closed-requires-2 : read-test-lts.Need-read-closed-requires-2 read-test-claims read-test-at read-test.Post
   read-test-read-closed-requires-2 c κs =
@@ -313,8 +322,8 @@ module _ (t : ℕ) where
   read-test-note-part-requires-2 : read-test-lts.Need-note-part-requires-2 read-test-claims read-test-at read-test.Post
   read-test-note-part-requires-2 c κs = c .before .before .before .before .read-closed2 .ensures .1
 
-  read-test-add-t23 : read-test-lts.Need-add-t23 read-test-claims read-test-at read-test.Post
-  read-test-add-t23 c =
+  read-test-add-t25 : read-test-lts.Need-add-t25 read-test-claims read-test-at read-test.Post
+  read-test-add-t25 c =
       let q = c .before .before .before .before .before in
       let b = q .before .before .before .before .before in
       let f = rw (q .before .before .before .note2 .given .1) at (b .start-test .ensures) in
@@ -322,8 +331,8 @@ module _ (t : ℕ) where
       let pre = b .before .before .pre .1 in
       omega (arith, f .moved .later, r .used, r .moved .within, pre .few, pre .short)
 
-  read-test-add-t24 : read-test-lts.Need-add-t24 read-test-claims read-test-at read-test.Post
-  read-test-add-t24 c =
+  read-test-add-t26 : read-test-lts.Need-add-t26 read-test-claims read-test-at read-test.Post
+  read-test-add-t26 c =
       let q = c .before .before .before .before .before in
       let b = q .before .before .before .before .before in
       let f = rw (q .before .before .before .note2 .given .1) at (b .start-test .ensures) in
@@ -340,11 +349,12 @@ module _ (t : ℕ) where
 
   read-test-returns-3 : read-test-lts.Need-returns-3 read-test-claims read-test-at read-test.Post
   read-test-returns-3 c =
-      let b = c .before .before .before .before .before in
+      let b = c .before .before .before .before .before .before .before in
       let a = b .before .before .args in
-      let f = rw (c .before .before .before .next .given .1) at (b .start-test .ensures) in
-      let r = c .read-closed in
-      (bracket-reads (a .s .now) (a .at) f (a .w) (a .out .now) (r .last .1 .1 .0) (r .result) (r .ensures .0), r .ensures .1)
+      let f = rw (c .before .before .before .before .before .next .given .1) at (b .start-test .ensures) in
+      let r = c .note-truth-test in
+      let tested = r .ensures .0 (closedReading _) _ (a .w) (a .out .now) (c .before .before .read-closed .ensures .0) in
+      (bracket-reads (a .s .now) (a .at) f (a .w) (a .out .now) (r .last .1 .0) (r .result) tested, r .ensures .1)
 
   read-test-returns-4 : read-test-lts.Need-returns-4 read-test-claims read-test-at read-test.Post
   read-test-returns-4 c =
@@ -422,17 +432,18 @@ pub +read-closed+read-condition+read-conjunction+read-factor+read-joined+read-op
     (λ c κs. search needs)
     (λ c. search needs)
     (read-test-note-part-requires t)
-    (read-test-add-t17 t)
+    (read-test-add-t18 t)
     (λ c. search needs)
     (read-test-read-closed-requires t)
+    (read-test-note-truth-test-requires t)
     (λ c. search needs)
     (read-test-read-closed-requires-2 t)
     (λ c. search needs)
     (λ c. search needs)
     (read-test-returns t)
     (read-test-note-part-requires-2 t)
-    (read-test-add-t23 t)
-    (read-test-add-t24 t)
+    (read-test-add-t25 t)
+    (read-test-add-t26 t)
     (λ c. search needs)
     (read-test-returns-2 t)
     (read-test-returns-3 t)

@@ -6,7 +6,7 @@ use Rattle.names.proofs.Placing.{Inner, was-placed, TableFound, table-f
 use Prim.Native.Nat.{ℕ, _+_, _*_, _-_, _<_, _≤_}
 use Rattle.rule.specs.Condition.{Not}
 use Rattle.rule.specs.Names.{mostParts}
-use Rattle.rule.proofs.Groups.{join-number, test-number, from-number}
+use Rattle.rule.proofs.Groups.{join-number, truth-number, test-number, from-number}
 use borrow.Fn.Kinds.{In}
 use borrow.Fn.PlainCycle.{Measures, is, falls, and}
 use Rattle.names.proofs.place.Reads as place
@@ -119,10 +119,16 @@ place-place-from-requires t c κs =
     let m = o .0 in
     (omega arith, (o .1, from-number _ (c .before .before .if3 .left) (omega (arith, c .before .if4 .taken))))
 
+place-place-unary-requires-2 : (t : ℕ) → place-lts.Need-place-unary-requires-2 (place-claims t) (place-at t) place.Post
+place-place-unary-requires-2 t c κs =
+    let o = c .before .before .before .before .before .before .before .before .before .before .pre in
+    let m = o .0 in
+    (omega arith, (o .1, truth-number _ (c .before .before .if4 .left) (omega (arith, c .before .if5 .taken))))
+
 place-never-requires : (t : ℕ) → place-lts.Need-never-requires (place-claims t) (place-at t) place.Post
 place-never-requires t c κs =
     let o = c .before .before .before .before .before .pre .1 in
-    ⊎-elim (λ w. omega (arith, w .taken, kind-low o)) (λ w. omega (arith, w .3 .left, kind-high o)) (c .if1 .came)
+    ⊎-elim (λ w. omega (arith, w .taken, kind-low o)) (λ w. omega (arith, w .4 .left, kind-high o)) (c .if1 .came)
 
 place-returns : (t : ℕ) → place-lts.Need-returns (place-claims t) (place-at t) place.Post
 place-returns t c = c .place-unary .ensures
@@ -137,7 +143,10 @@ place-returns-4 : (t : ℕ) → place-lts.Need-returns-4 (place-claims t) (place
 place-returns-4 t c = c .place-from .ensures
 
 place-returns-5 : (t : ℕ) → place-lts.Need-returns-5 (place-claims t) (place-at t) place.Post
-place-returns-5 t c = search needs
+place-returns-5 t c = c .place-unary2 .ensures
+
+place-returns-6 : (t : ℕ) → place-lts.Need-returns-6 (place-claims t) (place-at t) place.Post
+place-returns-6 t c = search needs
 
 -- the table is found, and the letter bound
 place-from-table : (t : ℕ) (c : place-from-lts.After-find-numbered (place-from-claims t) (place-from-at t) place-from.Post)
@@ -428,12 +437,14 @@ pub +place+place-from+place-pair+place-unary-spec : {M : Type 1} → statement M
     (place-place-pair-requires t)
     (place-place-test-requires t)
     (place-place-from-requires t)
+    (place-place-unary-requires-2 t)
     (place-never-requires t)
     (place-returns t)
     (place-returns-2 t)
     (place-returns-3 t)
     (place-returns-4 t)
-    (place-returns-5 t))
+    (place-returns-5 t)
+    (place-returns-6 t))
     (λ t. place-from-lts.spec (place-from-claims t) (place-from-at t)
     place-from.Post
     (place-from-sub-b t)

@@ -1,16 +1,17 @@
 use mathlib.Core.Path.{_≡_, sym, _∙_}
-use mathlib.Core.Bool.{true}
+use mathlib.Core.Bool.{Bool, true}
 use mathlib.Core.List.{List}
-use Prim.Native.Nat.{ℕ}
+use Prim.Native.Nat.{ℕ, _≤_, _<_}
 use lib.IntN.{pos}
 use lib.ListN.{length}
+use Rattle.tables.specs.Values.{mostEntries}
 use Rattle.rule.specs.Tokens.{opensFit}
 use Rattle.lexer.specs.Code.{tokensIn}
 use Rattle.grammar.specs.Code.{notesSize, WholeReading}
 use Rattle.parts.specs.Code.{Countable, CountedTo}
 use Rattle.parser.specs.Code.{TokensParsing}
 use borrow.Author.Tests.{not-true, not-false}
-use Rattle.parser.proofs.Groups.{unfit-brackets, unread, read-whole, ungrammatical, too-many, too-deep, nameable, unnamed, parsed-tokens}
+use Rattle.parser.proofs.Groups.{FirstOfTokens, unfit-brackets, unread, read-whole, ungrammatical, too-many, too-deep, nameable, unnamed, countable-tokens, parsed-tokens, many-entries}
 use borrow.Author.Needs.{needs}
 use Rattle.parser.proofs.parse_tokens.Statement.{statement}
 use Rattle.parser.proofs.parse_tokens.Tie as tie
@@ -92,16 +93,45 @@ module _ (g : tie.Else4) where
   abbrev new : List ℕ
   new = g .before .name-noted .last .1 .1 .0
 
-  found : let n = read .count .given .0 .1 .0 in Countable new n × ((m : ℕ) → CountedTo new n m → TokensParsing (tokens read) (file read) new n m)
-  found =
+  abbrev parts-read : ℕ
+  parts-read = read .count .given .0 .1 .0
+
+  abbrev found : Bool
+  found = g .before .name-noted .result
+
+  is-found : found ≡ true
+  is-found = not-false found (g .if4 .left)
+
+  countable : Countable new 0 parts-read
+  countable =
       let named = g .before .name-noted in
-      parsed-tokens (tokens read) (file read) (fits read) _ _ _ (whole read) (start read .pre .1 .0) (size read) (g .before .before .before .before .if2 .left) (g .before .before .before .if3 .left) new (named .result) (not-false (named .result) (g .if4 .left)) (named .ensures .1) (named .ensures .0)
+      countable-tokens (tokens read) (file read) (fits read) _ _ _ (whole read) (start read .pre .1 .0) (size read) (g .before .before .before .before .if2 .left) (g .before .before .before .if3 .left) new found is-found (named .ensures .1) (named .ensures .0)
+
+  module _ (m : ℕ) (c : CountedTo new 0 parts-read m) where
+    few : m ≤ mostEntries → TokensParsing (tokens read) (file read) new parts-read m
+    few =
+        let named = g .before .name-noted in
+        parsed-tokens (tokens read) (file read) (fits read) _ _ _ (whole read) (start read .pre .1 .0) (size read) (g .before .before .before .before .if2 .left) (g .before .before .before .if3 .left) new found is-found (named .ensures .1) (named .ensures .0) m c
+
+    many : mostEntries < m → FirstOfTokens (tokens read) (file read) 13
+    many =
+        let named = g .before .name-noted in
+        many-entries (tokens read) (file read) (fits read) _ _ _ (whole read) (start read .pre .1 .0) (size read) (g .before .before .before .before .if2 .left) (g .before .before .before .if3 .left) new found is-found (named .ensures .1) (named .ensures .0) m c
 
 count-entries-requires : tie.Need-count-entries-requires
-count-entries-requires c κs = found (c .before) .0
+count-entries-requires c κs = countable (c .before)
 
 returns-6 : tie.Need-returns-6
-returns-6 c = let g = c .before .before in (found g .1 (c .count-entries .result) (c .count-entries .ensures), g .before .name-noted .ensures .1)
+returns-6 c =
+    let g = c .before .before .before in
+    let n = c .before .count-entries in
+    (many g (n .result) (n .ensures) (c .if5 .taken), g .before .name-noted .ensures .1)
+
+returns-7 : tie.Need-returns-7
+returns-7 c =
+    let g = c .before .before .before in
+    let n = c .before .count-entries in
+    (few g (n .result) (n .ensures) (c .if5 .left), g .before .name-noted .ensures .1)
 
 pub parse-tokens-spec : {M : Type 1} → statement M
 parse-tokens-spec =
@@ -118,4 +148,5 @@ parse-tokens-spec =
     name-noted-requires
     returns-5
     count-entries-requires
-    returns-6)
+    returns-6
+    returns-7)

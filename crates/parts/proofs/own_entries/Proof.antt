@@ -1,34 +1,21 @@
--- The number of each kind has an arm, and so none is left for the last one.
-use mathlib.Core.Path.{_≡_}
+-- The number of each kind that uses its inner parts once has an arm, and so none is left for the last one.
 use native.Mathlib.Omega.{arith}
 use borrow.Author.Needs.{needs}
-use Prim.Native.Nat.{ℕ}
 use Rattle.tables.specs.Values.{And, Or, Some, All, Null, NotNull}
-use Rattle.rule.specs.Condition.{Not}
-use Rattle.rule.specs.Parts.{Kind, JoinKind, UnaryKind, CompareKind, MarkKind, ExistsKind, ListKind, kindNumber}
-use Rattle.rule.specs.Groups.{KindNumber}
+use Rattle.rule.specs.Truth.{False, True}
+use Rattle.rule.specs.Condition.{Not, Is, IsNot}
+use Rattle.rule.specs.Parts.{JoinKind, UnaryKind, CompareKind, MarkKind, ExistsKind, ListKind}
+use Rattle.rule.proofs.Groups.{kind-bounds}
+use Rattle.parts.proofs.Arms.{beyond}
 use Rattle.parts.proofs.Counting.{own-same}
 use Rattle.parts.proofs.own_entries.Statement.{statement}
 use Rattle.parts.proofs.own_entries.Tie as tie
 
--- the refutations come in the order of the arms
-module _ (n : ℕ) where
-  abbrev NotKind : Kind → Type 0
-  NotKind k = n ≡ kindNumber k → ⊥
-
-  none-left : KindNumber n → ((((((((Unit {0} × NotKind (JoinKind And)) × NotKind (JoinKind Or)) × NotKind (UnaryKind Not)) × NotKind CompareKind) × NotKind (MarkKind Null)) × NotKind (MarkKind NotNull)) × NotKind ExistsKind) × NotKind (ListKind Some)) × NotKind (ListKind All) → ⊥
-  none-left (JoinKind And, e) r = r .0 .0 .0 .0 .0 .0 .0 .0 .1 e
-  none-left (JoinKind Or, e) r = r .0 .0 .0 .0 .0 .0 .0 .1 e
-  none-left (UnaryKind Not, e) r = r .0 .0 .0 .0 .0 .0 .1 e
-  none-left (CompareKind, e) r = r .0 .0 .0 .0 .0 .1 e
-  none-left (MarkKind Null, e) r = r .0 .0 .0 .0 .1 e
-  none-left (MarkKind NotNull, e) r = r .0 .0 .0 .1 e
-  none-left (ExistsKind, e) r = r .0 .0 .1 e
-  none-left (ListKind Some, e) r = r .0 .1 e
-  none-left (ListKind All, e) r = r .1 e
-
 never-requires : tie.Need-never-requires
-never-requires c κs = none-left _ (c .before .pre) (c .match .rest)
+never-requires c κs =
+    let k = c .before .pre in
+    let low = kind-bounds (k .0 .0) .0 in
+    omega (arith, k .1, beyond _ _ 1 13 (c .match .rest) (omega (arith, k .0 .1)))
 
 returns : tie.Need-returns
 returns c = ((λ k f. own-same (JoinKind And) k _ (c .match .keys1) f), omega arith)
@@ -57,5 +44,17 @@ returns-8 c = ((λ k f. own-same (ListKind Some) k _ (c .match .keys8) f), omega
 returns-9 : tie.Need-returns-9
 returns-9 c = ((λ k f. own-same (ListKind All) k _ (c .match .keys9) f), omega arith)
 
+returns-10 : tie.Need-returns-10
+returns-10 c = ((λ k f. own-same (UnaryKind (Is True)) k _ (c .match .keys10) f), omega arith)
+
+returns-11 : tie.Need-returns-11
+returns-11 c = ((λ k f. own-same (UnaryKind (IsNot True)) k _ (c .match .keys11) f), omega arith)
+
+returns-12 : tie.Need-returns-12
+returns-12 c = ((λ k f. own-same (UnaryKind (Is False)) k _ (c .match .keys12) f), omega arith)
+
+returns-13 : tie.Need-returns-13
+returns-13 c = ((λ k f. own-same (UnaryKind (IsNot False)) k _ (c .match .keys13) f), omega arith)
+
 pub own-entries-spec : {M : Type 1} → statement M
-own-entries-spec = tie.close (tie.spec never-requires returns returns-2 returns-3 returns-4 returns-5 returns-6 returns-7 returns-8 returns-9 (λ c. search needs))
+own-entries-spec = tie.close (tie.spec never-requires returns returns-2 returns-3 returns-4 returns-5 returns-6 returns-7 returns-8 returns-9 returns-10 returns-11 returns-12 returns-13 (λ c. search needs))

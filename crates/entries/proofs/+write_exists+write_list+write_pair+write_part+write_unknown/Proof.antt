@@ -7,22 +7,25 @@ use Rattle.tables.specs.Values.{And}
 use Rattle.rule.specs.Names.{mostParts}
 use Rattle.rule.proofs.Groups.{join-number}
 use Rattle.parts.proofs.Parts.{kind-low, kind-high}
-use Rattle.entries.proofs.Writing.{mark-left, list-left, compare-ready, compare-wrote, mark-ready, mark-wrote, not-ready, not-wrote, join-few, next-above, pair-plain-asked, left-ready, right-ready, pair-end-asked, pair-wrote, exists-plain-asked, exists-ready, exists-end-asked, exists-wrote, list-plain-asked, list-plain-asked-2, list-ready, list-compare-ready, list-end-asked, list-end-asked-2, list-wrote}
+use Rattle.entries.proofs.Writing.{mark-left, list-left, unknown-left, compare-ready, compare-wrote, mark-ready, mark-wrote, not-ready, not-wrote, join-few, next-above, join-inner, unknown-inner, pair-plain-asked, left-ready, right-ready, pair-end-asked, pair-wrote, exists-plain-asked, exists-ready, exists-end-asked, exists-wrote, list-plain-asked, list-plain-asked-2, list-ready, list-compare-ready, list-end-asked, list-end-asked-2, list-wrote}
 use Prim.Native.Nat.{ℕ, _+_, _*_, _-_, _<_}
 use borrow.Fn.Kinds.{In}
 use borrow.Fn.PlainCycle.{Measures, is, falls, and}
 use Rattle.entries.proofs.write_exists.Reads as write-exists
 use Rattle.entries.proofs.write_exists.Kinds as write-exists-kinds
-use Rattle.entries.proofs.+write_exists+write_list+write_pair+write_part.Lts-write_exists as write-exists-lts
+use Rattle.entries.proofs.+write_exists+write_list+write_pair+write_part+write_unknown.Lts-write_exists as write-exists-lts
 use Rattle.entries.proofs.write_list.Reads as write-list
 use Rattle.entries.proofs.write_list.Kinds as write-list-kinds
-use Rattle.entries.proofs.+write_exists+write_list+write_pair+write_part.Lts-write_list as write-list-lts
+use Rattle.entries.proofs.+write_exists+write_list+write_pair+write_part+write_unknown.Lts-write_list as write-list-lts
 use Rattle.entries.proofs.write_pair.Reads as write-pair
 use Rattle.entries.proofs.write_pair.Kinds as write-pair-kinds
-use Rattle.entries.proofs.+write_exists+write_list+write_pair+write_part.Lts-write_pair as write-pair-lts
+use Rattle.entries.proofs.+write_exists+write_list+write_pair+write_part+write_unknown.Lts-write_pair as write-pair-lts
 use Rattle.entries.proofs.write_part.Reads as write-part
 use Rattle.entries.proofs.write_part.Kinds as write-part-kinds
-use Rattle.entries.proofs.+write_exists+write_list+write_pair+write_part.Lts-write_part as write-part-lts
+use Rattle.entries.proofs.write_unknown.Reads as write-unknown
+use Rattle.entries.proofs.write_unknown.Kinds as write-unknown-kinds
+use Rattle.entries.proofs.+write_exists+write_list+write_pair+write_part+write_unknown.Lts-write_unknown as write-unknown-lts
+use Rattle.entries.proofs.+write_exists+write_list+write_pair+write_part+write_unknown.Lts-write_part as write-part-lts
 use Rattle.cells.proofs.never.Reads as never-reads
 use Rattle.records.proofs.pair_kind.Reads as pair-kind-reads
 use Rattle.records.proofs.put16.Reads as put16-reads
@@ -30,10 +33,11 @@ use Rattle.records.proofs.put_plain.Reads as put-plain-reads
 use Rattle.records.proofs.row_kind.Reads as row-kind-reads
 use Rattle.entries.proofs.field.Reads as field-reads
 use Rattle.entries.proofs.under_nots.Reads as under-nots-reads
+use Rattle.entries.proofs.under_truth.Reads as under-truth-reads
 use Rattle.entries.proofs.write_comparison.Reads as write-comparison-reads
 use Rattle.entries.proofs.write_mark.Reads as write-mark-reads
-use Rattle.entries.proofs.+write_exists+write_list+write_pair+write_part.{statement}
-use Rattle.entries.proofs.+write_exists+write_list+write_pair+write_part.Tie.{close}
+use Rattle.entries.proofs.+write_exists+write_list+write_pair+write_part+write_unknown.{statement}
+use Rattle.entries.proofs.+write_exists+write_list+write_pair+write_part+write_unknown.Tie.{close}
 
 abbrev μ-write-exists : Measures 3 write-exists-kinds.ps ℕ
 μ-write-exists κs a = 2 * (mostParts - a .1 .0)
@@ -46,6 +50,9 @@ abbrev μ-write-pair : Measures 3 write-pair-kinds.ps ℕ
 
 abbrev μ-write-part : Measures 3 write-part-kinds.ps ℕ
 μ-write-part κs a = 2 * (mostParts - a .1 .0) + 1
+
+abbrev μ-write-unknown : Measures 3 write-unknown-kinds.ps ℕ
+μ-write-unknown κs a = 2 * (mostParts - a .1 .0)
 
 abbrev write-exists-at : ℕ → In 3 write-exists-kinds.ps
 write-exists-at t =
@@ -83,6 +90,18 @@ abbrev write-part-below : ℕ → In 3 write-part-kinds.ps
 write-part-below t =
     and 3 write-part-kinds.ps (falls 3 write-part-kinds.ps _<_ μ-write-part t) write-part.Pre
 
+abbrev write-unknown-at : ℕ → In 3 write-unknown-kinds.ps
+write-unknown-at t =
+    and 3 write-unknown-kinds.ps (is 3 write-unknown-kinds.ps μ-write-unknown t) write-unknown.Pre
+
+abbrev write-unknown-below : ℕ → In 3 write-unknown-kinds.ps
+write-unknown-below t =
+    and
+    3
+    write-unknown-kinds.ps
+    (falls 3 write-unknown-kinds.ps _<_ μ-write-unknown t)
+    write-unknown.Pre
+
 abbrev write-exists-claims : ℕ → write-exists-lts.Claims
 write-exists-claims t = (row-kind-reads.Asked, row-kind-reads.Learnt, field-reads.Asked, field-reads.Learnt, put-plain-reads.Asked, put-plain-reads.Learnt, write-part-below t, write-part.Post, put16-reads.Asked, put16-reads.Learnt)
 
@@ -93,7 +112,10 @@ abbrev write-pair-claims : ℕ → write-pair-lts.Claims
 write-pair-claims t = (pair-kind-reads.Asked, pair-kind-reads.Learnt, field-reads.Asked, field-reads.Learnt, put-plain-reads.Asked, put-plain-reads.Learnt, write-part-below t, write-part.Post, put16-reads.Asked, put16-reads.Learnt)
 
 abbrev write-part-claims : ℕ → write-part-lts.Claims
-write-part-claims t = (under-nots-reads.Asked, under-nots-reads.Learnt, write-part-below t, write-part.Post, write-comparison-reads.Asked, write-comparison-reads.Learnt, write-exists-below t, write-exists.Post, write-pair-below t, write-pair.Post, write-mark-reads.Asked, write-mark-reads.Learnt, write-list-below t, write-list.Post, never-reads.Asked, never-reads.Learnt)
+write-part-claims t = (under-nots-reads.Asked, under-nots-reads.Learnt, write-part-below t, write-part.Post, write-comparison-reads.Asked, write-comparison-reads.Learnt, write-exists-below t, write-exists.Post, write-pair-below t, write-pair.Post, write-mark-reads.Asked, write-mark-reads.Learnt, write-list-below t, write-list.Post, under-truth-reads.Asked, under-truth-reads.Learnt, write-unknown-below t, write-unknown.Post, never-reads.Asked, never-reads.Learnt)
+
+abbrev write-unknown-claims : ℕ → write-unknown-lts.Claims
+write-unknown-claims t = (pair-kind-reads.Asked, pair-kind-reads.Learnt, put-plain-reads.Asked, put-plain-reads.Learnt, write-part-below t, write-part.Post, put16-reads.Asked, put16-reads.Learnt)
 
 write-exists-put-plain-requires : (t : ℕ) → write-exists-lts.Need-put-plain-requires (write-exists-claims t) (write-exists-at t) write-exists.Post
 write-exists-put-plain-requires t c κs =
@@ -161,38 +183,75 @@ write-list-returns t c =
 
 write-pair-field-requires : (t : ℕ) → write-pair-lts.Need-field-requires (write-pair-claims t) (write-pair-at t) write-pair.Post
 write-pair-field-requires t c κs =
-    let few = join-few (c .before .before .before .pre .1 .0) (c .before .before .before .pre .1 .1) (c .pair-kind .ensures) in
-    (c .before .before .before .pre .1 .0 .size, (few, omega arith))
+    let o = c .before .before .before .pre .1 in
+    (o .0 .size, (join-few (o .0) (o .1), omega arith))
 
 write-pair-put-plain-requires : (t : ℕ) → write-pair-lts.Need-put-plain-requires (write-pair-claims t) (write-pair-at t) write-pair.Post
-write-pair-put-plain-requires t c κs = pair-plain-asked (c .before .before .before .before .before .before .pre .1 .0) (c .before .before .before .before .before .before .pre .1 .1) (c .before .before .before .pair-kind .ensures)
+write-pair-put-plain-requires t c κs =
+    let o = c .before .before .before .before .before .before .pre .1 in
+    let two = join-inner (o .0) (o .1) _ (c .before .before .field .ensures) in
+    pair-plain-asked (o .0) two (c .before .before .before .pair-kind .ensures (o .1 .0) (o .1 .1))
 
 write-pair-write-part-requires : (t : ℕ) → write-pair-lts.Need-write-part-requires (write-pair-claims t) (write-pair-at t) write-pair.Post
 write-pair-write-part-requires t c κs =
-    let o = c .before .before .before .before .before .before .before .before .before .before .before in
-    let m = o .pre .0 in
-    (omega arith, left-ready (o .pre .1 .0) (o .pre .1 .1) (c .before .before .before .before .before .before .before .before .pair-kind .ensures) (c .before .before .before .before .put-plain .ensures))
+    let f = c .before .before .before .before .before .before .before .before .before .before .before in
+    let m = f .pre .0 in
+    let o = f .pre .1 in
+    let two = join-inner (o .0) (o .1) _ (c .before .before .before .before .before .before .before .field .ensures) in
+    (omega arith, left-ready (o .0) two (c .before .before .before .before .before .before .before .before .pair-kind .ensures (o .1 .0) (o .1 .1)) (c .before .before .before .before .put-plain .ensures))
 
 write-pair-write-part-requires-2 : (t : ℕ) → write-pair-lts.Need-write-part-requires-2 (write-pair-claims t) (write-pair-at t) write-pair.Post
 write-pair-write-part-requires-2 t c κs =
-    let o = c .before .before .before .before .before .before .before .before .before .before .before .before .before .before .before .before in
-    let m = o .pre .0 in
-    let above = next-above (o .pre .1 .0) (o .pre .1 .1) (c .before .before .before .before .before .before .before .before .before .before .before .before .before .pair-kind .ensures)
-    (c .before .before .before .before .before .before .before .before .before .put-plain .ensures) (c .before .before .before .before .before .before .before .before .before .before .before .before .field .ensures) (c .before .before .before .before .write-part .ensures) in (
-      omega arith,
-      right-ready (o .pre .1 .0) (o .pre .1 .1) (c .before .before .before .before .before .before .before .before .before .before .before .before .before .pair-kind .ensures)
-          (c .before .before .before .before .before .before .before .before .before .put-plain .ensures) (c .before .before .before .before .before .before .before .before .before .before .before .before .field .ensures) (c .before .before .before .before .write-part .ensures),
-    )
+    let f = c .before .before .before .before .before .before .before .before .before .before .before .before .before .before .before .before in
+    let m = f .pre .0 in
+    let o = f .pre .1 in
+    let next = c .before .before .before .before .before .before .before .before .before .before .before .before .field .ensures in
+    let above = next-above (o .0) (o .1) _ next in
+    (omega arith, right-ready (o .0) (join-inner (o .0) (o .1) _ next) (c .before .before .before .before .before .before .before .before .before .before .before .before .before .pair-kind .ensures (o .1 .0) (o .1 .1)) (c .before .before .before .before .before .before .before .before .before .put-plain .ensures) (c .before .before .before .before .write-part .ensures))
 
 write-pair-put16-requires : (t : ℕ) → write-pair-lts.Need-put16-requires (write-pair-claims t) (write-pair-at t) write-pair.Post
 write-pair-put16-requires t c κs =
-    pair-end-asked (c .before .before .before .before .before .before .before .before .before .before .before .before .before .before .before .before .before .before .before .before .pre .1 .0) (c .before .before .before .before .before .before .before .before .before .before .before .before .before .before .before .before .before .before .before .before .pre .1 .1) (c .before .before .before .before .before .before .before .before .before .before .before .before .before .before .before .before .before .pair-kind .ensures)
-    (c .before .before .before .before .before .before .before .before .before .before .before .before .before .put-plain .ensures) (c .before .before .before .before .before .before .before .before .before .before .before .before .before .before .before .before .field .ensures) (c .before .before .before .before .before .before .before .before .write-part .ensures) (c .before .before .before .write-part2 .ensures)
+    let o = c .before .before .before .before .before .before .before .before .before .before .before .before .before .before .before .before .before .before .before .before .pre .1 in
+    let two = join-inner (o .0) (o .1) _ (c .before .before .before .before .before .before .before .before .before .before .before .before .before .before .before .before .field .ensures) in
+    pair-end-asked (o .0) two (c .before .before .before .before .before .before .before .before .before .before .before .before .before .before .before .before .before .pair-kind .ensures (o .1 .0) (o .1 .1)) (c .before .before .before .before .before .before .before .before .before .before .before .before .before .put-plain .ensures) (c .before .before .before .before .before .before .before .before .write-part .ensures) (c .before .before .before .write-part2 .ensures)
 
 write-pair-returns : (t : ℕ) → write-pair-lts.Need-returns (write-pair-claims t) (write-pair-at t) write-pair.Post
 write-pair-returns t c =
-    λ h. pair-wrote h (c .before .before .before .before .before .before .before .before .before .before .before .before .before .before .before .before .before .before .before .before .before .before .before .pre .1 .1) (c .before .before .before .before .before .before .before .before .before .before .before .before .before .before .before .before .before .before .before .before .pair-kind .ensures)
-    (c .before .before .before .before .before .before .before .before .before .before .before .before .before .before .before .before .put-plain .ensures) (c .before .before .before .before .before .before .before .before .before .before .before .before .before .before .before .before .before .before .before .field .ensures) (c .before .before .before .before .before .before .before .before .before .before .before .write-part .ensures) (c .before .before .before .before .before .before .write-part2 .ensures) (c .before .before .put16 .ensures)
+    let number = c .before .before .before .before .before .before .before .before .before .before .before .before .before .before .before .before .before .before .before .before .before .before .before .pre .1 .1 in
+    λ h. pair-wrote h (join-inner h number _ (c .before .before .before .before .before .before .before .before .before .before .before .before .before .before .before .before .before .before .before .field .ensures)) (c .before .before .before .before .before .before .before .before .before .before .before .before .before .before .before .before .before .before .before .before .pair-kind .ensures (number .0) (number .1)) (c .before .before .before .before .before .before .before .before .before .before .before .before .before .before .before .before .put-plain .ensures)
+    (c .before .before .before .before .before .before .before .before .before .before .before .write-part .ensures) (c .before .before .before .before .before .before .write-part2 .ensures) (c .before .before .put16 .ensures)
+
+write-unknown-put-plain-requires : (t : ℕ) → write-unknown-lts.Need-put-plain-requires (write-unknown-claims t) (write-unknown-at t) write-unknown.Post
+write-unknown-put-plain-requires t c κs =
+    let o = c .before .before .before .before .before .pre .1 in
+    pair-plain-asked (o .0) (unknown-inner (o .0) (o .1)) (c .pair-kind .ensures And refl)
+
+write-unknown-write-part-requires : (t : ℕ) → write-unknown-lts.Need-write-part-requires (write-unknown-claims t) (write-unknown-at t) write-unknown.Post
+write-unknown-write-part-requires t c κs =
+    let f = c .before .before .before .before .before .before .before .before .before .before in
+    let m = f .pre .0 in
+    let o = f .pre .1 in
+    (omega (arith, o .0 .part-few), left-ready (o .0) (unknown-inner (o .0) (o .1)) (c .before .before .before .before .before .pair-kind .ensures And refl) (c .before .before .before .before .put-plain .ensures))
+
+write-unknown-write-part-requires-2 : (t : ℕ) → write-unknown-lts.Need-write-part-requires-2 (write-unknown-claims t) (write-unknown-at t) write-unknown.Post
+write-unknown-write-part-requires-2 t c κs =
+    let f = c .before .before .before .before .before .before .before .before .before .before .before .before .before .before .before in
+    let m = f .pre .0 in
+    let o = f .pre .1 in (
+      omega (arith, o .0 .part-few),
+      right-ready (o .0) (unknown-inner (o .0) (o .1)) (c .before .before .before .before .before .before .before .before .before .before .pair-kind .ensures And refl) (c .before .before .before .before .before .before .before .before .before .put-plain .ensures) (c .before .before .before .before .write-part .ensures),
+    )
+
+write-unknown-put16-requires : (t : ℕ) → write-unknown-lts.Need-put16-requires (write-unknown-claims t) (write-unknown-at t) write-unknown.Post
+write-unknown-put16-requires t c κs =
+    let o = c .before .before .before .before .before .before .before .before .before .before .before .before .before .before .before .before .before .before .before .pre .1 in
+    pair-end-asked (o .0) (unknown-inner (o .0) (o .1)) (c .before .before .before .before .before .before .before .before .before .before .before .before .before .before .pair-kind .ensures And refl) (c .before .before .before .before .before .before .before .before .before .before .before .before .before .put-plain .ensures) (c .before .before .before .before .before .before .before .before .write-part .ensures) (c .before .before .before .write-part2 .ensures)
+
+write-unknown-returns : (t : ℕ) → write-unknown-lts.Need-returns (write-unknown-claims t) (write-unknown-at t) write-unknown.Post
+write-unknown-returns t c =
+    let number = c .before .before .before .before .before .before .before .before .before .before .before .before .before .before .before .before .before .before .before .before .before .before .pre .1 .1 in
+    λ h. pair-wrote h (unknown-inner h number) (c .before .before .before .before .before .before .before .before .before .before .before .before .before .before .before .before .before .pair-kind .ensures And refl) (c .before .before .before .before .before .before .before .before .before .before .before .before .before .before .before .before .put-plain .ensures)
+    (c .before .before .before .before .before .before .before .before .before .before .before .write-part .ensures) (c .before .before .before .before .before .before .write-part2 .ensures) (c .before .before .put16 .ensures)
 
 write-part-under-nots-requires : (t : ℕ) → write-part-lts.Need-under-nots-requires (write-part-claims t) (write-part-at t) write-part.Post
 write-part-under-nots-requires t c κs = c .before .before .before .pre .1 .size
@@ -232,12 +291,30 @@ write-part-write-list-requires t c κs =
     let m = o .pre .0 in
     (omega arith, (o .pre .1, list-left _ (c .before .before .before .before .before .before .match .rest) (omega (arith, c .before .before .before .if3 .left)) (omega (arith, c .before .before .if4 .taken))))
 
+write-part-under-truth-requires : (t : ℕ) → write-part-lts.Need-under-truth-requires (write-part-claims t) (write-part-at t) write-part.Post
+write-part-under-truth-requires t c κs =
+    let o = c .before .before .before .before .before .before .before .before .pre .1 in
+    (o .size, (o .part-few, (c .before .if4 .left, omega (arith, c .if5 .taken))))
+
+write-part-write-part-requires-2 : (t : ℕ) → write-part-lts.Need-write-part-requires-2 (write-part-claims t) (write-part-at t) write-part.Post
+write-part-write-part-requires-2 t c κs =
+    let o = c .before .before .before .before .before .before .before .before .before .before .before in
+    let m = o .pre .0 in
+    let u = c .before .before .under-truth .ensures in
+    (omega (arith, u .1, o .pre .1 .part-few), u .0 _ .ready (o .pre .1))
+
+write-part-write-unknown-requires : (t : ℕ) → write-part-lts.Need-write-unknown-requires (write-part-claims t) (write-part-at t) write-part.Post
+write-part-write-unknown-requires t c κs =
+    let o = c .before .before .before .before .before .before .before .before .before .before .before in
+    let m = o .pre .0 in
+    (omega arith, (o .pre .1, unknown-left _ (c .before .before .before .if5 .left) (omega (arith, c .before .before .if6 .taken))))
+
 write-part-never-requires : (t : ℕ) → write-part-lts.Need-never-requires (write-part-claims t) (write-part-at t) write-part.Post
 write-part-never-requires t c κs =
     let o = c .before .before .before .before in
     let low = kind-low _ _ (o .pre .1 .rule) (o .pre .1 .stands) in
     let high = kind-high _ _ (o .pre .1 .rule) (o .pre .1 .stands) in
-    ⊎-elim (λ w. omega (arith, w .taken)) (λ w. omega (arith, w .3 .left)) (c .if1 .came)
+    ⊎-elim (λ w. omega (arith, w .taken)) (λ w. omega (arith, w .5 .left)) (c .if1 .came)
 
 write-part-returns : (t : ℕ) → write-part-lts.Need-returns (write-part-claims t) (write-part-at t) write-part.Post
 write-part-returns t c =
@@ -261,9 +338,15 @@ write-part-returns-5 t c =
 write-part-returns-6 : (t : ℕ) → write-part-lts.Need-returns-6 (write-part-claims t) (write-part-at t) write-part.Post
 write-part-returns-6 t c = c .before .before .write-list .ensures
 
-pub +write-exists+write-list+write-pair+write-part-spec : {M : Type 1} → statement M
-+write-exists+write-list+write-pair+write-part-spec =
-    close μ-write-exists μ-write-list μ-write-pair μ-write-part
+write-part-returns-7 : (t : ℕ) → write-part-lts.Need-returns-7 (write-part-claims t) (write-part-at t) write-part.Post
+write-part-returns-7 t c = c .before .before .before .before .before .under-truth .ensures .0 _ .wrote (c .before .before .write-part2 .ensures)
+
+write-part-returns-8 : (t : ℕ) → write-part-lts.Need-returns-8 (write-part-claims t) (write-part-at t) write-part.Post
+write-part-returns-8 t c = c .before .before .write-unknown .ensures
+
+pub +write-exists+write-list+write-pair+write-part+write-unknown-spec : {M : Type 1} → statement M
++write-exists+write-list+write-pair+write-part+write-unknown-spec =
+    close μ-write-exists μ-write-list μ-write-pair μ-write-part μ-write-unknown
     (λ t. write-exists-lts.spec (write-exists-claims t) (write-exists-at t) write-exists.Post
     (λ c κs. search needs)
     (λ c κs. search needs)
@@ -312,7 +395,7 @@ pub +write-exists+write-list+write-pair+write-part-spec : {M : Type 1} → state
     (write-pair-put16-requires t)
     (λ c. search needs)
     (write-pair-returns t))
-    λ t. write-part-lts.spec (write-part-claims t) (write-part-at t) write-part.Post
+    (λ t. write-part-lts.spec (write-part-claims t) (write-part-at t) write-part.Post
     (λ c. search needs)
     (λ c. search needs)
     (λ c. search needs)
@@ -324,6 +407,9 @@ pub +write-exists+write-list+write-pair+write-part-spec : {M : Type 1} → state
     (write-part-write-pair-requires t)
     (write-part-write-mark-requires t)
     (write-part-write-list-requires t)
+    (write-part-under-truth-requires t)
+    (write-part-write-part-requires-2 t)
+    (write-part-write-unknown-requires t)
     (write-part-never-requires t)
     (λ c. search needs)
     (write-part-returns t)
@@ -338,3 +424,22 @@ pub +write-exists+write-list+write-pair+write-part-spec : {M : Type 1} → state
     (λ c. search needs)
     (write-part-returns-6 t)
     (λ c. search needs)
+    (write-part-returns-7 t)
+    (λ c. search needs)
+    (write-part-returns-8 t)
+    (λ c. search needs))
+    λ t. write-unknown-lts.spec (write-unknown-claims t) (write-unknown-at t) write-unknown.Post
+    (λ c. search needs)
+    (λ c. search needs)
+    (λ c. search needs)
+    (λ c κs. (And, refl))
+    (write-unknown-put-plain-requires t)
+    (λ c. search needs)
+    (λ c. search needs)
+    (write-unknown-write-part-requires t)
+    (λ c. search needs)
+    (write-unknown-write-part-requires-2 t)
+    (λ c. let few = c .before .before .before .before .before .before .before .before .before .before .before .before .before .before .before .before .before .before .before .pre .1 .0 .entry-few in search needs)
+    (write-unknown-put16-requires t)
+    (λ c. search needs)
+    (write-unknown-returns t)
