@@ -173,6 +173,8 @@ static void refusal_examples(void) {
     refused_text(ROSKUDLA_GRAMMAR, "1 = 1 IS TRUE");
     refused_text(ROSKUDLA_GRAMMAR, "TRUE");
     refused_text(ROSKUDLA_GRAMMAR, "EXISTS (FROM 2 v WHERE 1 = 1) IS TRUE");
+    refused_text(ROSKUDLA_GRAMMAR, "m.1 IN " ALL2 " IS TRUE");
+    refused_text(ROSKUDLA_GRAMMAR, "(1 = 1) IS NOT NOT TRUE");
     EXPECT(roskudla_judge(bytes_of("1 = 1"), 5, case_tables, sizeof case_tables, ROWS, &value) == ROSKUDLA_ROW && value == UNTOUCHED);
     EXPECT(roskudla_judge(bytes_of("1 = 1"), 5, case_tables, sizeof case_tables, (size_t)-1, &value) == ROSKUDLA_ROW && value == UNTOUCHED);
     free(spaces);
@@ -190,11 +192,14 @@ static void statuses(const char *text, uint32_t of_read, uint32_t of_judge, uint
     EXPECT(roskudla_card(bytes_of(text), strlen(text), case_tables, sizeof case_tables, NULL, 0, &length) == of_card && length == UNTOUCHED);
 }
 
-/* 13 comes after 8, and before 11 and 12: seven IS UNKNOWN within one another make a sum of 255, six of them one of 127, which is none too high */
+/* 13 comes after 8, and before 11 and 12: seven IS UNKNOWN within one another make a sum of 255, which is too high, and six of them one of 127; 32 of them
+ * make one that has 33 bits */
 static void too_many_entries(void) {
     char *seven = within_unknowns("1 = 1", 7), *six = within_unknowns("1 = 1", 6), *unbound = within_unknowns("k.1 = 1", 7);
+    char *most = within_unknowns("1 = 1", 32);
     size_t count = UNTOUCHED;
     refused_text(ROSKUDLA_ENTRIES, seven);
+    refused_text(ROSKUDLA_ENTRIES, most);
     refused_text(ROSKUDLA_NAMES, unbound);
     statuses(seven, ROSKUDLA_ENTRIES, ROSKUDLA_ENTRIES, ROSKUDLA_ENTRIES);
     statuses(six, ROSKUDLA_OK, ROSKUDLA_ROW, ROSKUDLA_ROOM);
@@ -203,6 +208,7 @@ static void too_many_entries(void) {
     free(seven);
     free(six);
     free(unbound);
+    free(most);
 }
 
 static const uint8_t eight_tables[] = {8, 1, 0, 0, 1, 0, 0, 1, 0, 0, 1, 0, 0, 1, 0, 0, 1, 0, 0, 1, 0, 0, 1, 0, 0};

@@ -238,7 +238,7 @@ MOST_ENTRIES = paper.within_exists(paper.within_unknowns(6, b"EXISTS(FROM 2 w WH
 ROOM_TEXTS = (
     paper.WORKED_TEXT, b"m.1 IS NULL OR NOT m.2<>-1", paper.CASES[11].text, b"NOT EXISTS(FROM 2 v WHERE v.1<=ALL(SELECT w.1 FROM 3 w WHERE w.3 IS NULL))",
     b"NOT " * 63 + b"1=1", largest_text(12).encode(), LARGEST,
-    b"(m.2>0)IS UNKNOWN", b"NOT(NOT(m.1=1 OR m.2=1)IS NOT UNKNOWN)IS FALSE", b"m.1 NOT IN(SELECT v.1 FROM 2 v WHERE(v.1<m.2)IS NOT TRUE)", MOST_ENTRIES)
+    b"(m.2>0)IS UNKNOWN", b"NOT(NOT m.1=1 OR(m.2=1)IS NOT UNKNOWN)IS FALSE", b"m.1 NOT IN(SELECT v.1 FROM 2 v WHERE(v.1<m.2)IS NOT TRUE)", MOST_ENTRIES)
 
 
 def check_rooms(rules):

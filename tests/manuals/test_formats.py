@@ -1,4 +1,4 @@
-"""docs/FORMATS.md against the library as built, and against the model of document 01.
+"""docs/FORMATS.md against the library as built, and against the model of document 01 with Point 1 of document 02.
 
 The manual is read as it stands: its tables by their headers, its formulas and bytes in backticks, the clauses of a sound card by their numbers, the worked
 examples by their names in bold (File F, Cards A, B and D, Rules C and E), and its code, which is run. The bytes of a worked example are those of its table, row

@@ -5,7 +5,8 @@ The manual is plain Markdown. What this program finds in it:
 - a fenced block `tables`: the tables that the examples of its section are tried with; a section without one has those of the first section
 - a fenced block `rule`: a rule, with the values that the next line of text gives it: "Rows 0 to 4: T F U F T"
 - a fenced block `grammar`: the forms of the grammar, a line each
-- a table with a column "Rule": an example in each line, and what is tried of it in the other columns (RULE_COLUMNS); `text_of` says how an example is written
+- a table with a column "Rule": an example in each line, and what is tried of it in the other columns (RULE_COLUMNS); `text_of` says how an example is written.
+  What an explanation there says to write is a rule, and is accepted
 - tables of other sorts, by the heading of their first column (`sorts` of Manual)
 
 A fenced block, a table, a column or an example of any other sort is a fault, and so is a section with fewer examples than AT_LEAST says.
@@ -37,7 +38,7 @@ NAME = "docs/RULES.md"
 SEED = 20261116
 DERIVED_TEXTS = 1500
 LATER_FILES = 25
-NEVER_UNKNOWN = 150
+DRAWN_CONDITIONS = 150
 TRUTHS = {"T": model.TRUE, "U": model.UNKNOWN, "F": model.FALSE}
 TESTS = {"T": "1 = 1", "U": "m.1 = 1", "F": "1 = 2"}  # with these values where m.1 is blank
 TRUTH_TESTS = tuple(f"IS{' NOT' * has_not} {word}" for word in model.TRUTH_WORDS for has_not in (False, True))
@@ -359,6 +360,10 @@ FEW_ENTRIES_SENTENCE = "A rule with neither of them never has too many."
 NEVER_UNKNOWN_SENTENCES = (
     "`(EXISTS (FROM ..)) IS UNKNOWN` is always false",
     "So is `IS UNKNOWN` behind every condition that has only `EXISTS`, `IS NULL`, `IS NOT NULL` and truth tests, with `AND`, `OR` and `NOT`.")
+SPLIT_SENTENCES = (
+    "with `IS NOT FALSE`, which adds no entries: the condition is unknown exactly where the first card says no and the second says yes.",
+    "with `IS UNKNOWN` behind them it is true where the rule is unknown, and with `IS FALSE` where the rule is false. "
+    "On each row exactly one of the three is true: the rule itself, or one of these two.")
 WORKED_SENTENCE = r"For member (\d+), in row (\d+), it is worked out like this:"
 TABLES_SENTENCE = r"There are (\d+) to (\d+) tables, with (\d+) to (\d+) columns and (\d+) to ([\d,]+) rows each, and at most ([\d,]+) cells in all\."
 
@@ -572,6 +577,7 @@ class Manual:
         self.tried(1, "sentences", self.try_tables_sentence)
         self.tried(1, "sentences", self.try_few_entries)
         self.tried(1, "sentences", self.try_never_unknown)
+        self.tried(1, "sentences", self.try_splits)
         for target in re.findall(r"\]\(([^)]+)\)", self.text):
             self.tried(1, "links", self.try_link, target)
         self.demand()
@@ -890,7 +896,7 @@ class Manual:
         compare.same("the refusals of the table", sorted(self.order), sorted(set(itertools.chain(*cases.REFUSALS_OF.values()))))
         for call, refusals in cases.REFUSALS_OF.items():
             compare.same(f"the order of {call}", tuple(number for number in self.order if number in refusals), refusals)
-        compare.same(f"the order is said once: {ORDER_SENTENCE}", self.text.count(ORDER_SENTENCE), 1)
+        self.said_once([ORDER_SENTENCE])
         rising = self.order == sorted(self.order)
         compare.same("it is said that the lowest is given", "lowest" in self.text, rising)
         exceptions = re.findall(EXCEPTION_SENTENCE, self.text)
@@ -913,7 +919,7 @@ class Manual:
 
     def try_few_entries(self):
         """Without IS UNKNOWN and IS NOT UNKNOWN a rule has at most 192 entries; one that has as many as there can be is accepted."""
-        compare.same(f"it is said once: {FEW_ENTRIES_SENTENCE}", self.text.count(FEW_ENTRIES_SENTENCE), 1)
+        self.said_once([FEW_ENTRIES_SENTENCE])
         parts, froms = self.most["parts"], self.most["FROMs"]
         most = max(most_entries(count, froms) for count in range(1, parts + 1))
         if most > self.most["entries"]:
@@ -923,13 +929,34 @@ class Manual:
         compare.same("the parts and entries of the largest rule", (part_count(condition_in(text)), entry_count(text)), (parts, most))
         self.each(text, lambda judge: judge.entries(text, self.file), most)
 
+    def said_once(self, sentences):
+        """Each of some sentences stands in the manual once."""
+        for sentence in sentences:
+            compare.same(f"it is said once: {sentence}", " ".join(self.text.split()).count(sentence), 1)
+
+    def try_splits(self):
+        """A condition, and with IS NOT FALSE, IS UNKNOWN and IS FALSE behind it, on drawn tables: what is said of the rules that take the place of one."""
+        self.said_once(SPLIT_SENTENCES)
+        draw, seen = random.Random(SEED), collections.Counter()
+        maker = generate.RuleMaker(draw, [2, 1, 1], truths=.15, even=True)
+        for _ in range(DRAWN_CONDITIONS):
+            condition = generate.spaced(draw, maker.rule(draw.choice([1, 2, 3])))
+            file = generate.filled_tables(draw, [(2, 3), (1, 2), (1, 1)], .5)
+            tests = [b"(" + condition + b") IS " + word for word in (b"NOT FALSE", b"UNKNOWN", b"FALSE")]
+            for judge in self.judges:
+                compare.same(f"the entries of {tests[0]}", judge.entries(tests[0], file), judge.entries(condition, file))
+                for value, not_false, unknown, false in zip(*(judge.values(text, file) for text in (condition, *tests))):
+                    compare.same(f"{condition} is {value}, and {tests[0]} {not_false}", value != model.TRUE and not_false == model.TRUE, value == model.UNKNOWN)
+                    compare.same(f"{condition} is {value}, with IS UNKNOWN {unknown}, with IS FALSE {false}", [value, unknown, false].count(model.TRUE), 1)
+                    seen[value] += 1
+        compare.same("the values of drawn conditions", set(seen), set(TRUTHS.values()))
+
     def try_never_unknown(self):
         """Conditions that are said to be never unknown, alone and with IS UNKNOWN behind them, on drawn tables."""
-        for sentence in NEVER_UNKNOWN_SENTENCES:
-            compare.same(f"it is said once: {sentence}", self.text.replace("\n", " ").count(sentence), 1)
+        self.said_once(NEVER_UNKNOWN_SENTENCES)
         draw, seen = random.Random(SEED), collections.Counter()
         maker = generate.RuleMaker(draw, [2, 1, 1], truths=.15)
-        for number in range(NEVER_UNKNOWN):
+        for number in range(DRAWN_CONDITIONS):
             condition = generate.spaced(draw, never_unknown(draw, maker, 1 if number % 3 == 0 else 3))
             file = generate.filled_tables(draw, [(2, 3), (1, 2), (1, 1)], .5)
             for judge in self.judges:

@@ -1,4 +1,4 @@
--- What the program prints on some files: the paper's example, an empty list, no files, and refusals beside one another.
+-- What the program prints on some files: document 01's example, an empty list, no files, refusals beside one another; a truth test, and refusal 13.
 use mathlib.Core.List.{List, [], _∷_, _++_, map}
 use Prim.Native.Nat.{ℕ}
 use Prim.Native.String.{String}

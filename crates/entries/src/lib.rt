@@ -1,7 +1,7 @@
 // The entries of a card, written from the parts of a rule.
 // A rule is false- or true-interpreted, and negated or not; both flags go down to its parts, so that the card has no negation.
 // Short names: p, the parts as numbers; s, the number of a part; k, the number of an entry; unknown, what unknown counts as: no (false-interpreted) or yes;
-// negate, whether the part is negated.
+// negate, whether the part is negated; u, what stands under a part that has no entry.
 ghost use mathlib.Core.Path.{_≡_};
 ghost use mathlib.Core.Bool.{Bool};
 ghost use Prim.Native.Nat.{_+_, _*_, _<_, _≤_};
@@ -191,32 +191,16 @@ pub fn write_part(
         AND_PART | OR_PART => write_pair(p, s, negate, unknown, kinds, records, k),
         // NOT has no entry: what is under it is negated, in the other interpretation.
         NOT_PART => {
-            let under = under_nots(p, s + 1, !negate, !unknown);
-            write_part(
-                p,
-                under.part,
-                under.negate,
-                under.unknown,
-                kinds,
-                records,
-                k,
-            )
+            let u = under_nots(p, s + 1, !negate, !unknown);
+            write_part(p, u.part, u.negate, u.unknown, kinds, records, k)
         }
         COMPARISON_PART => write_comparison(p, s, negate, unknown, kinds, records, k),
         NULL_PART | NOT_NULL_PART => write_mark(p, s, negate, kinds, records, k),
         EXISTS_PART => write_exists(p, s, negate, unknown, kinds, records, k),
         SOME_PART | ALL_PART => write_list(p, s, negate, unknown, kinds, records, k),
         IS_TRUE_PART | IS_NOT_TRUE_PART | IS_FALSE_PART | IS_NOT_FALSE_PART => {
-            let under = under_truth(p, s, negate);
-            write_part(
-                p,
-                under.part,
-                under.negate,
-                under.unknown,
-                kinds,
-                records,
-                k,
-            )
+            let u = under_truth(p, s, negate);
+            write_part(p, u.part, u.negate, u.unknown, kinds, records, k)
         }
         IS_UNKNOWN_PART | IS_NOT_UNKNOWN_PART => {
             write_unknown(p, s, negate, unknown, kinds, records, k)

@@ -24,6 +24,7 @@ use Rattle.rule.specs.Condition.{WrittenCondition, Rule, parts, fromsDeep}
 use Rattle.rule.specs.Grammar.{Tokens}
 use Rattle.rule.specs.Reader.{readAll}
 use Rattle.rule.specs.Names.{mostParts, mostFroms, limitsFit, outermost, ruleIn}
+use Rattle.rule.specs.Sum.{entrySum}
 use Rattle.rule.specs.Calls.{mostBytes, conditionOf, ruleOf, textRefusals, tokensRefusals, readingRefusals, Accepted, withRule}
 use Rattle.rule.proofs.Accepted.{limits-of}
 use Rattle.rule.proofs.Sum.{sum-fits, sum-unfits}
@@ -136,29 +137,31 @@ module _ (s file : List ℕ) where
                 stands = rule-stands new (is-named .rule) (sym (ap (λ (k : ℕ). take (partSize * k) new) has-count) ∙ is-named .written);
               }
 
-          pub countable-tokens : Countable new 0 n
-          countable-tokens = countable
+          many-entries : mostEntries < entrySum (is-named .rule) → FirstOfTokens 13
+          unfolding firstApplying
+          many-entries h = rw (b, w .reads, limits, is-named .named, sum-unfits (is-named .rule) h)
 
-          module _ (m : ℕ) (c : CountedTo new 0 n m) where
-            pub parsed-tokens : m ≤ mostEntries → TokensParsing s file new n m
-            parsed-tokens h =
-                let sum = few-counted (c countable) h in
-                record {
-                  brackets = b;
-                  tree = w .tree;
-                  reads = w .reads;
-                  limits = limits;
-                  rule = is-named .rule;
-                  named = is-named .named;
-                  count = has-count;
-                  written = is-named .written;
-                  sum = sum;
-                  few-entries = omega arith;
-                }
-
-            pub many-entries : mostEntries < m → FirstOfTokens 13
-            unfolding firstApplying
-            many-entries h = rw (b, w .reads, limits, is-named .named, sum-unfits (is-named .rule) (many-counted (c countable) h))
+          -- and their number decides: there is a rule, or 13 applies
+          pub counted-tokens : Countable new 0 n × ((m : ℕ) → CountedTo new 0 n m → (m ≤ mostEntries → TokensParsing s file new n m) × (mostEntries < m → FirstOfTokens 13))
+          counted-tokens = (
+            countable,
+            λ m c. (
+              λ h. let sum = few-counted (c countable) h in
+                  record {
+                    brackets = b;
+                    tree = w .tree;
+                    reads = w .reads;
+                    limits = limits;
+                    rule = is-named .rule;
+                    named = is-named .named;
+                    count = has-count;
+                    written = is-named .written;
+                    sum = sum;
+                    few-entries = omega arith;
+                  },
+              λ h. many-entries (many-counted (c countable) h),
+            ),
+          )
 
 -- what the lexer answered, and the grammar's reader
 module _ (text new : List ℕ) (r : Tokenized) (told : tokenizedAs r new ≡ tokensOf text) where

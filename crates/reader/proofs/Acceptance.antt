@@ -87,10 +87,10 @@ module _ (text file : List ℕ) (list : List Part) (r : Reading) (e : readAnswer
   )
   accepted none f = (λ a. allowed f, λ w. accepts-always f)
 
-  given : (w : Allowed text file) → parts (w .named .rule) ≤ length list → r ≡ Parts (parts (w .named .rule))
+  given : (w : Allowed text file) → parts (w .up-to-names .rule) ≤ length list → r ≡ Parts (parts (w .up-to-names .rule))
   given w h =
       let a = accepted-claim text file .1 w in
-      read-claim r (Parts (parts (w .named .rule))) (answers _ (calls-claim .read-given text file list a (w .named .rule) (named-rule text file (w .named)) h))
+      read-claim r (Parts (parts (w .up-to-names .rule))) (answers _ (calls-claim .read-given text file list a (w .up-to-names .rule) (named-rule text file (w .up-to-names)) h))
 
 pub acceptance-claim : AcceptanceClaim
 acceptance-claim = record {

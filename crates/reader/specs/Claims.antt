@@ -30,4 +30,4 @@ pub record AcceptanceClaim : Type 0 where
   pub accepted : (text file : List ℕ) (list : List Part) (r : Reading) → readAnswer r ≡ readCall text file list .result
       → (accepts r ≡ true) ↔ Allowed text file
   pub given : (text file : List ℕ) (list : List Part) (r : Reading) → readAnswer r ≡ readCall text file list .result
-      → (w : Allowed text file) → parts (w .named .rule) ≤ length list → r ≡ Parts (parts (w .named .rule))
+      → (w : Allowed text file) → parts (w .up-to-names .rule) ≤ length list → r ≡ Parts (parts (w .up-to-names .rule))

@@ -20,7 +20,7 @@ use Rattle.rule.specs.Reader.{readAll}
 use Rattle.rule.specs.Names.{mostParts, mostFroms, limitsFit, outermost, ruleIn}
 use Rattle.rule.specs.Sum.{entrySum, sumFits}
 use Rattle.rule.specs.Calls.{mostBytes, fails, isThere, conditionOf, ruleOf, readingRefusals, Accepted}
-use Rattle.rule.specs.Claims.{Named, Allowed, AcceptedClaim, TooManyEntries, ManyEntriesClaim, PartsClaim}
+use Rattle.rule.specs.Claims.{UpToNames, Allowed, AcceptedClaim, TooManyEntries, ManyEntriesClaim, PartsClaim}
 use Rattle.rule.proofs.Reading.{read-sound, read-complete}
 use Rattle.rule.proofs.Constants.{tokens-fit, reading-constants}
 use Rattle.rule.proofs.Fits.{names-fit, fits-scoped}
@@ -86,7 +86,7 @@ limits-of a p q = rw (le-leb (parts a) mostParts p, le-leb (fromsDeep a) mostFro
 
 -- ---- 1 to 8 leave just what grammar, limits and names allow
 
-unrefused-named : (text file : List ℕ) → Unrefused text file → Named text file
+unrefused-named : (text file : List ℕ) → Unrefused text file → UpToNames text file
 unfolding conditionOf
 unrefused-named text file u =
     let t = there (tokensOf text) (u .no-4) in
@@ -109,7 +109,7 @@ unrefused-named text file u =
       names = r .1;
     }
 
-named-unrefused : (text file : List ℕ) → Named text file → Unrefused text file
+named-unrefused : (text file : List ℕ) → UpToNames text file → Unrefused text file
 unfolding conditionOf
 named-unrefused text file w =
     let read : readAll (w .tokens) ≡ some (w .condition) = read-complete (w .tokens) (w .condition) (w .reads) in
@@ -125,13 +125,13 @@ named-unrefused text file w =
       no-8 = rw (is, w .names);
     }
 
-pub named-rule : (text file : List ℕ) (w : Named text file) → ruleOf text (columnsOf file) ≡ some (w .rule)
+pub named-rule : (text file : List ℕ) (w : UpToNames text file) → ruleOf text (columnsOf file) ≡ some (w .rule)
 unfolding ruleOf conditionOf
 named-rule text file w = ap (_>>= ruleIn (columnsOf file) outermost) (ap (_>>= readAll) (w .are-tokens) ∙ read-complete (w .tokens) (w .condition) (w .reads)) ∙ w .names
 
 -- ---- and 13 goes by the sum
 
-module _ (text file : List ℕ) (w : Named text file) where
+module _ (text file : List ℕ) (w : UpToNames text file) where
   over-is : overSum text file ≡ not (sumFits (w .rule))
   over-is = ap (fails sumFits) (named-rule text file w)
 
@@ -154,17 +154,17 @@ accepted-allowed : (text file : List ℕ) → Accepted text file → Allowed tex
 accepted-allowed text file e =
     let u = unrefused text file none (λ n h f. no-such n f) e in
     let w = unrefused-named text file (u .0) in
-    record { named = w; few-entries = few-of text file w (none-first 13 _ _ (u .1) .0) }
+    record { up-to-names = w; few-entries = few-of text file w (none-first 13 _ _ (u .1) .0) }
 
 allowed-accepted : (text file : List ℕ) → Allowed text file → Accepted text file
 allowed-accepted text file a =
-    refused-by-sum text file (named-unrefused text file (a .named)) ∙ first-none 13 _ _ (of-few text file (a .named) (a .few-entries)) first-nil
+    refused-by-sum text file (named-unrefused text file (a .up-to-names)) ∙ first-none 13 _ _ (of-few text file (a .up-to-names) (a .few-entries)) first-nil
 
 pub accepted-claim : AcceptedClaim
 accepted-claim text file = (accepted-allowed text file, allowed-accepted text file)
 
-pub accepted-named : (text file : List ℕ) → Accepted text file → Named text file
-accepted-named text file e = accepted-allowed text file e .named
+pub accepted-named : (text file : List ℕ) → Accepted text file → UpToNames text file
+accepted-named text file e = accepted-allowed text file e .up-to-names
 
 -- 13 is given only where it applies
 thirteen-applies : (b : Bool) → firstApplying ((13 if b) ∷ []) ≡ some 13 → b ≡ true
@@ -179,17 +179,17 @@ many-entries-claim text file = (over, given)
     over e =
         let u = unrefused text file (some 13) (λ n h f. let z : n ≡ 13 = cc in omega arith) e in
         let w = unrefused-named text file (u .0) in
-        record { named = w; many-entries = many-of text file w (thirteen-applies _ (u .1)) }
+        record { up-to-names = w; many-entries = many-of text file w (thirteen-applies _ (u .1)) }
 
     given : TooManyEntries text file → firstApplying (readingRefusals text file) ≡ some 13
-    given a = refused-by-sum text file (named-unrefused text file (a .named)) ∙ first-one 13 _ _ (of-many text file (a .named) (a .many-entries))
+    given a = refused-by-sum text file (named-unrefused text file (a .up-to-names)) ∙ first-one 13 _ _ (of-many text file (a .up-to-names) (a .many-entries))
 
 -- ---- the rule of an accepted text
 
 pub parts-claim : PartsClaim
 parts-claim text file e =
     let allowed = accepted-allowed text file e in
-    let w = allowed .named in
+    let w = allowed .up-to-names in
     let constants = reading-constants (w .reads) (tokens-fit text (w .are-tokens)) in
     let resolved = names-fit (columnsOf file) (w .condition) constants (w .names) in
     let scoped = fits-scoped (columnsOf file) 1 judgedLevels refl (w .rule) (resolved .fits) in

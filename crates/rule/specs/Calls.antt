@@ -85,12 +85,16 @@ unfoldable pub judgeCall : List ℕ → List ℕ → ℕ → Answer Truth
 judgeCall text file row =
     unless (firstApplying (judgeRefusals text file row)) (λ _. withRule (ruleOf text (columnsOf file)) Unknown (judged (tablesOf file) row))
 
--- ---- the order of each call's refusals, by their numbers: where several apply, the first in the call's list is given. By document 01 it is 'the lowest
--- applying number', and 'reading goes before judging'; 13 has its place by document 02, Point 1, with reading and after 8
+-- ---- the order of each call's refusals, by their numbers: where several apply, the first in the call's list is given. But for 13 it is 'the lowest applying
+-- number' (document 01), and 'reading goes before judging'
 
--- those of reading
+-- those of reading in document 01
+abbrev pub firstOrder : List ℕ
+firstOrder = 1 ∷ 2 ∷ 3 ∷ 4 ∷ 5 ∷ 6 ∷ 7 ∷ 8 ∷ []
+
+-- and 13, which 'belongs to reading and comes after 8' (document 02, Point 1)
 abbrev pub readingOrder : List ℕ
-readingOrder = 1 ∷ 2 ∷ 3 ∷ 4 ∷ 5 ∷ 6 ∷ 7 ∷ 8 ∷ 13 ∷ []
+readingOrder = firstOrder ++ (13 ∷ [])
 
 abbrev pub readOrder : List ℕ
 readOrder = readingOrder ++ (12 ∷ [])

@@ -1,5 +1,5 @@
--- Document 01, Proved cases: the texts and the tables' bytes, and what JUDGE is to answer; and texts at the edges of the refusals of reading. Document 02,
--- Point 1: the table of its truth tests.
+-- Document 01, Proved cases: the texts and the tables' bytes, and what JUDGE is to answer; and texts at the edges of the refusals of reading. The truth
+-- tests of document 02, Point 1: their table, and among the texts, the parts and the edges.
 use mathlib.Core.List.{List, [], _∷_, _++_, map}
 use mathlib.Core.Option.{Option}
 use Prim.Native.Nat.{ℕ, zero, suc}
@@ -41,7 +41,7 @@ U = Unknown
 abbrev F : Truth
 F = False
 
--- ---- the truth tests on each value, as SQL-92 tabulates them (8.12, <search condition>, General Rules): a line for each test, a column for each value
+-- ---- the truth tests on each value: a line for each test, a column for each value. SQL-92 (8.12, <search condition>) tabulates IS, and has IS NOT as NOT of it
 
 abbrev pub truthTests : List Unary
 truthTests = Is True ∷ IsNot True ∷ Is False ∷ IsNot False ∷ Is Unknown ∷ IsNot Unknown ∷ []
@@ -86,7 +86,7 @@ abbrev pub expectedAt : Case → List (Answer Truth)
 expectedAt c = map Given (c .values)
 
 -- each comparison at less, equal and greater, with negative numbers; IS NOT NULL; blank with blank; AND before OR; each truth test on true, unknown and
--- false; NOT before one; around one that is unknown; in a WHERE
+-- false; NOT before one; one around another, which is never unknown; in a WHERE
 abbrev pub testCases : List Case
 testCases =
     ("m.1 = 2" gives (F ∷ T ∷ F ∷ []))
@@ -220,7 +220,7 @@ unfoldable pub chained : ℕ → List ℕ
 chained zero = bytes "1 = 1"
 chained (suc n) = bytes "1 = 1 OR " ++ chained n
 
--- a text in n brackets, each followed by IS UNKNOWN: of a sum n the next is 1 + 2n
+-- a text in n brackets, each followed by IS UNKNOWN: each makes 1 + 2s of the sum s inside it
 unfoldable pub unknownOf : ℕ → List ℕ → List ℕ
 unknownOf zero text = text
 unknownOf (suc n) text = bytes "(" ++ unknownOf n text ++ bytes ") IS UNKNOWN"
@@ -258,14 +258,18 @@ edges =
     ∷ accepted (bytes "NOT NOT 1 = 1") ∷ (bytes "NOT" refused 6) ∷ (bytes "(1 = 1" refused 6)
     -- truth tests: behind a bracketed condition alone, once, with one of the three words
     ∷ accepted (bytes "(1 = 1)IS TRUE") ∷ (bytes "(1 = 1) IS TRUE IS TRUE" refused 6) ∷ accepted (bytes "((1 = 1) IS TRUE) IS TRUE") ∷ (bytes "1 = 1 IS TRUE" refused 6)
-    ∷ (bytes "TRUE" refused 6) ∷ (bytes "(TRUE) IS TRUE" refused 6) ∷ (bytes "m.1 IS TRUE" refused 6) ∷ (bytes "(m.1) IS TRUE" refused 6) ∷ (bytes "(1 = 1) IS NULL" refused 6)
+    ∷ (bytes "TRUE" refused 6) ∷ (bytes "(TRUE) IS TRUE" refused 6) ∷ (bytes "m.1 IS TRUE" refused 6) ∷ (bytes "(m.1) IS TRUE" refused 6) ∷ (bytes "(1 = 1) IS NULL" refused 6) ∷ (bytes "(1 = 1) IS NOT NULL" refused 6)
     ∷ (bytes "(1 = 1) IS" refused 6) ∷ (bytes "(1 = 1) IS NOT" refused 6) ∷ (bytes "(1 = 1) IS NOT NOT TRUE" refused 6) ∷ (bytes "(1 = 1) NOT TRUE" refused 6)
     ∷ (bytes "EXISTS (FROM 1 v WHERE 1 = 1) IS TRUE" refused 6) ∷ (bytes "m.1 IN (SELECT v.1 FROM 2 v WHERE 1 = 1) IS FALSE" refused 6) ∷ (bytes "m.1 IS NULL IS TRUE" refused 6)
+    ∷ (bytes "m.1 = ALL (SELECT v.1 FROM 2 v WHERE 1 = 1) IS TRUE" refused 6) ∷ (bytes "m.1 NOT IN (SELECT v.1 FROM 2 v WHERE 1 = 1) IS TRUE" refused 6)
     ∷ accepted (bytes "NOT (1 = 1) IS UNKNOWN AND (1 = 1) IS NOT FALSE OR 1 = 1") ∷ (bytes "(1 = 1) IS TRUEFALSE" refused 4) ∷ (bytes "(1 = 1) IS UNKNOW" refused 4)
     -- they count among the 64 parts
     ∷ accepted (bytes "(" ++ chained 31 ++ bytes ") IS TRUE") ∷ ((bytes "((" ++ chained 31 ++ bytes ") IS TRUE) IS TRUE") refused 7)
-    -- the sum: 192 may pass, 193 may not, and it comes after names; a sum that no number of 32 bits holds
-    ∷ accepted (unknownOf 6 (bytes "1 = 1")) ∷ (unknownOf 7 (bytes "1 = 1") refused 13) ∷ (unknownOf 7 (bytes "k.1 = 1") refused 8)
+    -- and are no FROMs: three around one another may pass, whatever stands between them
+    ∷ accepted (bytes "EXISTS (FROM 1 a WHERE (EXISTS (FROM 1 b WHERE (EXISTS (FROM 1 c WHERE a.1 = b.2)) IS TRUE)) IS FALSE)")
+    ∷ (bytes "EXISTS (FROM 1 a WHERE (EXISTS (FROM 1 b WHERE (EXISTS (FROM 1 c WHERE EXISTS (FROM 1 d WHERE 1 = 1))) IS TRUE)) IS FALSE)" refused 7)
+    -- the sum: 192 may pass, 193 may not, and it comes after limits and names; a sum that no number of 32 bits holds
+    ∷ accepted (unknownOf 6 (bytes "1 = 1")) ∷ (unknownOf 7 (bytes "1 = 1") refused 13) ∷ (unknownOf 7 (bytes "k.1 = 1") refused 8) ∷ (unknownOf 7 (chained 32) refused 7)
     ∷ accepted (unknownOf 6 (bytes "1 = 1") ++ bytes " OR EXISTS (FROM 1 v WHERE " ++ unknownOf 5 (bytes "1 = 1") ++ bytes ")")
     ∷ ((unknownOf 6 (bytes "1 = 1") ++ bytes " OR EXISTS (FROM 1 v WHERE EXISTS (FROM 1 v WHERE " ++ unknownOf 5 (bytes "1 = 1") ++ bytes "))") refused 13)
     ∷ (unknownOf 32 (bytes "1 = 1") refused 13) ∷ []

@@ -31,7 +31,7 @@ pub record ReadingClaim : Type 0 where
   pub single : (ts : Tokens) (a b : WrittenCondition) → Reads ts a → Reads ts b → a ≡ b
 
 -- demand 2, first half: a text is a rule just when grammar, names and limits allow it. What the refusals 1 to 8 leave, with the tables of a file:
-pub record Named (text file : List ℕ) : Type 0 where
+pub record UpToNames (text file : List ℕ) : Type 0 where
   pub tables-sized : sizesFit file ≡ true
   pub tables-marked : marksFit file ≡ true
   pub short : length text ≤ mostBytes
@@ -47,16 +47,16 @@ pub record Named (text file : List ℕ) : Type 0 where
 
 -- and of these what is allowed: the sum is at most 192
 pub record Allowed (text file : List ℕ) : Type 0 where
-  pub named : Named text file
-  pub few-entries : entrySum (named .rule) ≤ mostEntries
+  pub up-to-names : UpToNames text file
+  pub few-entries : entrySum (up-to-names .rule) ≤ mostEntries
 
 abbrev pub AcceptedClaim : Type 0
 AcceptedClaim = (text file : List ℕ) → Accepted text file ↔ Allowed text file
 
 -- 13 is given exactly when none of 1 to 8 applies and the sum is over 192
 pub record TooManyEntries (text file : List ℕ) : Type 0 where
-  pub named : Named text file
-  pub many-entries : mostEntries < entrySum (named .rule)
+  pub up-to-names : UpToNames text file
+  pub many-entries : mostEntries < entrySum (up-to-names .rule)
 
 abbrev pub ManyEntriesClaim : Type 0
 ManyEntriesClaim = (text file : List ℕ) → (firstApplying (readingRefusals text file) ≡ some 13) ↔ TooManyEntries text file
@@ -82,11 +82,11 @@ PartsClaim = (text file : List ℕ) → Accepted text file → AcceptedAs text f
 abbrev pub EndsClaim : Type 0
 EndsClaim = (r : Rule) (k : ℕ) (d : Part) → getD (partsFrom k r) 0 d .end ≡ k + length (partsFrom k r)
 
--- the number of entries is the sum that the section Card publishes, counted over the kinds of the rule's parts
+-- the number of entries is the sum that is published: document 01's, counted over the kinds of the rule's parts, and what document 02, Point 1, adds to it
 abbrev pub PublishedSumClaim : Type 0
 PublishedSumClaim = (r : Rule) → entrySum r ≡ publishedSum r
 
--- the six truth tests on each of the three values, as SQL-92 tabulates them; and their outcome is never unknown
+-- the six truth tests on each of the three values, by SQL-92; and their outcome is never unknown
 pub record TruthTestsClaim : Type 0 where
   pub table : map (λ u. map (unary3 u) truthValues) truthTests ≡ truthTable
   pub is-known : (t a : Truth) → isUnknown (unary3 (Is t) a) ≡ false
@@ -120,7 +120,7 @@ CasesClaim = map judgedAt cases ≡ map expectedAt cases
 abbrev pub PartsCasesClaim : Type 0
 PartsCasesClaim = map partsRead partsCases ≡ map partsGiven partsCases
 
--- comparisons at less, equal and greater, negative numbers, blanks, and precedence
+-- comparisons at less, equal and greater, negative numbers, blanks, precedence, and truth tests
 abbrev pub TestsClaim : Type 0
 TestsClaim = map judgedAt testCases ≡ map expectedAt testCases
 

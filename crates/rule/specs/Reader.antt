@@ -150,7 +150,7 @@ readTruthTest ts =
 unfoldable pub truthTested : WrittenCondition → Tokens → Found
 truthTested a ts = branch (expect IS ts) (λ us. readTruthTest us >>= (λ u. some (Apply (u .0) a, u .1))) (λ _. some (a, ts))
 
--- a test whose bracket is closed, and what may follow it: a truth test, behind brackets alone
+-- a test whose bracket is closed, and what may follow it: a truth test, where nothing but a condition stands in the bracket, and the bracket is all of the test
 abbrev pub ended : Opening → WrittenCondition → Tokens → Found
 ended Bracket a rest = truthTested a rest
 ended (OfExists f) a rest = some (a, rest)

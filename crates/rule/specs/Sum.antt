@@ -7,11 +7,11 @@ use lib.ListN.{length}
 use Rattle.tables.specs.Values.{mostEntries, Some, All}
 use Rattle.rule.specs.declared.Part.{Part}
 use Rattle.rule.specs.Truth.{Truth, False, Unknown, True}
-use Rattle.rule.specs.Condition.{Unary, Not, Is, IsNot, Condition, Atom, Join, Apply, Exists, Listed, Rule, letters}
+use Rattle.rule.specs.Condition.{Unary, Not, Is, IsNot, Atom, Join, Apply, Exists, Listed, Rule, letters}
 use Rattle.rule.specs.Parts.{unaryKind, listKind, partsOf}
 
--- how often a truth test needs what the condition in it has: IS UNKNOWN and IS NOT UNKNOWN 'use the inner condition twice, joined by one entry', so the sum
--- is '1 plus twice the inner sum there'; the others 'add no entry and nothing to the sum'
+-- how many entries a truth test has with the n of the condition in it: IS UNKNOWN and IS NOT UNKNOWN 'use the inner condition twice, joined by one entry', so
+-- the sum is '1 plus twice the inner sum there'; the others 'add no entry and nothing to the sum'
 abbrev pub truthSum : Truth → ℕ → ℕ
 truthSum True n = n
 truthSum False n = n
@@ -25,14 +25,14 @@ unarySum (IsNot t) n = truthSum t n
 
 -- a test has one entry, AND and OR one before those of their sides; a FROM has one for each of its letters, and a list two more, its AND or OR and
 -- its comparison
-unfoldable pub entrySum : {A S : Type 0} → Condition A S → ℕ
+unfoldable pub entrySum : Rule → ℕ
 entrySum (Atom x) = 1
 entrySum (Join j a b) = 1 + entrySum a + entrySum b
 entrySum (Apply u a) = unarySum u (entrySum a)
 entrySum (Exists f w) = letters f + entrySum w
 entrySum (Listed q op l s f w) = letters f + (2 + entrySum w)
 
--- ---- as it is published, over the records of the parts
+-- ---- as it is published
 
 -- how many records of a list of parts have a kind
 unfoldable pub ofKind : ℕ → List Part → ℕ
@@ -45,11 +45,16 @@ withoutEntry ps =
     ofKind (unaryKind Not) ps
     + (ofKind (unaryKind (Is True)) ps + ofKind (unaryKind (IsNot True)) ps + (ofKind (unaryKind (Is False)) ps + ofKind (unaryKind (IsNot False)) ps))
 
--- the parts of kinds 8 and 9, which have two entries more than others
+-- the parts of kinds 8 and 9, which have two entries besides their first
 abbrev pub ofLists : List Part → ℕ
 ofLists ps = ofKind (listKind Some) ps + ofKind (listKind All) ps
 
--- what a part of kind 14 or 15 around a condition of n entries adds to that and to its own entry: the n once more
+-- document 01, over the records of a rule's parts: n = parts − (parts of kind 3) + 2 × (parts of kinds 8 and 9), where kinds 10 to 13 count as kind 3 does
+abbrev pub countedSum : Rule → ℕ
+countedSum r = let ps = partsOf r in length ps - withoutEntry ps + 2 * ofLists ps
+
+-- document 02, Point 1: 'the length sum becomes 1 plus twice the inner sum there'. The 1 and the inner sum are counted already, so that a part of kind 14 or 15
+-- adds the inner sum n once more
 abbrev pub truthTwice : Truth → ℕ → ℕ
 truthTwice True n = 0
 truthTwice False n = 0
@@ -64,14 +69,12 @@ unaryTwice (IsNot t) n = truthTwice t n
 unfoldable pub usedTwice : Rule → ℕ
 usedTwice (Atom x) = 0
 usedTwice (Join j a b) = usedTwice a + usedTwice b
-usedTwice (Apply u a) = unaryTwice u (entrySum a) + usedTwice a
+usedTwice (Apply u a) = unaryTwice u (countedSum a + usedTwice a) + usedTwice a
 usedTwice (Exists f w) = usedTwice w
 usedTwice (Listed q op l s f w) = usedTwice w
 
--- n = parts − (parts of kind 3) + 2 × (parts of kinds 8 and 9), where kinds 10 to 13 count as kind 3 does; and where a part is of kind 14 or 15, its inner
--- sum once more
 abbrev pub publishedSum : Rule → ℕ
-publishedSum r = let ps = partsOf r in length ps - withoutEntry ps + 2 * ofLists ps + usedTwice r
+publishedSum r = countedSum r + usedTwice r
 
 -- ---- refusal 13 does not apply: the sum is at most 192
 

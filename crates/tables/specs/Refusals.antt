@@ -2,7 +2,7 @@
 -- success. That a refusal leaves every buffer as it was is the product's first demand.
 -- A call lists its refusals in the order in which they are tried, and the first that applies is given. The numbers of the list of each of the six calls
 -- are its published order (`readOrder` and the like, in Calls.antt of rule, translation and card). Where they rise, that is 'the lowest applying
--- number' (LowestClaim).
+-- number' (LowestClaim); READ, JUDGE and CARD try 13 before 11 and 12 (document 02, Point 1).
 use mathlib.Core.Bool.{Bool, true, false, not}
 use mathlib.Core.List.{List, [], _∷_, _++_, map}
 use mathlib.Core.Option.{Option, none, some}

@@ -6,7 +6,7 @@ use Rattle.rule.specs.Cases.{chained, unknownOf}
 use Rattle.translation.specs.Translation.{negated, cardOf}
 use Rattle.translation.specs.Calls.{ruleBytes, cardCall}
 use Rattle.translation.specs.Cases.{workedText, fullText, unknownText, truthText, thirdCard, readRefusal, refusalExamples}
-use Rattle.translation.specs.Claims.{WorkedCardClaim, FullCardClaim, TruthTestCardsClaim, LaterCaseClaim, GateCaseClaim, RefusalsClaim}
+use Rattle.translation.specs.Claims.{WorkedCardClaim, FullCardClaim, WorkedTruthCardsClaim, LaterCaseClaim, GateCaseClaim, RefusalsClaim}
 
 pub worked-card-claim : WorkedCardClaim
 unfolding card-opened rule-opened negated cardOf ruleBytes cardCall workedText
@@ -16,9 +16,9 @@ pub full-card-claim : FullCardClaim
 unfolding card-opened rule-opened negated cardOf ruleBytes cardCall fullText
 full-card-claim = refl
 
-pub truth-test-cards-claim : TruthTestCardsClaim
+pub worked-truth-cards-claim : WorkedTruthCardsClaim
 unfolding card-opened rule-opened negated cardOf ruleBytes cardCall unknownText truthText
-truth-test-cards-claim = record { unknown = refl; every = refl }
+worked-truth-cards-claim = record { unknown = refl; every = refl }
 
 pub later-case-claim : LaterCaseClaim
 unfolding card-opened rule-opened

@@ -119,7 +119,7 @@ threeRows = (1 ∷ 2 ∷ 3 ∷ 0 ∷ []) ++ replicate 30 0
 unfoldable pub readRefusal : List ℕ → List ℕ → Option ℕ
 readRefusal text file = refusalOf (readCall text file (replicate 64 (partBy 0 0 0 0 unused unused)) .result)
 
--- the examples of the table, in its order; 6 has two. Then 13 from each call that reads, before 11 and 12: seven IS UNKNOWN in one another, a sum of 255; and
+-- the examples of the table, in its order; 6 has two. Then a bad mark, and wrong sizes, with a text that is refused too. Then 13 from each call that reads, before 11 and 12: seven IS UNKNOWN in one another, a sum of 255; and
 -- 11 and 12 where six of them, 127, are no reason to refuse
 unfoldable pub refusalExamples : List (Option ℕ)
 refusalExamples =
@@ -136,6 +136,8 @@ refusalExamples =
     ∷ refusalOf (runCall workedCard threeRows 0)
     ∷ refusalOf (judgeCall (bytes "m.1 = 1") threeRows 3)
     ∷ refusalOf (cardCall workedText workedTables (replicate 18 0) .result)
+    ∷ readRefusal (bytes "!") (0x01 ∷ 0x01 ∷ 0x01 ∷ 0x00 ∷ 0x00 ∷ 0x00 ∷ 0x00 ∷ 0x00 ∷ 0x02 ∷ [])
+    ∷ readRefusal (replicate 4097 32) (0 ∷ [])
     ∷ readRefusal (unknownOf 7 (bytes "1 = 1")) emptyTables
     ∷ refusalOf (readCall (unknownOf 7 (bytes "1 = 1")) emptyTables [] .result)
     ∷ refusalOf (judgeCall (unknownOf 7 (bytes "1 = 1")) emptyTables 99)
@@ -145,4 +147,4 @@ refusalExamples =
     ∷ []
 
 abbrev pub refusalNumbers : List (Option ℕ)
-refusalNumbers = map some (1 ∷ 2 ∷ 3 ∷ 4 ∷ 5 ∷ 6 ∷ 6 ∷ 7 ∷ 8 ∷ 9 ∷ 10 ∷ 11 ∷ 12 ∷ 13 ∷ 13 ∷ 13 ∷ 13 ∷ 11 ∷ 12 ∷ [])
+refusalNumbers = map some (1 ∷ 2 ∷ 3 ∷ 4 ∷ 5 ∷ 6 ∷ 6 ∷ 7 ∷ 8 ∷ 9 ∷ 10 ∷ 11 ∷ 12 ∷ 2 ∷ 1 ∷ 13 ∷ 13 ∷ 13 ∷ 13 ∷ 11 ∷ 12 ∷ [])

@@ -19,7 +19,7 @@ use Rattle.rule.specs.Condition.{Is, IsNot, Apply, Rule}
 use Rattle.rule.specs.declared.Part.{Part}
 use Rattle.rule.specs.Names.{mostParts, Scoped}
 use Rattle.rule.specs.Sum.{entrySum}
-use Rattle.rule.specs.Calls.{readingRefusals, Accepted, readCall, judgeCall, admitCall}
+use Rattle.rule.specs.Calls.{readingRefusals, firstOrder, Accepted, readCall, judgeCall, admitCall}
 use Rattle.rule.specs.Truth.{Truth, isTrue, isFalse}
 use Rattle.rule.specs.Meaning.{meaning}
 use Rattle.translation.specs.Translation.{negated, cardOf, ruleCard}
@@ -52,7 +52,7 @@ abbrev pub FullCardClaim : Type 0
 FullCardClaim = cardCall fullText caseTables (replicate 246 7) ≡ record { result = Given 246; buffer = fullCard }
 
 -- the card of IS UNKNOWN around one comparison, 3 + 1 + 15 × 3 bytes; and a card with every truth test, 3 + 3 + 15 × 11 bytes
-pub record TruthTestCardsClaim : Type 0 where
+pub record WorkedTruthCardsClaim : Type 0 where
   pub unknown : cardCall unknownText workedTables (replicate 49 7) ≡ record { result = Given 49; buffer = unknownBytes }
   pub every : cardCall truthText caseTables (replicate 171 7) ≡ record { result = Given 171; buffer = truthBytes }
 
@@ -90,8 +90,11 @@ abbrev pub OrderClaim : Type 0
 OrderClaim = (text file answer buffer : List ℕ) → numbers (lendRefusals (readingRefusals text file) answer buffer) ≡ cardOrder
 
 -- the published orders of CHECK, RUN and LIST rise, and so the first that applies is the lowest (LowestClaim of the crate tables); those of READ, JUDGE and
--- CARD do not, since 13 comes before 11 and 12
+-- CARD do without 13, which comes before 11 and 12
 pub record RisingClaim : Type 0 where
+  pub reading : IsChain _<_ (firstOrder ++ (12 ∷ []))
+  pub judging : IsChain _<_ (firstOrder ++ (11 ∷ []))
+  pub making : IsChain _<_ (firstOrder ++ (12 ∷ []))
   pub checking : IsChain _<_ checkOrder
   pub running : IsChain _<_ runOrder
   pub listing : IsChain _<_ listOrder

@@ -65,8 +65,9 @@ abbrev pub unknownCard : (Interpretation → Card) → Card
 unknownCard inner = PairEntry And (negated (inner AsNo)) (inner AsYes)
 
 -- the card around a condition, of which inner is the card in each interpretation: NOT takes the other interpretation, and negates that. A truth test is never
--- unknown, so its card is the same in either interpretation: IS TRUE is the false-interpretation, which says yes exactly where the condition is true, IS NOT
--- FALSE the true-interpretation, which says no exactly where it is false; 'IS NOT UNKNOWN is the negation' of IS UNKNOWN
+-- unknown, so its card is the same in either interpretation: IS TRUE is the false-interpretation, which says yes exactly where the condition is true, and IS NOT
+-- TRUE its negation; IS NOT FALSE is the true-interpretation, which says no exactly where it is false, and IS FALSE its negation; 'IS NOT UNKNOWN is the
+-- negation' of IS UNKNOWN
 abbrev pub unaryCard : Unary → Interpretation → (Interpretation → Card) → Card
 unaryCard Not i inner = negated (inner (other i))
 unaryCard (Is True) i inner = inner AsNo

@@ -1,5 +1,5 @@
 use mathlib.Core.Path.{_≡_, sym, _∙_}
-use mathlib.Core.Bool.{Bool, true}
+use mathlib.Core.Bool.{true}
 use mathlib.Core.List.{List}
 use Prim.Native.Nat.{ℕ, _≤_, _<_}
 use lib.IntN.{pos}
@@ -11,7 +11,7 @@ use Rattle.grammar.specs.Code.{notesSize, WholeReading}
 use Rattle.parts.specs.Code.{Countable, CountedTo}
 use Rattle.parser.specs.Code.{TokensParsing}
 use borrow.Author.Tests.{not-true, not-false}
-use Rattle.parser.proofs.Groups.{FirstOfTokens, unfit-brackets, unread, read-whole, ungrammatical, too-many, too-deep, nameable, unnamed, countable-tokens, parsed-tokens, many-entries}
+use Rattle.parser.proofs.Groups.{FirstOfTokens, unfit-brackets, unread, read-whole, ungrammatical, too-many, too-deep, nameable, unnamed, counted-tokens}
 use borrow.Author.Needs.{needs}
 use Rattle.parser.proofs.parse_tokens.Statement.{statement}
 use Rattle.parser.proofs.parse_tokens.Tie as tie
@@ -96,42 +96,25 @@ module _ (g : tie.Else4) where
   abbrev parts-read : ℕ
   parts-read = read .count .given .0 .1 .0
 
-  abbrev found : Bool
-  found = g .before .name-noted .result
-
-  is-found : found ≡ true
-  is-found = not-false found (g .if4 .left)
-
-  countable : Countable new 0 parts-read
-  countable =
+  found : Countable new 0 parts-read × ((m : ℕ) → CountedTo new 0 parts-read m → (m ≤ mostEntries → TokensParsing (tokens read) (file read) new parts-read m) × (mostEntries < m → FirstOfTokens (tokens read) (file read) 13))
+  found =
       let named = g .before .name-noted in
-      countable-tokens (tokens read) (file read) (fits read) _ _ _ (whole read) (start read .pre .1 .0) (size read) (g .before .before .before .before .if2 .left) (g .before .before .before .if3 .left) new found is-found (named .ensures .1) (named .ensures .0)
-
-  module _ (m : ℕ) (c : CountedTo new 0 parts-read m) where
-    few : m ≤ mostEntries → TokensParsing (tokens read) (file read) new parts-read m
-    few =
-        let named = g .before .name-noted in
-        parsed-tokens (tokens read) (file read) (fits read) _ _ _ (whole read) (start read .pre .1 .0) (size read) (g .before .before .before .before .if2 .left) (g .before .before .before .if3 .left) new found is-found (named .ensures .1) (named .ensures .0) m c
-
-    many : mostEntries < m → FirstOfTokens (tokens read) (file read) 13
-    many =
-        let named = g .before .name-noted in
-        many-entries (tokens read) (file read) (fits read) _ _ _ (whole read) (start read .pre .1 .0) (size read) (g .before .before .before .before .if2 .left) (g .before .before .before .if3 .left) new found is-found (named .ensures .1) (named .ensures .0) m c
+      counted-tokens (tokens read) (file read) (fits read) _ _ _ (whole read) (start read .pre .1 .0) (size read) (g .before .before .before .before .if2 .left) (g .before .before .before .if3 .left) new (named .result) (not-false (named .result) (g .if4 .left)) (named .ensures .1) (named .ensures .0)
 
 count-entries-requires : tie.Need-count-entries-requires
-count-entries-requires c κs = countable (c .before)
+count-entries-requires c κs = found (c .before) .0
 
 returns-6 : tie.Need-returns-6
 returns-6 c =
     let g = c .before .before .before in
     let n = c .before .count-entries in
-    (many g (n .result) (n .ensures) (c .if5 .taken), g .before .name-noted .ensures .1)
+    (found g .1 (n .result) (n .ensures) .1 (c .if5 .taken), g .before .name-noted .ensures .1)
 
 returns-7 : tie.Need-returns-7
 returns-7 c =
     let g = c .before .before .before in
     let n = c .before .count-entries in
-    (few g (n .result) (n .ensures) (c .if5 .left), g .before .name-noted .ensures .1)
+    (found g .1 (n .result) (n .ensures) .0 (c .if5 .left), g .before .name-noted .ensures .1)
 
 pub parse-tokens-spec : {M : Type 1} → statement M
 parse-tokens-spec =
