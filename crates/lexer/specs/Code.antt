@@ -84,6 +84,10 @@ mostCapitals = 8
 abbrev pub wordBase : ℕ
 wordBase = 256
 
+-- the greatest number that three bytes make up
+abbrev pub mostOfThree : ℕ
+mostOfThree = 16777215
+
 -- the word whose bytes make up a number; 0 if there is none
 unfoldable pub wordCode : List Spelling → ℕ → ℕ
 wordCode [] run = 0

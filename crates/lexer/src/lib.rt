@@ -6,7 +6,7 @@ ghost use lib.ListN.{length, drop};
 ghost use Rattle.tables.specs.Bytes.{byteAt};
 ghost use Rattle.rule.specs.Tokens.{isGap, isCapital, isDigit, takeWhile, words, wordIn, signs, signIn, numberFrom, firstToken, tokensOf, opensFit};
 ghost use Rattle.rule.specs.Calls.{mostBytes};
-ghost use Rattle.lexer.specs.Code.{mostTokens, Spellable, RunAt, wordCode, lexedAs, lessFrom, greaterFrom, tokensIn, tokenizedAs, tokensFit};
+ghost use Rattle.lexer.specs.Code.{mostTokens, Spellable, RunAt, mostOfThree, wordCode, lexedAs, lessFrom, greaterFrom, tokensIn, tokenizedAs, tokensFit};
 use cells::EXCESS;
 use cells::byte;
 
@@ -19,6 +19,9 @@ const MOST_OPEN: usize = 32;
 
 // How many capitals are looked at as a word: as many as make up a number of 64 bits.
 const MOST_CAPITALS: usize = 8;
+
+// The greatest number that three bytes make up.
+const MOST_OF_THREE: usize = 0xFFFFFF;
 
 // A token as a number: the words, brackets and the point from 1 on; a comparison is COMPARES and its number 1 to 6; a letter is its byte; a number is
 // NUMBER and the number plus 2 ^ 31.
@@ -124,19 +127,30 @@ fn spell_run(
     Run { end: e, number: n }
 }
 
-// The word whose bytes, as digits of a number in base 256, make up this run; 0 if there is none.
-fn word_code(run: usize) -> usize
+// The word of two or three capitals that make up this run; 0 if there is none.
+fn short_word(run: usize) -> usize
+    requires { ⌜ run ≤ mostOfThree ⌝ }
     ensures { λ r. ⌜ r ≡ wordCode words run ⌝ }
 {
     match run {
         0x414E44 => AND,
         0x4F52 => OR,
         0x4E4F54 => NOT,
-        0x455849535453 => EXISTS,
         0x494E => IN,
-        0x534F4D45 => SOME,
         0x414C4C => ALL,
         0x4953 => IS,
+        _ => 0,
+    }
+}
+
+// The same of more capitals.
+fn long_word(run: usize) -> usize
+    requires { ⌜ mostOfThree < run ⌝ }
+    ensures { λ r. ⌜ r ≡ wordCode words run ⌝ }
+{
+    match run {
+        0x455849535453 => EXISTS,
+        0x534F4D45 => SOME,
         0x4E554C4C => NULL,
         0x53454C454354 => SELECT,
         0x46524F4D => FROM,
@@ -146,6 +160,17 @@ fn word_code(run: usize) -> usize
         0x554E4B4E4F574E => UNKNOWN,
         _ => 0,
     }
+}
+
+// The word whose bytes, as digits of a number in base 256, make up this run; 0 if there is none. The short ones, which a rule has most of, are told from the
+// others first: in one `match` of all words they came after more branches.
+fn word_code(run: usize) -> usize
+    ensures { λ r. ⌜ r ≡ wordCode words run ⌝ }
+{
+    if run <= MOST_OF_THREE {
+        return short_word(run);
+    }
+    long_word(run)
 }
 
 // The word of the capitals from i on.
@@ -285,8 +310,8 @@ fn greater(next: usize, i: usize) -> Lexeme
     }
 }
 
-// The token at i, where there is no gap. The branch at 42 changes no answer: below it ( and ) alone are signs, so the compiler compares with these two there
-// and makes no jump table, and a text of many brackets is read faster.
+// The token at i, where there is no gap. Words and letters, of which a rule has most, are told before numbers. The branch at 42 changes no answer: below it ( and
+// ) alone are signs, so the compiler compares with these two there and makes no jump table, and a text of many brackets is read faster.
 fn first_token(text: &[u8], i: usize) -> Lexeme
     requires { ⌜ i < length (now text) ⌝ ∗ ⌜ length (now text) ≤ mostBytes ⌝ }
     ensures { λ r. ⌜ lexedAs i r ≡ firstToken (byteAt (now (text .entry)) i) (drop (1 + i) (now (text .entry))) ⌝ }
@@ -301,25 +326,25 @@ fn first_token(text: &[u8], i: usize) -> Lexeme
         }
         return sign(text, i);
     }
+    if 64 < b {
+        if b < 91 {
+            return word(text, i);
+        }
+        if b < 97 {
+            return Lexeme::NoToken;
+        }
+        if 122 < b {
+            return Lexeme::NoToken;
+        }
+        return Lexeme::Token {
+            code: b,
+            end: i + 1,
+        };
+    }
     if b < 58 {
         return number(text, i);
     }
-    if b < 65 {
-        return sign(text, i);
-    }
-    if b < 91 {
-        return word(text, i);
-    }
-    if b < 97 {
-        return Lexeme::NoToken;
-    }
-    if 122 < b {
-        return Lexeme::NoToken;
-    }
-    Lexeme::Token {
-        code: b,
-        end: i + 1,
-    }
+    sign(text, i)
 }
 
 // The tokens of a text, or none: refusal 4.

@@ -14,28 +14,28 @@ returns-3 : tie.Need-returns-3
 returns-3 c = sign-at _ _ _ (c .before .before .before .before .before .before .pre .0) (c .before .before .before .before .byte .ensures .0) _ (λ p q. omega arith) (λ p q. omega arith) (λ p q. omega arith) (c .before .if3 .left) (c .sign2 .ensures)
 
 returns-4 : tie.Need-returns-4
-returns-4 c = digit-at _ _ _ (c .before .before .before .before .before .pre .0) (c .before .before .before .byte .ensures .0) _ (omega arith) (omega arith) (c .number .ensures)
+returns-4 c = capital-at _ _ _ (c .before .before .before .before .before .before .pre .0) (c .before .before .before .before .byte .ensures .0) _ (omega arith) (omega arith) (c .word .ensures)
 
 returns-5 : tie.Need-returns-5
-returns-5 c = sign-at _ _ _ (c .before .before .before .before .before .before .pre .0) (c .before .before .before .before .byte .ensures .0) _ (λ p q. omega arith) (λ p q. omega arith) (λ p q. omega arith) (λ z. omega arith) (c .sign3 .ensures)
+returns-5 c =
+    let start = c .before .before .before .before .before .before in
+    nothing-at (start .args .text .now) _ _ (start .pre .0) (c .before .before .before .before .byte .ensures .0) (omega arith) (λ p q. omega arith) (λ p q. omega arith)
 
 returns-6 : tie.Need-returns-6
-returns-6 c = capital-at _ _ _ (c .before .before .before .before .before .before .before .pre .0) (c .before .before .before .before .before .byte .ensures .0) _ (omega arith) (omega arith) (c .word .ensures)
+returns-6 c =
+    let start = c .before .before .before .before .before .before .before in
+    nothing-at (start .args .text .now) _ _ (start .pre .0) (c .before .before .before .before .before .byte .ensures .0) (omega arith) (λ p q. omega arith) (λ p q. omega arith)
 
 returns-7 : tie.Need-returns-7
 returns-7 c =
     let start = c .before .before .before .before .before .before .before in
-    nothing-at (start .args .text .now) _ _ (start .pre .0) (c .before .before .before .before .before .byte .ensures .0) (omega arith) (λ p q. omega arith) (λ p q. omega arith)
+    small-at (start .args .text .now) _ _ (start .pre .0) (c .before .before .before .before .before .byte .ensures .0) (omega arith) (omega arith)
 
 returns-8 : tie.Need-returns-8
-returns-8 c =
-    let start = c .before .before .before .before .before .before .before .before in
-    nothing-at (start .args .text .now) _ _ (start .pre .0) (c .before .before .before .before .before .before .byte .ensures .0) (omega arith) (λ p q. omega arith) (λ p q. omega arith)
+returns-8 c = digit-at _ _ _ (c .before .before .before .before .before .before .pre .0) (c .before .before .before .before .byte .ensures .0) _ (omega arith) (omega arith) (c .number .ensures)
 
 returns-9 : tie.Need-returns-9
-returns-9 c =
-    let start = c .before .before .before .before .before .before .before .before in
-    small-at (start .args .text .now) _ _ (start .pre .0) (c .before .before .before .before .before .before .byte .ensures .0) (omega arith) (omega arith)
+returns-9 c = sign-at _ _ _ (c .before .before .before .before .before .before .pre .0) (c .before .before .before .before .byte .ensures .0) _ (λ p q. omega arith) (λ p q. omega arith) (λ p q. omega arith) (λ z. omega arith) (c .sign3 .ensures)
 
 pub first-token-spec : {M : Type 1} → statement M
 first-token-spec =
@@ -51,11 +51,11 @@ first-token-spec =
     returns-3
     (λ c κs. search needs)
     returns-4
-    (λ c κs. search needs)
     returns-5
-    (λ c κs. search needs)
     returns-6
-    returns-7
-    returns-8
     (λ c. search needs)
+    returns-7
+    (λ c κs. search needs)
+    returns-8
+    (λ c κs. search needs)
     returns-9)
