@@ -1,19 +1,17 @@
--- The count of ( less that of ), as the code keeps it: both counts.
+-- The count of ( less that of ), as the code keeps it: both counts, and whether the limit was passed.
 use mathlib.Core.Path.{_≡_, refl, sym, ap, _∙_}
-use mathlib.Core.Bool.{Bool, true, false}
-use mathlib.Core.List.{List}
+use mathlib.Core.Bool.{Bool, true, false, cond, false≢true}
+use mathlib.Core.List.{[], _∷_, _++_, append-nil, append-assoc}
 use mathlib.Core.Logic.{_⊎_, inl, inr}
 use Prim.Native.Nat.{ℕ, suc, _+_, _-_, _≤_, _<_}
-use native.Mathlib.Numerals.{add-one}
 use native.Mathlib.Omega.{arith}
 use borrow.Author.Tests.{ltb-true, ltb-false, lt-ltb, le-ltb, ne-eqb}
 use lib.Dec.{ltb}
-use lib.IntN.{pos, negsuc, subℕ, _+ℤ_, +ℤ-idr}
+use lib.IntN.{ℤ, pos, negsuc, subℕ, _+ℤ_, +ℤ-idr}
 use lib.Signed.{ltZ}
-use lib.ListN.{length, drop, getD, drop-of-length-le}
-use lib.Seq.{drop-cons}
 use Rattle.rule.specs.Tokens.{mostOpen, Fixed, Open, Close, bracketStep, opensFit}
-use Rattle.lexer.specs.Code.{codeOf, tokenOf, tokensIn}
+use Rattle.rule.specs.Grammar.{Tokens}
+use Rattle.lexer.specs.Code.{codeOf, tokenOf}
 use Rattle.lexer.proofs.Codes.{by-code}
 
 -- ---- a difference of two counts
@@ -69,34 +67,65 @@ step-other t f g = by-code t (λ x. bracketStep x ≡ pos 0) (λ h. step-fixed t
 abbrev pub Kept : ℕ → ℕ → ℕ → ℕ → Type 0
 Kept k t o p = ((t ≡ k) × (p ≡ o + 1)) ⊎ ((t ≡ k → ⊥) × (p ≡ o))
 
-pub kept-most : (k t o p : ℕ) → Kept k t o p → p ≤ o + 1
-kept-most k t o p (inl w) = omega (arith, w .1)
-kept-most k t o p (inr w) = omega (arith, w .1)
-
-pub kept-least : (k t o p : ℕ) → Kept k t o p → o ≤ p
-kept-least k t o p (inl w) = omega (arith, w .1)
-kept-least k t o p (inr w) = omega (arith, w .1)
-
 counted : (t o c p d : ℕ) → Kept (codeOf Open) t o p → Kept (codeOf Close) t c d → subℕ o c +ℤ bracketStep (tokenOf t) ≡ subℕ p d
 counted t o c p d (inl v) (inl w) = absurd (omega (arith, v .0, w .0))
 counted t o c p d (inl v) (inr w) = rw (step-open t (v .0), v .1, w .1) (one-more o c)
 counted t o c p d (inr v) (inl w) = rw (step-close t (w .0), v .1, w .1) (one-less o c)
 counted t o c p d (inr v) (inr w) = rw (step-other t (v .0) (w .0), v .1, w .1) (+ℤ-idr (subℕ o c))
 
--- ---- the tokens from k on, of which o are ( and c are ) before them
+-- ---- the tokens up to a place, of which o are ( and c are ): whether they fit decides over them and all that follow, or the rest decides from the difference on
 
-abbrev pub Same-fit : List ℕ → ℕ → ℕ → ℕ → Type 0
-Same-fit l o c k = opensFit (subℕ o c) (tokensIn (drop k l)) ≡ opensFit (pos 0) (tokensIn l)
+pub record CountedTo (ts : Tokens) (o c : ℕ) (fit : Bool) : Type 0 where
+  pub few-open : fit ≡ true → o ≤ c + mostOpen
+  pub rest : (us : Tokens) → opensFit (pos 0) (ts ++ us) ≡ cond fit (opensFit (subℕ o c) us) false
 
-module _ (l : List ℕ) (k t o c p d : ℕ) (h : k < length l) (w : t ≡ getD l k 0) (u : Kept (codeOf Open) t o p) (v : Kept (codeOf Close) t c d) (s : Same-fit l o c k) where
-  pub fit-no : d + mostOpen < p → false ≡ opensFit (pos 0) (tokensIn l)
-  unfolding opensFit
-  fit-no m = sym (rw (drop-cons l k 0 h, ← w, opensFit, counted t o c p d u v, too-many p d m) refl) ∙ s
+pub counted-none : CountedTo [] 0 0 true
+counted-none = record { few-open = λ e. omega arith; rest = λ us. refl }
 
-  pub fit-more : p ≤ d + mostOpen → Same-fit l p d (k + 1)
-  unfolding opensFit
-  fit-more m = sym (rw (drop-cons l k 0 h, ← w, opensFit, counted t o c p d u v, few p d m, add-one k) (rw (← w, counted t o c p d u v) refl)) ∙ s
-
-pub fit-yes : (l : List ℕ) (o c k : ℕ) → length l ≤ k → Same-fit l o c k → true ≡ opensFit (pos 0) (tokensIn l)
+pub counted-all : (ts : Tokens) (o c : ℕ) (fit : Bool) → CountedTo ts o c fit → fit ≡ opensFit (pos 0) ts
 unfolding opensFit
-fit-yes l o c k h s = rw (drop-of-length-le l h) at s
+counted-all ts o c true h = sym (ap (opensFit (pos 0)) (sym (append-nil ts)) ∙ h .rest [])
+counted-all ts o c false h = sym (ap (opensFit (pos 0)) (sym (append-nil ts)) ∙ h .rest [])
+
+module _ (ts : Tokens) (t o c p d : ℕ) (u : Kept (codeOf Open) t o p) (v : Kept (codeOf Close) t c d) where
+  -- the tokens behind ts are t and others
+  behind : (us : Tokens) → opensFit (pos 0) ((ts ++ (tokenOf t ∷ [])) ++ us) ≡ opensFit (pos 0) (ts ++ (tokenOf t ∷ us))
+  behind us = ap (opensFit (pos 0)) (append-assoc ts (tokenOf t ∷ []) us)
+
+  over : d + mostOpen < p → (us : Tokens) → opensFit (subℕ o c) (tokenOf t ∷ us) ≡ false
+  unfolding opensFit
+  over m us = rw (opensFit, counted t o c p d u v, too-many p d m) refl
+
+  under : p ≤ d + mostOpen → (us : Tokens) → opensFit (subℕ o c) (tokenOf t ∷ us) ≡ opensFit (subℕ p d) us
+  unfolding opensFit
+  under m us = rw (opensFit, counted t o c p d u v, few p d m) (ap (λ (z : ℤ). opensFit z us) (counted t o c p d u v))
+
+  -- t opens one too many
+  pub counted-over : (fit : Bool) → CountedTo ts o c fit → d + mostOpen < p → CountedTo (ts ++ (tokenOf t ∷ [])) p d false
+  counted-over true h m = record { few-open = λ e. absurd (false≢true e); rest = λ us. behind us ∙ h .rest (tokenOf t ∷ us) ∙ over m us }
+  counted-over false h m = record { few-open = λ e. absurd (false≢true e); rest = λ us. behind us ∙ h .rest (tokenOf t ∷ us) }
+
+  -- t changes nothing about it
+  pub counted-on : (fit : Bool) → CountedTo ts o c fit → (fit ≡ true → p ≤ d + mostOpen) → CountedTo (ts ++ (tokenOf t ∷ [])) p d fit
+  counted-on true h m = record { few-open = m; rest = λ us. behind us ∙ h .rest (tokenOf t ∷ us) ∙ under (m refl) us }
+  counted-on false h m = record { few-open = m; rest = λ us. behind us ∙ h .rest (tokenOf t ∷ us) }
+
+-- what the code does at a token t: the counts o and c become p and d, and fit becomes still
+abbrev pub Counts : (t o c p d : ℕ) (fit still : Bool) → Type 0
+Counts t o c p d fit still =
+    ((t ≡ codeOf Open) × (c + mostOpen < o + 1) × (p ≡ o + 1) × (d ≡ c) × (still ≡ false))
+    ⊎ (((t ≡ codeOf Open) × (o + 1 ≤ c + mostOpen) × (p ≡ o + 1) × (d ≡ c) × (still ≡ fit))
+    ⊎ (((t ≡ codeOf Open → ⊥) × (t ≡ codeOf Close) × (p ≡ o) × (d ≡ c + 1) × (still ≡ fit))
+    ⊎ ((t ≡ codeOf Open → ⊥) × (t ≡ codeOf Close → ⊥) × (p ≡ o) × (d ≡ c) × (still ≡ fit))))
+
+-- that is right, and each count grows by one at most
+module _ (ts : Tokens) (t o c p d : ℕ) (fit still : Bool) (h : CountedTo ts o c fit) where
+  pub counted-more : Counts t o c p d fit still → (p ≤ o + 1) × (d ≤ c + 1) × CountedTo (ts ++ (tokenOf t ∷ [])) p d still
+  counted-more (inl (e, m, f, g, w)) =
+      (omega arith, omega arith, rw (w) (counted-over ts t o c p d (inl (e, f)) (inr (λ z. omega (arith, e, z), g)) fit h (omega arith)))
+  counted-more (inr (inl (e, m, f, g, w))) =
+      (omega arith, omega arith, rw (w) (counted-on ts t o c p d (inl (e, f)) (inr (λ z. omega (arith, e, z), g)) fit h (λ z. omega arith)))
+  counted-more (inr (inr (inl (x, e, f, g, w)))) =
+      (omega arith, omega arith, rw (w) (counted-on ts t o c p d (inr (x, f)) (inl (e, g)) fit h (λ z. omega (arith, h .few-open z))))
+  counted-more (inr (inr (inr (x, y, f, g, w)))) =
+      (omega arith, omega arith, rw (w) (counted-on ts t o c p d (inr (x, f)) (inr (y, g)) fit h (λ z. omega (arith, h .few-open z))))

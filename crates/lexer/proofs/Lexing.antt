@@ -112,17 +112,20 @@ lexed-none text tokens r enough w =
     record { within = upto; fewer = omega arith; room = refl; enough = enough; no-gap = gap; still = rest ∙ sym (put-none (tokensAfter 0 (drop r text))) }
 
 module _ (text tokens : List ℕ) (many n i : ℕ) (h : LexedTo text tokens many n i) where
-  -- one token more, and the gaps behind it
+  -- one token more
+  pub one-taken : (c : ℕ) → i < length text → tokensIn (take (n + 1) (set tokens n c)) ≡ tokensIn (take n tokens) ++ (tokenOf c ∷ [])
+  one-taken c l =
+      let one : n + 1 ≡ suc n = add-one n in
+      ap (λ (k : ℕ). tokensIn (take k (set tokens n c))) one
+      ∙ ap tokensIn (take-suc-set tokens n c (omega (arith, h .room, h .fewer, h .enough)))
+      ∙ map-append tokenOf (take n tokens) (c ∷ [])
+
+  -- and the gaps behind it
   pub lexed-more : (c e r : ℕ) → i < length text → some (tokenOf c, e - i) ≡ firstToken (getD text i 0) (drop (1 + i) text)
       → r ≡ e + length (takeWhile isGap (drop e text)) → LexedTo text (set tokens n c) many (n + 1) r
   lexed-more c e r l f w =
       let (after, upto) = token-end text i l (h .no-gap l) c e f in
       let (from, within, gap, rest) = gaps-passed text e r upto w in
-      let one : n + 1 ≡ suc n = add-one n in
-      let taken : tokensIn (take (n + 1) (set tokens n c)) ≡ tokensIn (take n tokens) ++ (tokenOf c ∷ []) =
-      ap (λ (k : ℕ). tokensIn (take k (set tokens n c))) one
-      ∙ ap tokensIn (take-suc-set tokens n c (omega (arith, h .room, h .fewer, h .enough)))
-      ∙ map-append tokenOf (take n tokens) (c ∷ []) in
       record {
         within = within;
         fewer = omega (arith, h .fewer);
@@ -134,7 +137,7 @@ module _ (text tokens : List ℕ) (many n i : ℕ) (h : LexedTo text tokens many
             ∙ ap (put-before (tokensIn (take n tokens))) (token-then text i l (h .no-gap l) c e f)
             ∙ put-one (tokensIn (take n tokens)) (tokenOf c) (tokensAfter 0 (drop e text))
             ∙ ap (put-before (tokensIn (take n tokens) ++ (tokenOf c ∷ []))) rest
-            ∙ ap (λ (ts : Tokens). put-before ts (tokensAfter 0 (drop r text))) (sym taken);
+            ∙ ap (λ (ts : Tokens). put-before ts (tokensAfter 0 (drop r text))) (sym (one-taken c l));
       }
 
   -- where the token at place i ends

@@ -6,11 +6,12 @@ use mathlib.Core.List.{List, [], _∷_, map}
 use mathlib.Core.Option.{Option, none, some}
 use Prim.Native.Nat.{ℕ, zero, suc, _+_, _*_, _-_, _<_, _≤_}
 use lib.Dec.{eqb, ltb}
+use lib.IntN.{pos}
 use lib.ListN.{length, take, drop}
 use Rattle.tables.specs.Bytes.{between}
 use Rattle.tables.specs.Values.{Ne, Lt, Le, Gt, Ge, comparisonNumber, comparisonOf}
 use Rattle.cells.specs.Code.{fromExcess, toExcess}
-use Rattle.rule.specs.Tokens.{Token, Fixed, Compares, Letter, Number, Spelling, Lexed, takeWhile}
+use Rattle.rule.specs.Tokens.{Token, Fixed, Compares, Letter, Number, Spelling, Lexed, takeWhile, opensFit}
 use Rattle.rule.specs.Grammar.{Tokens}
 use Rattle.rule.specs.Calls.{mostBytes}
 use Rattle.lexer.specs.declared.Lexeme.{Lexeme}
@@ -111,9 +112,14 @@ greaterFrom next i = cond (eqb next 61) (LexedToken (codeOf (Compares Ge)) (i + 
 
 -- so many tokens, which stand at the front of l
 abbrev pub tokenizedAs : Tokenized → List ℕ → Option Tokens
-tokenizedAs (Tokenized-tokens n) l = some (tokensIn (take n l))
+tokenizedAs (Tokenized-tokens n fit) l = some (tokensIn (take n l))
 tokenizedAs NoTokens l = none
 
+-- whether refusal 5 does not apply to them
+abbrev pub BracketsTold : Tokenized → List ℕ → Type 0
+BracketsTold (Tokenized-tokens n fit) l = fit ≡ opensFit (pos 0) (tokensIn (take n l))
+BracketsTold NoTokens l = Unit {0}
+
 abbrev pub tokensFit : Tokenized → ℕ → Type 0
-tokensFit (Tokenized-tokens n) most = n ≤ most
+tokensFit (Tokenized-tokens n fit) most = n ≤ most
 tokensFit NoTokens most = Unit {0}

@@ -4,9 +4,9 @@ ghost use Prim.Native.Nat.{_+_, _*_, _-_, _<_, _≤_};
 ghost use lib.IntN.{pos, negℤ};
 ghost use lib.ListN.{length, drop};
 ghost use Rattle.tables.specs.Bytes.{byteAt};
-ghost use Rattle.rule.specs.Tokens.{isGap, isCapital, isDigit, takeWhile, words, wordIn, signs, signIn, numberFrom, firstToken, tokensOf, opensFit};
+ghost use Rattle.rule.specs.Tokens.{isGap, isCapital, isDigit, takeWhile, words, wordIn, signs, signIn, numberFrom, firstToken, tokensOf};
 ghost use Rattle.rule.specs.Calls.{mostBytes};
-ghost use Rattle.lexer.specs.Code.{mostTokens, Spellable, RunAt, mostOfThree, wordCode, lexedAs, lessFrom, greaterFrom, tokensIn, tokenizedAs, tokensFit};
+ghost use Rattle.lexer.specs.Code.{Spellable, RunAt, mostOfThree, wordCode, lexedAs, lessFrom, greaterFrom, tokenizedAs, BracketsTold, tokensFit};
 use cells::EXCESS;
 use cells::byte;
 
@@ -347,19 +347,25 @@ fn first_token(text: &[u8], i: usize) -> Lexeme
     sign(text, i)
 }
 
-// The tokens of a text, or none: refusal 4.
+// The tokens of a text: how many, and whether there are never too many more ( than ) up to one of them, so that refusal 5 does not apply. Or none: refusal 4.
 pub enum Tokenized {
-    Tokens(usize),
+    Tokens(usize, bool),
     NoTokens,
 }
 
-// Each token's number, from the start of tokens on. There is room for a token at each byte.
+// Each token's number, from the start of tokens on. There is room for a token at each byte. Brackets are counted as they are found: with a pass of their own
+// over the tokens, READ of many brackets took a fifth more time. Both kinds are counted, since the difference may be negative; it grows at a ( alone, so it is
+// compared with the limit only there.
 pub fn tokenize(text: &[u8], tokens: &mut [usize]) -> Tokenized
     requires { ⌜ length (now text) ≤ mostBytes ⌝ ∗ ⌜ length (now text) ≤ length (now tokens) ⌝ }
     ensures are { λ r. ⌜ tokenizedAs r (now (tokens .exit)) ≡ tokensOf (now (text .entry)) ⌝ }
+    ensures brackets { λ r. ⌜ BracketsTold r (now (tokens .exit)) ⌝ }
     ensures size { λ r. ⌜ (length (now (tokens .exit)) ≡ length (now (tokens .entry))) × tokensFit r (length (now (text .entry))) ⌝ }
 {
     let mut n: usize = 0;
+    let mut opened: usize = 0;
+    let mut closed: usize = 0;
+    let mut fit = true;
     let mut i: usize = skip_gaps(text, 0);
     while i < text.len() {
         let Lexeme::Token { code, end } = first_token(text, i) else {
@@ -367,32 +373,17 @@ pub fn tokenize(text: &[u8], tokens: &mut [usize]) -> Tokenized
         };
         tokens[n] = code;
         n += 1;
-        i = skip_gaps(text, end);
-    }
-    Tokenized::Tokens(n)
-}
-
-// Whether there are never too many more ( than ) up to a token: refusal 5 does not apply. Both are counted, since the difference may be negative.
-// It grows at a ( alone, so it is compared with the limit only there.
-pub fn brackets_fit(tokens: &[usize]) -> bool
-    requires { ⌜ length (now tokens) ≤ mostTokens ⌝ }
-    ensures { λ r. ⌜ r ≡ opensFit (pos 0) (tokensIn (now (tokens .entry))) ⌝ }
-{
-    let mut opened: usize = 0;
-    let mut closed: usize = 0;
-    let mut k: usize = 0;
-    while k < tokens.len() {
-        let t = tokens[k];
-        if t == CLOSE {
-            closed += 1;
-        }
-        if t == OPEN {
+        if code == OPEN {
             opened += 1;
             if closed + MOST_OPEN < opened {
-                return false;
+                fit = false;
+            }
+        } else {
+            if code == CLOSE {
+                closed += 1;
             }
         }
-        k += 1;
+        i = skip_gaps(text, end);
     }
-    true
+    Tokenized::Tokens(n, fit)
 }

@@ -28,7 +28,7 @@ use Rattle.rule.specs.Sum.{entrySum}
 use Rattle.rule.specs.Calls.{mostBytes, conditionOf, ruleOf, textRefusals, tokensRefusals, readingRefusals, Accepted, withRule}
 use Rattle.rule.proofs.Accepted.{limits-of}
 use Rattle.rule.proofs.Sum.{sum-fits, sum-unfits}
-use Rattle.lexer.specs.Code.{tokensIn, tokenizedAs, tokensFit}
+use Rattle.lexer.specs.Code.{tokensIn, tokenizedAs, BracketsTold, tokensFit}
 use Rattle.lexer.specs.declared.Tokenized.{Tokenized}
 use Rattle.grammar.specs.Code.{notesSize, WholeReading, ReadsAll}
 use Rattle.grammar.specs.declared.Step.{Step}
@@ -165,14 +165,17 @@ module _ (s file : List ℕ) where
 
 -- what the lexer answered, and the grammar's reader
 module _ (text new : List ℕ) (r : Tokenized) (told : tokenizedAs r new ≡ tokensOf text) where
-  pub tokenized-as : (n : ℕ) → r ≡ Tokenized.Tokens n → tokensOf text ≡ some (tokensIn (take n new))
-  tokenized-as n e = sym told ∙ ap (λ (t : Tokenized). tokenizedAs t new) e
+  pub tokenized-as : (n : ℕ) (fit : Bool) → r ≡ Tokenized.Tokens n fit → tokensOf text ≡ some (tokensIn (take n new))
+  tokenized-as n fit e = sym told ∙ ap (λ (t : Tokenized). tokenizedAs t new) e
 
   pub untokenized : r ≡ Tokenized.NoTokens → tokensOf text ≡ none
   untokenized e = sym told ∙ ap (λ (t : Tokenized). tokenizedAs t new) e
 
-pub tokens-few : (r : Tokenized) (n most : ℕ) → r ≡ Tokenized.Tokens n → tokensFit r most → n ≤ most
-tokens-few r n most e f = rw e at f
+pub brackets-told : (new : List ℕ) (r : Tokenized) (n : ℕ) (fit : Bool) → r ≡ Tokenized.Tokens n fit → BracketsTold r new → fit ≡ opensFit (pos 0) (tokensIn (take n new))
+brackets-told new r n fit e f = rw e at f
+
+pub tokens-few : (r : Tokenized) (n : ℕ) (fit : Bool) (most : ℕ) → r ≡ Tokenized.Tokens n fit → tokensFit r most → n ≤ most
+tokens-few r n fit most e f = rw e at f
 
 module _ (s new : List ℕ) (r : Step) (told : ReadsAll s new r) where
   pub unread : r ≡ Step.NoReading → readAll (tokensIn s) ≡ none

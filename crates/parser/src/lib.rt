@@ -1,9 +1,12 @@
 // The rule of a text: its parts as numbers, or the first refusal of reading that applies. READ, JUDGE and CARD go on from here.
 ghost use mathlib.Core.Path.{_≡_};
+ghost use mathlib.Core.Bool.{true};
 ghost use Prim.Native.Nat.{_≤_};
+ghost use lib.IntN.{pos};
 ghost use lib.ListN.{length, take};
 ghost use Rattle.cells.specs.Code.{Sized};
-ghost use Rattle.lexer.specs.Code.{mostTokens};
+ghost use Rattle.rule.specs.Tokens.{opensFit};
+ghost use Rattle.lexer.specs.Code.{mostTokens, tokensIn};
 ghost use Rattle.grammar.specs.Code.{notesSize};
 ghost use Rattle.names.specs.Code.{partsSize, Nameable, NamedTo};
 ghost use Rattle.parser.specs.Code.{fewNotes, TextReady, TokensParsedTo, parsedAnswer, parseCall, ParsedTo, refusalIn};
@@ -78,17 +81,13 @@ fn name_noted(file: &[u8], count: usize, parts: &mut [usize; PART_NUMBERS]) -> b
     names::name_parts(file, &notes, count, parts)
 }
 
-// The rule of some tokens: refusals 5 to 8, and 13. The grammar is judged to the end before the limits, these before the names, and the names before the number
-// of entries. The grammar writes its notes where the parts are to stand.
+// The rule of some tokens to which refusal 5 does not apply: refusals 6 to 8, and 13. The grammar is judged to the end before the limits, these before the
+// names, and the names before the number of entries. The grammar writes its notes where the parts are to stand.
 fn parse_tokens(s: &[usize], file: &[u8], parts: &mut [usize; PART_NUMBERS]) -> Parsed
-    requires { ⌜ length (now s) ≤ mostTokens ⌝ ∗ ⌜ Sized (now file) ⌝ ∗ ⌜ length (now parts) ≡ partsSize ⌝ }
+    requires { ⌜ length (now s) ≤ mostTokens ⌝ ∗ ⌜ opensFit (pos 0) (tokensIn (now s)) ≡ true ⌝ ∗ ⌜ Sized (now file) ⌝ ∗ ⌜ length (now parts) ≡ partsSize ⌝ }
     ensures parsed { λ r. ⌜ TokensParsedTo (now (s .entry)) (now (file .entry)) (now (parts .exit)) r ⌝ }
     ensures size { λ _. ⌜ length (now (parts .exit)) ≡ partsSize ⌝ }
 {
-    let fits = lexer::brackets_fit(s);
-    if !fits {
-        return Parsed::Refused(Reason::Brackets);
-    }
     let Step::Next { at: _, count, deep } = grammar::read_tokens(s, parts) else {
         return Parsed::Refused(Reason::Grammar);
     };
@@ -121,9 +120,12 @@ fn parse_text(
     ensures parsed { λ r. ⌜ ParsedTo (now (text .entry)) (now (file .entry)) (now (parts .exit)) r ⌝ }
     ensures size { λ _. ⌜ length (now (parts .exit)) ≡ partsSize ⌝ }
 {
-    let Tokenized::Tokens(n) = lexer::tokenize(text, tokens) else {
+    let Tokenized::Tokens(n, fit) = lexer::tokenize(text, tokens) else {
         return Parsed::Refused(Reason::Token);
     };
+    if !fit {
+        return Parsed::Refused(Reason::Brackets);
+    }
     parse_tokens(&tokens[..n], file, parts)
 }
 
