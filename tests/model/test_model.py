@@ -524,37 +524,33 @@ def compare_summed(draw, quantified, seen):
     compare_rule(draw, quantified, seen, file, tokens, text)
 
 
-def test_sums_against_sqlite(quantified):
-    """Many rules with sums around 192."""
-    draw = random.Random(f"{SEED} sums {quantified}")
-    seen = Seen()
-    for _ in range(SUMMED_RULES_OF_EACH_SORT):
-        compare_summed(draw, quantified, seen)
-    seen.demand("truth value", [model.TRUE, model.FALSE, model.UNKNOWN])
-    seen.demand("part kind", range(1, 16))
-    seen.demand("sum", [191, 192, 193, 194])
-    print(f"model: {SUMMED_RULES_OF_EACH_SORT} rules with sums around 192, {sort_name(quantified)}: SQLite agrees")
-    for what in ("truth value", "part kind", "sum"):
-        print(f"  {what}: {seen.report(what)}")
-
-
 def sort_name(quantified):
     """A short name for the sort of the rules."""
     return "all forms" if quantified else "no SOME or ALL, token by token"
 
 
-def test_against_sqlite(quantified):
-    """Many rules of one sort; all truth values, part kinds and sorts of cells have to occur."""
-    draw = random.Random(f"{SEED} {quantified}")
+def test_many(seed, rules, title, compare, quantified, sort, values):
+    """Many drawn rules of one sort; all truth values and part kinds have to occur, and these values of a further sort."""
+    draw = random.Random(f"{SEED} {seed}{quantified}")
     seen = Seen()
-    for _ in range(RULES_OF_EACH_SORT):
-        compare_one(draw, quantified, seen)
-    seen.demand("truth value", [model.TRUE, model.FALSE, model.UNKNOWN])
-    seen.demand("part kind", range(1, 16))
-    seen.demand("cell", ["blank", "present"])
-    print(f"model: {RULES_OF_EACH_SORT} rules, {sort_name(quantified)}: SQLite agrees")
-    for what in ("truth value", "part kind", "cell"):
+    for _ in range(rules):
+        compare(draw, quantified, seen)
+    demanded = {"truth value": [model.TRUE, model.FALSE, model.UNKNOWN], "part kind": range(1, 16), sort: values}
+    for what, wanted in demanded.items():
+        seen.demand(what, wanted)
+    print(f"model: {rules} {title}, {sort_name(quantified)}: SQLite agrees")
+    for what in demanded:
         print(f"  {what}: {seen.report(what)}")
+
+
+def test_against_sqlite(quantified):
+    """Rules over blank and present cells."""
+    test_many("", RULES_OF_EACH_SORT, "rules", compare_one, quantified, "cell", ["blank", "present"])
+
+
+def test_sums_against_sqlite(quantified):
+    """Rules with sums around 192."""
+    test_many("sums ", SUMMED_RULES_OF_EACH_SORT, "rules with sums around 192", compare_summed, quantified, "sum", [191, 192, 193, 194])
 
 
 def main():

@@ -75,14 +75,14 @@ counted t o c p d (inr v) (inr w) = rw (step-other t (v .0) (w .0), v .1, w .1) 
 
 -- ---- the tokens up to a place, of which o are ( and c are ): whether they fit decides over them and all that follow, or the rest decides from the difference on
 
-pub record CountedTo (ts : Tokens) (o c : ℕ) (fit : Bool) : Type 0 where
+pub record BracketsCounted (ts : Tokens) (o c : ℕ) (fit : Bool) : Type 0 where
   pub few-open : fit ≡ true → o ≤ c + mostOpen
   pub rest : (us : Tokens) → opensFit (pos 0) (ts ++ us) ≡ cond fit (opensFit (subℕ o c) us) false
 
-pub counted-none : CountedTo [] 0 0 true
+pub counted-none : BracketsCounted [] 0 0 true
 counted-none = record { few-open = λ e. omega arith; rest = λ us. refl }
 
-pub counted-all : (ts : Tokens) (o c : ℕ) (fit : Bool) → CountedTo ts o c fit → fit ≡ opensFit (pos 0) ts
+pub counted-all : (ts : Tokens) (o c : ℕ) (fit : Bool) → BracketsCounted ts o c fit → fit ≡ opensFit (pos 0) ts
 unfolding opensFit
 counted-all ts o c true h = sym (ap (opensFit (pos 0)) (sym (append-nil ts)) ∙ h .rest [])
 counted-all ts o c false h = sym (ap (opensFit (pos 0)) (sym (append-nil ts)) ∙ h .rest [])
@@ -101,12 +101,12 @@ module _ (ts : Tokens) (t o c p d : ℕ) (u : Kept (codeOf Open) t o p) (v : Kep
   under m us = rw (opensFit, counted t o c p d u v, few p d m) (ap (λ (z : ℤ). opensFit z us) (counted t o c p d u v))
 
   -- t opens one too many
-  pub counted-over : (fit : Bool) → CountedTo ts o c fit → d + mostOpen < p → CountedTo (ts ++ (tokenOf t ∷ [])) p d false
+  pub counted-over : (fit : Bool) → BracketsCounted ts o c fit → d + mostOpen < p → BracketsCounted (ts ++ (tokenOf t ∷ [])) p d false
   counted-over true h m = record { few-open = λ e. absurd (false≢true e); rest = λ us. behind us ∙ h .rest (tokenOf t ∷ us) ∙ over m us }
   counted-over false h m = record { few-open = λ e. absurd (false≢true e); rest = λ us. behind us ∙ h .rest (tokenOf t ∷ us) }
 
   -- t changes nothing about it
-  pub counted-on : (fit : Bool) → CountedTo ts o c fit → (fit ≡ true → p ≤ d + mostOpen) → CountedTo (ts ++ (tokenOf t ∷ [])) p d fit
+  pub counted-on : (fit : Bool) → BracketsCounted ts o c fit → (fit ≡ true → p ≤ d + mostOpen) → BracketsCounted (ts ++ (tokenOf t ∷ [])) p d fit
   counted-on true h m = record { few-open = m; rest = λ us. behind us ∙ h .rest (tokenOf t ∷ us) ∙ under (m refl) us }
   counted-on false h m = record { few-open = m; rest = λ us. behind us ∙ h .rest (tokenOf t ∷ us) }
 
@@ -119,8 +119,8 @@ Counts t o c p d fit still =
     ⊎ ((t ≡ codeOf Open → ⊥) × (t ≡ codeOf Close → ⊥) × (p ≡ o) × (d ≡ c) × (still ≡ fit))))
 
 -- that is right, and each count grows by one at most
-module _ (ts : Tokens) (t o c p d : ℕ) (fit still : Bool) (h : CountedTo ts o c fit) where
-  pub counted-more : Counts t o c p d fit still → (p ≤ o + 1) × (d ≤ c + 1) × CountedTo (ts ++ (tokenOf t ∷ [])) p d still
+module _ (ts : Tokens) (t o c p d : ℕ) (fit still : Bool) (h : BracketsCounted ts o c fit) where
+  pub counted-more : Counts t o c p d fit still → (p ≤ o + 1) × (d ≤ c + 1) × BracketsCounted (ts ++ (tokenOf t ∷ [])) p d still
   counted-more (inl (e, m, f, g, w)) =
       (omega arith, omega arith, rw (w) (counted-over ts t o c p d (inl (e, f)) (inr (λ z. omega (arith, e, z), g)) fit h (omega arith)))
   counted-more (inr (inl (e, m, f, g, w))) =

@@ -1,19 +1,21 @@
-use mathlib.Core.Path.{ap, sym, subst, _∙_}
+use mathlib.Core.Path.{_≡_, ap, sym, subst, _∙_}
 use mathlib.Core.Logic.{⊎-elim, inl, inr}
-use Prim.Native.Nat.{_-_, _≤_}
+use mathlib.Core.Option.{some}
+use Prim.Native.Nat.{ℕ, _+_, _-_, _<_, _≤_}
 use native.Mathlib.Omega.{arith}
 use borrow.Author.Needs.{needs}
-use lib.ListN.{length, take}
+use lib.ListN.{length, take, drop, getD}
+use Rattle.rule.specs.Tokens.{firstToken}
 use Rattle.rule.specs.Grammar.{Tokens}
-use Rattle.lexer.specs.Code.{tokensIn, lexedAs}
-use Rattle.lexer.proofs.Counting.{CountedTo, counted-none, counted-all, Counts, counted-more}
+use Rattle.lexer.specs.Code.{tokenOf, tokensIn, lexedAs}
+use Rattle.lexer.proofs.Counting.{BracketsCounted, counted-none, counted-all, Counts, counted-more}
 use Rattle.lexer.proofs.Lexing.{LexedTo, lexed-none, one-taken, lexed-more, token-ends, lexed-stop, lexed-all}
 use Rattle.lexer.proofs.tokenize.Statement.{statement}
 use Rattle.lexer.proofs.tokenize.Tie as tie
 
 abbrev Inv-loop : tie.InvT-loop
 Inv-loop text tokens₀ n₀ opened₀ closed₀ fit₀ i₀ tokens n opened closed fit i =
-    LexedTo text tokens (length tokens₀) n i × (opened ≤ n) × (closed ≤ n) × CountedTo (tokensIn (take n tokens)) opened closed fit
+    LexedTo text tokens (length tokens₀) n i × (opened ≤ n) × (closed ≤ n) × BracketsCounted (tokensIn (take n tokens)) opened closed fit
 
 abbrev μ-loop : tie.MeasureT-loop
 μ-loop text tokens₀ n₀ opened₀ closed₀ fit₀ i₀ tokens n opened closed fit i = length text - i
@@ -35,44 +37,53 @@ returns c =
       (tt, (loop .inv .0 .room, tt)),
     )
 
+-- once a token is found and its bracket counted
+module _ (f : tie.Joined1 Inv-loop μ-loop) where
+  abbrev start : tie.Start Inv-loop μ-loop
+  start = f .before .before .before .before .before .before .before .before .before .before
+
+  abbrev loop : tie.At-loop Inv-loop μ-loop
+  loop = f .before .before .before .before .before .before
+
+  abbrev code : ℕ
+  code = f .before .before .code .given .0 .0
+
+  abbrev end : ℕ
+  end = f .before .before .code .given .0 .1 .0
+
+  taken : loop .loop .i < length (start .args .text .now)
+  taken = f .before .before .before .before .before .loop-test .taken
+
+  first : some (tokenOf code, end - loop .loop .i) ≡ firstToken (getD (start .args .text .now) (loop .loop .i) 0) (drop (1 + loop .loop .i) (start .args .text .now))
+  first = ap (lexedAs (loop .loop .i)) (sym (f .before .before .code .given .1)) ∙ f .before .before .before .before .first-token .ensures
+
+  ends : (loop .loop .i < end) × (end ≤ length (start .args .text .now))
+  ends = token-ends (start .args .text .now) (loop .loop .tokens) _ (loop .loop .n) (loop .loop .i) (loop .loop .inv .0) code end taken first
+
 skip-gaps-requires-2 : tie.Need-skip-gaps-requires-2 Inv-loop μ-loop
-skip-gaps-requires-2 c κs =
-    let loop = c .before .before .before .before .before .before .loop in
-    let start = c .before .before .before .before .before .before .before .before .before .before in
-    let given = c .before .before .code .given in
-    let first = ap (lexedAs (loop .i)) (sym (given .1)) ∙ c .before .before .before .before .first-token .ensures in
-    let ends = token-ends (start .args .text .now) (loop .tokens) _ (loop .n) (loop .i) (loop .inv .0) (given .0 .0) (given .0 .1 .0) (c .before .before .before .before .before .loop-test .taken) first in
-    (ends .1, start .pre .0)
+skip-gaps-requires-2 c κs = (ends c .1, start c .pre .0)
 
 loop-less : tie.Need-loop-less Inv-loop μ-loop
-loop-less c =
-    let loop = c .before .before .before .before .before .before .before .loop in
-    let start = c .before .before .before .before .before .before .before .before .before .before .before in
-    let given = c .before .before .before .code .given in
-    let first = ap (lexedAs (loop .i)) (sym (given .1)) ∙ c .before .before .before .before .before .first-token .ensures in
-    let ends = token-ends (start .args .text .now) (loop .tokens) _ (loop .n) (loop .i) (loop .inv .0) (given .0 .0) (given .0 .1 .0) (c .before .before .before .before .before .before .loop-test .taken) first in
-    omega (arith, ends .0, ends .1, c .skip-gaps2 .ensures)
+loop-less c = let (after, upto) = ends (c .before) in omega (arith, c .skip-gaps2 .ensures)
 
 loop-again : tie.Need-loop-again Inv-loop μ-loop
 loop-again c =
-    let loop = c .before .before .before .before .before .before .before .loop in
-    let start = c .before .before .before .before .before .before .before .before .before .before .before in
-    let given = c .before .before .before .code .given in
-    let taken = c .before .before .before .before .before .before .loop-test .taken in
-    let first = ap (lexedAs (loop .i)) (sym (given .1)) ∙ c .before .before .before .before .before .first-token .ensures in
-    let counts : Counts (given .0 .0) (loop .opened) (loop .closed) (c .before .if1 .opened) (c .before .if1 .closed) (loop .fit) (c .before .if1 .fit) =
+    let f = c .before in
+    let text = start f .args .text .now in
+    let at = loop f .loop in
+    let counts : Counts (code f) (at .opened) (at .closed) (f .if1 .opened) (f .if1 .closed) (at .fit) (f .if1 .fit) =
     ⊎-elim
     (λ w. inl (w .0 .taken, w .1 .taken, w .2, w .3, w .4))
     (⊎-elim
     (λ w. inr (inl (w .0 .taken, w .1 .left, w .2, w .3, w .4)))
     (⊎-elim (λ w. inr (inr (inl (w .0 .left, w .1 .taken, w .2, w .3, w .4)))) (λ w. inr (inr (inr (w .0 .left, w .1 .left, w .2, w .3, w .4))))))
-    (c .before .if1 .came) in
-    let more = counted-more (tokensIn (take (loop .n) (loop .tokens))) (given .0 .0) _ _ _ _ _ _ (loop .inv .3) counts in
-    let one = one-taken (start .args .text .now) (loop .tokens) _ (loop .n) (loop .i) (loop .inv .0) (given .0 .0) taken in (
-      lexed-more (start .args .text .now) (loop .tokens) _ (loop .n) (loop .i) (loop .inv .0) (given .0 .0) (given .0 .1 .0) (c .skip-gaps2 .result) taken first (c .skip-gaps2 .ensures),
+    (f .if1 .came) in
+    let more = counted-more (tokensIn (take (at .n) (at .tokens))) (code f) _ _ _ _ _ _ (at .inv .3) counts in
+    let one = one-taken text (at .tokens) _ (at .n) (at .i) (at .inv .0) (code f) (taken f) in (
+      lexed-more text (at .tokens) _ (at .n) (at .i) (at .inv .0) (code f) (end f) (c .skip-gaps2 .result) (taken f) (first f) (c .skip-gaps2 .ensures),
       omega (arith, more .0),
       omega (arith, more .1),
-      subst (λ (ts : Tokens). CountedTo ts (c .before .if1 .opened) (c .before .if1 .closed) (c .before .if1 .fit)) (sym one) (more .2),
+      subst (λ (ts : Tokens). BracketsCounted ts (f .if1 .opened) (f .if1 .closed) (f .if1 .fit)) (sym one) (more .2),
     )
 
 same-length-2 : tie.Need-same-length-2 Inv-loop μ-loop
