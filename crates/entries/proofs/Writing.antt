@@ -20,7 +20,7 @@ use Rattle.rule.specs.Truth.{Unknown}
 use Rattle.rule.specs.Condition.{Compare, Mark, Unary, Not, Is, IsNot, Apply, Rule, parts, letters, fromsDeep}
 use Rattle.rule.specs.Names.{mostParts, within, ValueFits, Fits}
 use Rattle.rule.specs.Parts.{joinKind, unaryKind, compareKind, existsKind, listKind, taggedOf}
-use Rattle.rule.specs.Groups.{JoinNumber, UnaryNumber, MarkNumber, ListNumber}
+use Rattle.rule.specs.Groups.{JoinNumber, UnaryNumber, MarkNumber, ListNumber, UnknownNumber}
 use Rattle.rule.proofs.Fits.{within-length}
 use Rattle.rule.proofs.Groups.{mark-number, list-number}
 use Rattle.names.specs.Code.{partSize, partTable, partEnd, partLeftTag, partLeftNumber, partRightTag, partRightNumber}
@@ -29,7 +29,7 @@ use Rattle.parts.specs.Parts.{Stands, SmallPart}
 use Rattle.parts.proofs.Parts.{heldNumber, parts-low, part-comparison, part-table, part-left-tag, part-left-number, part-right-tag, part-right-number, IsJoin, IsUnary, IsCompare, IsMark, IsExists, IsListed, is-join, is-unary, is-compare, is-mark, is-exists, is-listed}
 use Rattle.records.specs.Code.{byteNumber, plainRecord, connectiveAs, JoinedAs, rowKindAs}
 use Rattle.records.proofs.Flags.{row-small}
-use Rattle.entries.specs.Code.{interpretationOf, leafAs, cardAs, Room, Wrote, valueBytesIn, CompareReady, ComparedTo, MarkReady, MarkedTo, UnknownNumber, Writable, WroteTo, StandsUnder}
+use Rattle.entries.specs.Code.{interpretationOf, leafAs, cardAs, Room, Wrote, valueBytesIn, CompareReady, ComparedTo, MarkReady, MarkedTo, Writable, WroteTo, StandsUnder}
 use Rattle.entries.proofs.Cards.{quantifierOf, listConnective, everyRow, rows-are, card-atom, card-not, unknownAs, card-is-unknown, card-is-not-unknown, card-join, card-exists, card-listed, list-kind-is, row-kind-is}
 use Rattle.entries.proofs.Spread.{Plain, room-less, room-plain, room-wrote, plain-asked, end-asked, row-written, pair-written}
 

@@ -1,7 +1,6 @@
 -- What the functions of src/ promise one another and their callers, in the terms of the code: parts in an array, kinds and records in bytes. The
 -- contract of a public call cites nothing of this file.
 use mathlib.Core.Path.{_≡_}
-use mathlib.Core.Logic.{_⊎_}
 use mathlib.Core.Bool.{Bool, true, false}
 use mathlib.Core.List.{List, _∷_}
 use Prim.Native.Nat.{ℕ, _+_, _*_, _<_, _≤_}
@@ -11,10 +10,9 @@ use Rattle.tables.specs.Bytes.{bytes32}
 use Rattle.tables.specs.Values.{mostLevels, mostEntries, Value, Comparison, comparisonNumber, MarkTest}
 use Rattle.card.specs.Card.{Interpretation, AsNo, AsYes, Leaf, CompareLeaf, MarkLeaf, Card, LeafEntry, entries}
 use Rattle.card.specs.Layout.{recordSize, valueBytes, kindBytes, recordsFrom}
-use Rattle.rule.specs.Truth.{Unknown}
-use Rattle.rule.specs.Condition.{Is, IsNot, Rule, parts, fromsDeep}
+use Rattle.rule.specs.Condition.{Rule, parts, fromsDeep}
 use Rattle.rule.specs.Names.{mostParts, Fits}
-use Rattle.rule.specs.Parts.{unaryKind, markKind}
+use Rattle.rule.specs.Parts.{markKind}
 use Rattle.names.specs.Code.{partSize, partsSize, partComparison, partLeftTag, partRightTag}
 use Rattle.translation.specs.Translation.{otherLeaf, negated, cardOf}
 use Rattle.parts.specs.Parts.{Stands, SmallPart, SmallParts}
@@ -106,10 +104,6 @@ pub record Writable (p : List ℕ) (s : ℕ) (negate unknown : Bool) (kinds reco
 abbrev pub WroteTo : (p : List ℕ) (s : ℕ) (negate unknown : Bool) (kinds records kinds′ records′ : List ℕ) (k : ℕ) → ℕ → Type 0
 WroteTo p s negate unknown kinds records kinds′ records′ k r =
     (h : Writable p s negate unknown kinds records k) → Wrote k (cardAs negate unknown (h .rule)) kinds records kinds′ records′ r
-
--- the kind of IS UNKNOWN or of IS NOT UNKNOWN
-abbrev pub UnknownNumber : ℕ → Type 0
-UnknownNumber n = (n ≡ unaryKind (Is Unknown)) ⊎ (n ≡ unaryKind (IsNot Unknown))
 
 -- under NOTs, or under a truth test that has no entry: the entries of what stands there are those of the parts from number s on
 pub record StandsUnder (p : List ℕ) (s : ℕ) (negate unknown : Bool) (u : Under) : Type 0 where

@@ -91,8 +91,8 @@ mostOfThree = 16777215
 
 -- the word whose bytes make up a number; 0 if there is none
 unfoldable pub wordCode : List Spelling → ℕ → ℕ
-wordCode [] run = 0
-wordCode (s ∷ ss) run = cond (eqb (inBase wordBase 0 0 (s .text)) run) (codeOf (s .token)) (wordCode ss run)
+wordCode [] n = 0
+wordCode (s ∷ ss) n = cond (eqb (inBase wordBase 0 0 (s .text)) n) (codeOf (s .token)) (wordCode ss n)
 
 -- ---- what the lexer answers
 
@@ -115,11 +115,12 @@ abbrev pub tokenizedAs : Tokenized → List ℕ → Option Tokens
 tokenizedAs (Tokenized-tokens n fit) l = some (tokensIn (take n l))
 tokenizedAs NoTokens l = none
 
--- whether refusal 5 does not apply to them
+-- the flag says whether refusal 5 does not apply to them
 abbrev pub BracketsTold : Tokenized → List ℕ → Type 0
 BracketsTold (Tokenized-tokens n fit) l = fit ≡ opensFit (pos 0) (tokensIn (take n l))
 BracketsTold NoTokens l = Unit {0}
 
-abbrev pub tokensFit : Tokenized → ℕ → Type 0
-tokensFit (Tokenized-tokens n fit) most = n ≤ most
-tokensFit NoTokens most = Unit {0}
+-- there are at most so many tokens
+abbrev pub FewTokens : Tokenized → ℕ → Type 0
+FewTokens (Tokenized-tokens n fit) most = n ≤ most
+FewTokens NoTokens most = Unit {0}

@@ -6,7 +6,7 @@ ghost use lib.ListN.{length, drop};
 ghost use Rattle.tables.specs.Bytes.{byteAt};
 ghost use Rattle.rule.specs.Tokens.{isGap, isCapital, isDigit, takeWhile, words, wordIn, signs, signIn, numberFrom, firstToken, tokensOf};
 ghost use Rattle.rule.specs.Calls.{mostBytes};
-ghost use Rattle.lexer.specs.Code.{Spellable, RunAt, mostOfThree, wordCode, lexedAs, lessFrom, greaterFrom, tokenizedAs, BracketsTold, tokensFit};
+ghost use Rattle.lexer.specs.Code.{Spellable, RunAt, mostOfThree, wordCode, lexedAs, lessFrom, greaterFrom, tokenizedAs, BracketsTold, FewTokens};
 use cells::EXCESS;
 use cells::byte;
 
@@ -127,12 +127,12 @@ fn spell_run(
     Run { end: e, number: n }
 }
 
-// The word of two or three capitals that make up this run; 0 if there is none.
-fn short_word(run: usize) -> usize
-    requires { ⌜ run ≤ mostOfThree ⌝ }
-    ensures { λ r. ⌜ r ≡ wordCode words run ⌝ }
+// The word whose capitals, at most three, spell this number; 0 if there is none.
+fn short_word(spelled: usize) -> usize
+    requires { ⌜ spelled ≤ mostOfThree ⌝ }
+    ensures { λ r. ⌜ r ≡ wordCode words spelled ⌝ }
 {
-    match run {
+    match spelled {
         0x414E44 => AND,
         0x4F52 => OR,
         0x4E4F54 => NOT,
@@ -144,11 +144,11 @@ fn short_word(run: usize) -> usize
 }
 
 // The same of more capitals.
-fn long_word(run: usize) -> usize
-    requires { ⌜ mostOfThree < run ⌝ }
-    ensures { λ r. ⌜ r ≡ wordCode words run ⌝ }
+fn long_word(spelled: usize) -> usize
+    requires { ⌜ mostOfThree < spelled ⌝ }
+    ensures { λ r. ⌜ r ≡ wordCode words spelled ⌝ }
 {
-    match run {
+    match spelled {
         0x455849535453 => EXISTS,
         0x534F4D45 => SOME,
         0x4E554C4C => NULL,
@@ -162,15 +162,15 @@ fn long_word(run: usize) -> usize
     }
 }
 
-// The word whose bytes, as digits of a number in base 256, make up this run; 0 if there is none. The short ones, which a rule has most of, are told from the
+// The word whose capitals, as digits in base 256, spell this number; 0 if there is none. The short ones, which a rule has most of, are told from the
 // others first: in one `match` of all words they came after more branches.
-fn word_code(run: usize) -> usize
-    ensures { λ r. ⌜ r ≡ wordCode words run ⌝ }
+fn word_code(spelled: usize) -> usize
+    ensures { λ r. ⌜ r ≡ wordCode words spelled ⌝ }
 {
-    if run <= MOST_OF_THREE {
-        return short_word(run);
+    if spelled <= MOST_OF_THREE {
+        return short_word(spelled);
     }
-    long_word(run)
+    long_word(spelled)
 }
 
 // The word of the capitals from i on.
@@ -347,20 +347,21 @@ fn first_token(text: &[u8], i: usize) -> Lexeme
     sign(text, i)
 }
 
-// The tokens of a text: how many, and whether there are never too many more ( than ) up to one of them, so that refusal 5 does not apply. Or none: refusal 4.
+// The tokens of a text: how many, and whether there are never too many more ( than ) up to one of them, so that refusal 5 does not apply. Or
+// some byte begins none: refusal 4.
 pub enum Tokenized {
     Tokens(usize, bool),
     NoTokens,
 }
 
 // Each token's number, from the start of tokens on. There is room for a token at each byte. Brackets are counted as they are found: with a pass of their own
-// over the tokens, READ of many brackets took a fifth more time. Both kinds are counted, since the difference may be negative; it grows at a ( alone, so it is
+// over the tokens, READ of many brackets took a fifth more time. ( and ) are counted apart, since the difference may be negative; it grows at a ( alone, so it is
 // compared with the limit only there.
 pub fn tokenize(text: &[u8], tokens: &mut [usize]) -> Tokenized
     requires { ⌜ length (now text) ≤ mostBytes ⌝ ∗ ⌜ length (now text) ≤ length (now tokens) ⌝ }
     ensures are { λ r. ⌜ tokenizedAs r (now (tokens .exit)) ≡ tokensOf (now (text .entry)) ⌝ }
     ensures brackets { λ r. ⌜ BracketsTold r (now (tokens .exit)) ⌝ }
-    ensures size { λ r. ⌜ (length (now (tokens .exit)) ≡ length (now (tokens .entry))) × tokensFit r (length (now (text .entry))) ⌝ }
+    ensures size { λ r. ⌜ (length (now (tokens .exit)) ≡ length (now (tokens .entry))) × FewTokens r (length (now (text .entry))) ⌝ }
 {
     let mut n: usize = 0;
     let mut opened: usize = 0;

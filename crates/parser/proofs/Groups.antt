@@ -28,7 +28,7 @@ use Rattle.rule.specs.Sum.{entrySum}
 use Rattle.rule.specs.Calls.{mostBytes, conditionOf, ruleOf, textRefusals, tokensRefusals, readingRefusals, Accepted, withRule}
 use Rattle.rule.proofs.Accepted.{limits-of}
 use Rattle.rule.proofs.Sum.{sum-fits, sum-unfits}
-use Rattle.lexer.specs.Code.{tokensIn, tokenizedAs, BracketsTold, tokensFit}
+use Rattle.lexer.specs.Code.{tokensIn, tokenizedAs, BracketsTold, FewTokens}
 use Rattle.lexer.specs.declared.Tokenized.{Tokenized}
 use Rattle.grammar.specs.Code.{notesSize, WholeReading, ReadsAll}
 use Rattle.grammar.specs.declared.Step.{Step}
@@ -174,7 +174,7 @@ module _ (text new : List ℕ) (r : Tokenized) (told : tokenizedAs r new ≡ tok
 pub brackets-told : (new : List ℕ) (r : Tokenized) (n : ℕ) (fit : Bool) → r ≡ Tokenized.Tokens n fit → BracketsTold r new → fit ≡ opensFit (pos 0) (tokensIn (take n new))
 brackets-told new r n fit e f = rw e at f
 
-pub tokens-few : (r : Tokenized) (n : ℕ) (fit : Bool) (most : ℕ) → r ≡ Tokenized.Tokens n fit → tokensFit r most → n ≤ most
+pub tokens-few : (r : Tokenized) (n : ℕ) (fit : Bool) (most : ℕ) → r ≡ Tokenized.Tokens n fit → FewTokens r most → n ≤ most
 tokens-few r n fit most e f = rw e at f
 
 module _ (s new : List ℕ) (r : Step) (told : ReadsAll s new r) where

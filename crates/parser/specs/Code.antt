@@ -66,7 +66,7 @@ abbrev pub parsedAnswer : Parsed → Answer ℕ
 parsedAnswer (ParsedRule n m) = Given n
 parsedAnswer (ParsedRefused x) = Refused (reasonNumber x)
 
--- why there is no rule; of a rule, which nothing refuses, the last reason
+-- why there is no rule; of a rule, which nothing refuses, some reason
 abbrev pub refusalIn : Parsed → Reason
 refusalIn (ParsedRule n m) = Short
 refusalIn (ParsedRefused x) = x

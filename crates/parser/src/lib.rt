@@ -1,4 +1,5 @@
 // The rule of a text: its parts as numbers, or the first refusal of reading that applies. READ, JUDGE and CARD go on from here.
+// Notes: what the grammar keeps of each part as it is written, as numbers too, before its letters are looked up.
 ghost use mathlib.Core.Path.{_≡_};
 ghost use mathlib.Core.Bool.{true};
 ghost use Prim.Native.Nat.{_≤_};

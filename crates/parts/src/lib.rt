@@ -28,7 +28,7 @@ use rule::SOME_PART;
 use tables::MOST_ENTRIES;
 
 // The entries that a part has besides those of its inner parts, where it uses these once: NOT has none, nor have IS TRUE, IS FALSE and their negations, and a
-// list has its test of rows, its AND or OR, and its comparison. With an arm for each kind the compiler looks the number up in a table; with kinds that
+// list has its row entry, its AND or OR, and its comparison. With an arm for each kind the compiler looks the number up in a table; with kinds that
 // follow one another in one arm it compares several times.
 fn own_entries(kind: usize) -> usize
     requires { ⌜ KindNumber kind ⌝ ∗ ⌜ kind < unaryKind (Is Unknown) ⌝ }
@@ -57,7 +57,7 @@ fn own_entries(kind: usize) -> usize
 }
 
 // The entries of IS UNKNOWN and IS NOT UNKNOWN, which use the condition in them twice, joined by one entry. The count stops where the inner one is over the
-// limit: each such part around another doubles it, so that it would outgrow its 64 bits.
+// limit: each such part around another doubles it, and with as many as a rule may have parts it would need more than 64 bits.
 fn used_twice(inner: usize) -> usize
     ensures capped { λ r. ⌜ ((n : ℕ) → Capped inner n → Capped r (1 + 2 * n)) ⌝ }
     ensures small { λ r. ⌜ r ≤ 1 + 2 * mostEntries ⌝ }

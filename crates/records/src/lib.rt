@@ -173,7 +173,7 @@ pub fn pair_kind(kind: usize, negate: bool) -> usize
     }
 }
 
-// A test of every row, or of some row.
+// A row entry: every row, or some row.
 pub fn row_kind(every: bool) -> usize
     ensures { λ r. ⌜ r ≡ rowKindAs every ⌝ }
 {

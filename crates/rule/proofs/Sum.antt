@@ -10,7 +10,7 @@ use Rattle.rule.specs.Truth.{Truth, False, Unknown, True}
 use Rattle.rule.specs.Condition.{Compare, Mark, Unary, Not, Is, IsNot, Single, Atom, Join, Apply, Exists, Listed, Rule, parts}
 use Rattle.rule.specs.Parts.{UnaryHead, unaryKind, listKind, partOf, partsFrom}
 use Rattle.rule.specs.declared.Part.{Part}
-use Rattle.rule.specs.Sum.{unarySum, entrySum, ofKind, withoutEntry, ofLists, unaryTwice, usedTwice, publishedSum, sumFits}
+use Rattle.rule.specs.Sum.{unarySum, entrySum, ofKind, withoutEntry, ofLists, unaryAgain, usedAgain, publishedSum, sumFits}
 use Rattle.rule.specs.Claims.{PublishedSumClaim}
 use Rattle.rule.proofs.Parts.{parts-length}
 
@@ -27,7 +27,7 @@ unaryWithout (Is t) = truthWithout t
 unaryWithout (IsNot t) = truthWithout t
 
 -- what it has with the n entries of its condition
-unary-sum : (u : Unary) (n : ℕ) → (unaryWithout u ≤ 1) × (unarySum u n + unaryWithout u ≡ 1 + n + unaryTwice u n)
+unary-sum : (u : Unary) (n : ℕ) → (unaryWithout u ≤ 1) × (unarySum u n + unaryWithout u ≡ 1 + n + unaryAgain u n)
 unary-sum Not n = omega arith
 unary-sum (Is True) n = omega arith
 unary-sum (Is False) n = omega arith
@@ -104,15 +104,15 @@ kinds-are (Listed All op l s f w) k = let h = kinds-are w (k + 1) in (omega arit
 -- ---- the sum
 
 -- of a rule whose entries come to its parts with those that have none taken off, the number is the published one
-published : (r : Rule) → (unaries r ≤ parts r) × (entrySum r + unaries r ≡ parts r + 2 * lists r + usedTwice r) → entrySum r ≡ publishedSum r
+published : (r : Rule) → (unaries r ≤ parts r) × (entrySum r + unaries r ≡ parts r + 2 * lists r + usedAgain r) → entrySum r ≡ publishedSum r
 published r h = omega (arith, h, kinds-are r 0, parts-length r 0)
 
 -- without a difference: what the entries come to with the parts that have none
-sum-is : (r : Rule) → (unaries r ≤ parts r) × (entrySum r + unaries r ≡ parts r + 2 * lists r + usedTwice r)
-unfolding entrySum parts unaries lists usedTwice
+sum-is : (r : Rule) → (unaries r ≤ parts r) × (entrySum r + unaries r ≡ parts r + 2 * lists r + usedAgain r)
+unfolding entrySum parts unaries lists usedAgain
 sum-is (Atom x) = omega arith
 sum-is (Join j a b) = omega (arith, sum-is a, sum-is b)
-sum-is (Apply u a) = let inner = sum-is a in omega (arith, unary-sum u (entrySum a), inner, ap (unaryTwice u) (published a inner))
+sum-is (Apply u a) = let inner = sum-is a in omega (arith, unary-sum u (entrySum a), inner, ap (unaryAgain u) (published a inner))
 sum-is (Exists (Single t) w) = omega (arith, sum-is w)
 sum-is (Listed q op l s (Single t) w) = omega (arith, sum-is w)
 

@@ -88,13 +88,9 @@ judgeCall text file row =
 -- ---- the order of each call's refusals, by their numbers: where several apply, the first in the call's list is given. But for 13 it is 'the lowest applying
 -- number' (document 01), and 'reading goes before judging'
 
--- those of reading in document 01
-abbrev pub firstOrder : List ℕ
-firstOrder = 1 ∷ 2 ∷ 3 ∷ 4 ∷ 5 ∷ 6 ∷ 7 ∷ 8 ∷ []
-
--- and 13, which 'belongs to reading and comes after 8' (document 02, Point 1)
+-- those of reading: 1 to 8, and 13, which 'belongs to reading and comes after 8' (document 02, Point 1)
 abbrev pub readingOrder : List ℕ
-readingOrder = firstOrder ++ (13 ∷ [])
+readingOrder = 1 ∷ 2 ∷ 3 ∷ 4 ∷ 5 ∷ 6 ∷ 7 ∷ 8 ∷ 13 ∷ []
 
 abbrev pub readOrder : List ℕ
 readOrder = readingOrder ++ (12 ∷ [])

@@ -4,7 +4,7 @@ use mathlib.Core.Logic.{_⊎_}
 use Prim.Native.Nat.{ℕ}
 use Rattle.tables.specs.Values.{Connective, Quantifier, MarkTest}
 use Rattle.rule.specs.Truth.{Unknown}
-use Rattle.rule.specs.Condition.{Unary, IsNot}
+use Rattle.rule.specs.Condition.{Unary, Is, IsNot}
 use Rattle.rule.specs.Parts.{Kind, kindNumber, joinKind, unaryKind, compareKind, markKind, existsKind, listKind}
 
 -- the number of a kind
@@ -22,6 +22,10 @@ JoinNumber n = (j : Connective) × (n ≡ joinKind j)
 -- of a part with one condition in it and no FROM
 abbrev pub UnaryNumber : ℕ → Type 0
 UnaryNumber n = (u : Unary) × (n ≡ unaryKind u)
+
+-- of IS UNKNOWN or IS NOT UNKNOWN
+abbrev pub UnknownNumber : ℕ → Type 0
+UnknownNumber n = (n ≡ unaryKind (Is Unknown)) ⊎ (n ≡ unaryKind (IsNot Unknown))
 
 -- of a test by the mark
 abbrev pub MarkNumber : ℕ → Type 0

@@ -17,13 +17,13 @@ truthSum True n = n
 truthSum False n = n
 truthSum Unknown n = 1 + 2 * n
 
--- how many entries a part around a condition of n entries has with them: NOT has none of its own
+-- how many entries NOT or a truth test has, those of the condition in it included, of which there are n: NOT has none of its own
 abbrev pub unarySum : Unary → ℕ → ℕ
 unarySum Not n = n
 unarySum (Is t) n = truthSum t n
 unarySum (IsNot t) n = truthSum t n
 
--- a test has one entry, AND and OR one before those of their sides; a FROM has one for each of its letters, and a list two more, its AND or OR and
+-- a test without inner parts has one entry, AND and OR one before those of their sides; a FROM has one for each of its letters, and a list two more, its AND or OR and
 -- its comparison
 unfoldable pub entrySum : Rule → ℕ
 entrySum (Atom x) = 1
@@ -55,26 +55,27 @@ countedSum r = let ps = partsOf r in length ps - withoutEntry ps + 2 * ofLists p
 
 -- document 02, Point 1: 'the length sum becomes 1 plus twice the inner sum there'. The 1 and the inner sum are counted already, so that a part of kind 14 or 15
 -- adds the inner sum n once more
-abbrev pub truthTwice : Truth → ℕ → ℕ
-truthTwice True n = 0
-truthTwice False n = 0
-truthTwice Unknown n = n
+abbrev pub truthAgain : Truth → ℕ → ℕ
+truthAgain True n = 0
+truthAgain False n = 0
+truthAgain Unknown n = n
 
-abbrev pub unaryTwice : Unary → ℕ → ℕ
-unaryTwice Not n = 0
-unaryTwice (Is t) n = truthTwice t n
-unaryTwice (IsNot t) n = truthTwice t n
+-- NOT adds nothing
+abbrev pub unaryAgain : Unary → ℕ → ℕ
+unaryAgain Not n = 0
+unaryAgain (Is t) n = truthAgain t n
+unaryAgain (IsNot t) n = truthAgain t n
 
--- the inner sums of all parts of kinds 14 and 15
-unfoldable pub usedTwice : Rule → ℕ
-usedTwice (Atom x) = 0
-usedTwice (Join j a b) = usedTwice a + usedTwice b
-usedTwice (Apply u a) = unaryTwice u (countedSum a + usedTwice a) + usedTwice a
-usedTwice (Exists f w) = usedTwice w
-usedTwice (Listed q op l s f w) = usedTwice w
+-- the inner sums of all parts of kinds 14 and 15, once more
+unfoldable pub usedAgain : Rule → ℕ
+usedAgain (Atom x) = 0
+usedAgain (Join j a b) = usedAgain a + usedAgain b
+usedAgain (Apply u a) = unaryAgain u (countedSum a + usedAgain a) + usedAgain a
+usedAgain (Exists f w) = usedAgain w
+usedAgain (Listed q op l s f w) = usedAgain w
 
 abbrev pub publishedSum : Rule → ℕ
-publishedSum r = countedSum r + usedTwice r
+publishedSum r = countedSum r + usedAgain r
 
 -- ---- refusal 13 does not apply: the sum is at most 192
 

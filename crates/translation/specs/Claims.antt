@@ -4,7 +4,9 @@ use mathlib.Core.Bool.{true, false, not}
 use mathlib.Core.List.{List, [], _∷_, _++_, map, IsChain}
 use mathlib.Core.Option.{none, some}
 use Prim.Native.Nat.{ℕ, _<_, _≤_}
+use lib.Dec.{eqb}
 use lib.ListN.{length, replicate}
+use Rattle.tables.specs.Lists.{keep}
 use Rattle.tables.specs.Tables.{Tables, mostRows}
 use Rattle.tables.specs.Claims.{BlanksDiffer}
 use Rattle.tables.specs.Values.{Env}
@@ -19,7 +21,7 @@ use Rattle.rule.specs.Condition.{Is, IsNot, Apply, Rule}
 use Rattle.rule.specs.declared.Part.{Part}
 use Rattle.rule.specs.Names.{mostParts, Scoped}
 use Rattle.rule.specs.Sum.{entrySum}
-use Rattle.rule.specs.Calls.{readingRefusals, firstOrder, Accepted, readCall, judgeCall, admitCall}
+use Rattle.rule.specs.Calls.{readingRefusals, readOrder, judgeOrder, Accepted, readCall, judgeCall, admitCall}
 use Rattle.rule.specs.Truth.{Truth, isTrue, isFalse}
 use Rattle.rule.specs.Meaning.{meaning}
 use Rattle.translation.specs.Translation.{negated, cardOf, ruleCard}
@@ -89,12 +91,16 @@ CardRefusedClaim = (text file buffer : List ℕ) (n : ℕ) → firstApplying (re
 abbrev pub OrderClaim : Type 0
 OrderClaim = (text file answer buffer : List ℕ) → numbers (lendRefusals (readingRefusals text file) answer buffer) ≡ cardOrder
 
+-- an order with 13 left out
+abbrev pub without13 : List ℕ → List ℕ
+without13 ns = keep (λ n. not (eqb n 13)) ns
+
 -- the published orders of CHECK, RUN and LIST rise, and so the first that applies is the lowest (LowestClaim of the crate tables); those of READ, JUDGE and
--- CARD do without 13, which comes before 11 and 12
+-- CARD do but for 13, which comes before 11 and 12
 pub record RisingClaim : Type 0 where
-  pub reading : IsChain _<_ (firstOrder ++ (12 ∷ []))
-  pub judging : IsChain _<_ (firstOrder ++ (11 ∷ []))
-  pub making : IsChain _<_ (firstOrder ++ (12 ∷ []))
+  pub reading : IsChain _<_ (without13 readOrder)
+  pub judging : IsChain _<_ (without13 judgeOrder)
+  pub making : IsChain _<_ (without13 cardOrder)
   pub checking : IsChain _<_ checkOrder
   pub running : IsChain _<_ runOrder
   pub listing : IsChain _<_ listOrder
@@ -118,7 +124,7 @@ pub record RoomClaim : Type 0 where
   pub making : (text file card : List ℕ) → Accepted text file → mostCardBytes ≤ length card → isGiven (cardCall text file card .result) ≡ true
   pub listing : (card file rows : List ℕ) → firstApplying (gateRefusals card file) ≡ none → mostRows ≤ length rows → isGiven (listCall card file rows .result) ≡ true
 
--- so it is of each of the six calls
+-- each of the six calls: 0 is returned only where there is an answer
 pub record StatusClaim : Type 0 where
   pub reading : (text file : List ℕ) (parts : List Part) → ZeroIsSuccess (readCall text file parts .result)
   pub judging : (text file : List ℕ) (row : ℕ) → ZeroIsSuccess (judgeCall text file row)

@@ -55,7 +55,7 @@ leafOf i (Mark m l) = MarkLeaf m l
 abbrev pub rowsCard : Quantifier → From ℕ → Card → Card
 rowsCard q (Single t) c = RowEntry q t c
 
--- a list: SOME asks for a row on which WHERE and comparison hold, ALL for every row that WHERE fails on or the comparison holds on
+-- a list: SOME asks for a row on which WHERE and comparison hold, ALL asks that on every row WHERE is not true or the comparison holds
 abbrev pub listCard : Quantifier → From ℕ → Card → Card → Card
 listCard Some f w c = rowsCard Some f (PairEntry And w c)
 listCard All f w c = rowsCard All f (PairEntry Or (negated w) c)
