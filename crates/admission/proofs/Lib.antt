@@ -6,4 +6,3 @@ pub mod Printed
 pub mod Whole
 pub mod Computed
 pub mod Promise
-pub mod Decimals

@@ -3,12 +3,14 @@ use mathlib.Core.Path.{_≡_, refl, sym, ap, _∙_}
 use mathlib.Core.List.{List, [], _++_, append-assoc}
 use Prim.Native.Nat.{ℕ, _+_, _≤_}
 use native.Mathlib.Omega.{arith}
+use lib.IntN.{pos}
 use lib.ListN.{length, take, drop, length-append}
 use lib.Seq.{length-take-le}
 use Rattle.tables.specs.Lists.{placed}
 use Rattle.tables.proofs.Placed.{placed-length, placed-none, placed-start, placed-next}
-use Rattle.rule.specs.Tokens.{bytes}
-use Rattle.admission.specs.Output.{mostOutput, decimal, lineFeed, rowLines, rowsText, refusalText}
+use Rattle.numerals.specs.Texts.{bytes}
+use Rattle.numerals.specs.Numerals.{numeral}
+use Rattle.admission.specs.Output.{mostOutput, lineFeed, rowLines, rowsText, refusalText}
 
 -- this text was written from the start of an output on; it has at most so many bytes, and the next place is behind it
 pub record Begun (before text : List ℕ) (most : ℕ) (out : List ℕ) (next : ℕ) : Type 0 where
@@ -50,16 +52,16 @@ pub printed-as : (before text out : List ℕ) (next : ℕ) (text′ : List ℕ) 
 printed-as before text out next text′ a same =
     (a .0 ∙ ap (placed before 0) same ∙ placed-start before text′, (a .1 .0 ∙ ap length same, a .1 .1))
 
-pub refusal-grouped : (n : ℕ) → (bytes "refused " ++ decimal n) ++ lineFeed ≡ refusalText n
+pub refusal-grouped : (n : ℕ) → (bytes "refused " ++ numeral (pos n)) ++ lineFeed ≡ refusalText n
 unfolding refusalText
-refusal-grouped n = append-assoc (bytes "refused ") (decimal n) lineFeed
+refusal-grouped n = append-assoc (bytes "refused ") (numeral (pos n)) lineFeed
 
 -- the first line of a list of rows, as far as its first number, and as far as its second
 abbrev pub toAdmitted : ℕ → List ℕ
-toAdmitted n = bytes "rows " ++ decimal n
+toAdmitted n = bytes "rows " ++ numeral (pos n)
 
 abbrev pub toTotal : ℕ → ℕ → List ℕ
-toTotal n total = (toAdmitted n ++ bytes " of ") ++ decimal total
+toTotal n total = (toAdmitted n ++ bytes " of ") ++ numeral (pos total)
 
 pub rows-grouped : (n total : ℕ) (rows : List ℕ) → length rows ≡ n → (toTotal n total ++ lineFeed) ++ rowLines rows ≡ rowsText total rows
 unfolding rowsText

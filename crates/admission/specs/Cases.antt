@@ -1,8 +1,8 @@
 -- What the program prints on some files: document 01's example, an empty list, no files, refusals beside one another; a truth test, and refusal 13.
-use mathlib.Core.List.{List, [], _∷_, _++_, map}
+use mathlib.Core.List.{List, [], _∷_, _++_}
 use Prim.Native.Nat.{ℕ}
 use Prim.Native.String.{String}
-use Rattle.rule.specs.Tokens.{bytes}
+use Rattle.numerals.specs.Texts.{bytes}
 use Rattle.rule.specs.Cases.{caseTables, unknownOf}
 use Rattle.admission.specs.Output.{lineFeed, output}
 
@@ -30,13 +30,6 @@ outputCases =
     ∷ on (bytes "(m.2 > 0) IS UNKNOWN") caseTables ("rows 1 of 3" ∷ "1" ∷ [])
     ∷ on (unknownOf 7 (bytes "1 = 1")) caseTables ("refused 13" ∷ [])
     ∷ []
-
--- numbers, and how they are printed
-abbrev pub decimalNumbers : List ℕ
-decimalNumbers = 0 ∷ 9 ∷ 10 ∷ 42 ∷ 99 ∷ 100 ∷ 907 ∷ 999 ∷ 1000 ∷ []
-
-abbrev pub decimalTexts : List (List ℕ)
-decimalTexts = map bytes ("0" ∷ "9" ∷ "10" ∷ "42" ∷ "99" ∷ "100" ∷ "907" ∷ "999" ∷ "1000" ∷ [])
 
 abbrev pub printedOf : OutputCase → List ℕ
 printedOf c = output (c .text) (c .file)

@@ -1,24 +1,15 @@
 -- Document 01, Proved cases, the paragraph on the program: what it prints for the bytes of its two files.
 use mathlib.Core.Path.{_≡_}
-use mathlib.Core.Bool.{cond}
 use mathlib.Core.List.{List, [], _∷_, _++_}
 use mathlib.Core.Option.{Option, none, some}
-use Prim.Native.Nat.{ℕ, zero, suc, _+_, _*_, _/_, _%_}
-use lib.Dec.{ltb}
+use Prim.Native.Nat.{ℕ, _+_, _*_}
+use lib.IntN.{pos}
 use lib.ListN.{length, take, drop}
 use Rattle.tables.specs.Tables.{mostRows, mostTables, mostCells, columnsOf, rowCount}
 use Rattle.tables.specs.Refusals.{firstApplying}
-use Rattle.rule.specs.Tokens.{bytes}
+use Rattle.numerals.specs.Texts.{bytes}
+use Rattle.numerals.specs.Numerals.{numeral}
 use Rattle.rule.specs.Calls.{mostBytes, readingRefusals, ruleOf, withRule, trueRows}
-
--- a number in decimal digits, without zeros before it; so many digits at most
-unfoldable pub decimalOf : ℕ → ℕ → List ℕ
-decimalOf zero n = []
-decimalOf (suc k) n = cond (ltb n 10) [] (decimalOf k (n / 10)) ++ ((48 + n % 10) ∷ [])
-
--- the numbers that are printed are at most 1,000
-abbrev pub decimal : ℕ → List ℕ
-decimal n = decimalOf 4 n
 
 abbrev pub lineFeed : List ℕ
 lineFeed = 10 ∷ []
@@ -26,15 +17,15 @@ lineFeed = 10 ∷ []
 -- the row numbers, a line each
 unfoldable pub rowLines : List ℕ → List ℕ
 rowLines [] = []
-rowLines (r ∷ rs) = (decimal r ++ lineFeed) ++ rowLines rs
+rowLines (r ∷ rs) = (numeral (pos r) ++ lineFeed) ++ rowLines rs
 
 -- the admitted count, the rows of table 1, then the row numbers
 unfoldable pub rowsText : ℕ → List ℕ → List ℕ
-rowsText total rows = bytes "rows " ++ (decimal (length rows) ++ (bytes " of " ++ (decimal total ++ (lineFeed ++ rowLines rows))))
+rowsText total rows = bytes "rows " ++ (numeral (pos (length rows)) ++ (bytes " of " ++ (numeral (pos total) ++ (lineFeed ++ rowLines rows))))
 
 -- a refusal
 unfoldable pub refusalText : ℕ → List ℕ
-refusalText n = bytes "refused " ++ (decimal n ++ lineFeed)
+refusalText n = bytes "refused " ++ (numeral (pos n) ++ lineFeed)
 
 abbrev pub outputFor : List ℕ → List ℕ → Option ℕ → List ℕ
 outputFor text file (some n) = refusalText n

@@ -2,15 +2,18 @@
 ghost use mathlib.Core.Path.{_≡_};
 ghost use mathlib.Core.List.{_++_};
 ghost use Prim.Native.Nat.{_+_, _*_, _<_, _≤_};
+ghost use lib.IntN.{pos};
 ghost use lib.ListN.{length, take, drop};
 ghost use Rattle.tables.specs.Lists.{placed};
 ghost use Rattle.tables.specs.Tables.{mostRows};
+ghost use Rattle.numerals.specs.Numerals.{numeral};
 ghost use Rattle.rule.specs.Calls.{admitCall};
 ghost use Rattle.io.specs.Counts.{Counts};
 ghost use Rattle.gate.specs.Answers.{listedAnswer};
-ghost use Rattle.admission.specs.Output.{mostOutput, decimal, rowLines, rowsText, refusalText, output, readOfText, readOfTables, WrittenFor};
+ghost use Rattle.admission.specs.Output.{mostOutput, rowLines, rowsText, refusalText, output, readOfText, readOfTables, WrittenFor};
 ghost use Rattle.admission.specs.Code.{RowsShort};
 use card::RECORD_SIZE;
+use cells::EXCESS;
 use cells::MOST_CELLS;
 use cells::MOST_ROWS;
 use cells::MOST_TABLES;
@@ -55,18 +58,13 @@ fn put_word(out: &mut [u8; OUTPUT], i: usize, word: &[u8]) -> usize
 }
 
 // A number of at most four digits from place i on; the next place.
-fn put_decimal(out: &mut [u8; OUTPUT], i: usize, n: usize) -> usize
+fn put_number(out: &mut [u8; OUTPUT], i: usize, n: usize) -> usize
     requires { ⌜ length (now out) ≡ mostOutput ⌝ ∗ ⌜ n < 10000 ⌝ ∗ ⌜ i + 4 ≤ mostOutput ⌝ }
-    ensures written { λ r. ⌜ now (out .exit) ≡ placed (now (out .entry)) i (decimal n) ⌝ }
-    ensures next { λ r. ⌜ r ≡ i + length (decimal n) ⌝ }
+    ensures written { λ r. ⌜ now (out .exit) ≡ placed (now (out .entry)) i (numeral (pos n)) ⌝ }
+    ensures next { λ r. ⌜ r ≡ i + length (numeral (pos n)) ⌝ }
     ensures short { λ r. ⌜ r ≤ i + 4 ⌝ }
 {
-    let mut at = i;
-    if 10 <= n {
-        at = put_decimal(out, i, n / 10);
-    }
-    out[at] = (48 + n % 10) as u8;
-    at + 1
+    digits::put_numeral(out, i, EXCESS + n)
 }
 
 // A row number and a line feed for each of the first n rows, from place i on; the next place.
@@ -79,7 +77,7 @@ fn put_rows(out: &mut [u8; OUTPUT], i: usize, rows: &[u32; MOST_ROWS], n: usize)
     let mut at = i;
     let mut k: usize = 0;
     while k < n {
-        at = put_decimal(out, at, rows[k] as usize);
+        at = put_number(out, at, rows[k] as usize);
         out[at] = b'\n';
         at += 1;
         k += 1;
@@ -95,9 +93,9 @@ fn print_rows(out: &mut [u8; OUTPUT], rows: &[u32; MOST_ROWS], n: usize, total: 
     ensures counted { λ r. ⌜ Counts r (now (out .exit)) ⌝ }
 {
     let mut at = put_word(out, 0, b"rows ");
-    at = put_decimal(out, at, n);
+    at = put_number(out, at, n);
     at = put_word(out, at, b" of ");
-    at = put_decimal(out, at, total);
+    at = put_number(out, at, total);
     at = put_word(out, at, b"\n");
     put_rows(out, at, rows, n)
 }
@@ -110,7 +108,7 @@ fn print_refusal(out: &mut [u8; OUTPUT], number: usize) -> usize
     ensures counted { λ r. ⌜ Counts r (now (out .exit)) ⌝ }
 {
     let mut at = put_word(out, 0, b"refused ");
-    at = put_decimal(out, at, number);
+    at = put_number(out, at, number);
     put_word(out, at, b"\n")
 }
 

@@ -19,7 +19,8 @@ use Rattle.card.specs.Layout.{recordSize, valueSize, leftPlace, rightPla
 use Rattle.card.specs.Sound.{columnsFit, laid, sound, Sound}
 use Rattle.tables.proofs.Values.{comparison-back}
 use Rattle.tables.proofs.Tests.{is-true, both, bounds}
-use Rattle.card.proofs.Places.{at, at0, skip-to, from16, from32, bits-small, signed-bits}
+use Rattle.tables.proofs.Bytes.{from16, from32, bits-small, signed-bits}
+use Rattle.card.proofs.Places.{at, at0, skip-to}
 use Rattle.card.proofs.Walk.{value-length, card-length, headOf, Stands, kind-there, record-there, stands-row, stands-left, stands-right, tables-back, columns-back, count-back, card-stands}
 
 -- ---- one entry

@@ -17,7 +17,8 @@ use Rattle.card.specs.Layout.{recordSize, valueSize, tablePlace, compari
 use Rattle.card.specs.Sound.{columnsFit, holdsFitting, laid, sound, Sound}
 use Rattle.tables.proofs.Values.{comparison-number}
 use Rattle.tables.proofs.Tests.{both, bounds}
-use Rattle.card.proofs.Places.{tabulated, to16, to32, in-range}
+use Rattle.tables.proofs.Bytes.{to16, to32, in-range}
+use Rattle.card.proofs.Places.{tabulated}
 use Rattle.card.proofs.Walk.{kindPlace, recordPlace}
 
 -- each is below 256

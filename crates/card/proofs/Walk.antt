@@ -8,7 +8,8 @@ use lib.Seq.{take-at}
 use Rattle.tables.specs.Values.{Value, Constant, Column, Connective, Quantifier}
 use Rattle.card.specs.Card.{CompareLeaf, MarkLeaf, Card, LeafEntry, PairEntry, RowEntry, entries}
 use Rattle.card.specs.Layout.{recordSize, valueSize, Head, LeafHead, PairHead, RowHead, kindNumber, kindOf, valueBytes, recordBytes, kindBytes, recordsFrom, cardBytes, cardLength, entryCount, tablesIn, columnsIn, kindAt, recordAt}
-use Rattle.card.proofs.Places.{at, at0, skip-to, tabulated, from16}
+use Rattle.tables.proofs.Bytes.{from16}
+use Rattle.card.proofs.Places.{at, at0, skip-to, tabulated}
 
 -- ---- lengths
 

@@ -24,7 +24,9 @@ use Rattle.card.specs.Groups.{PairNumber, RowNumber, ComparisonNumber, MarkNumb
 use Rattle.card.specs.Sound.{laid, holdsFitting, sound}
 use Rattle.decoder.specs.Code.{Laid, entrySize, entryEnd, entryNextEnd, Decoded, kindIn, endIn, nextEndIn, tableIn, leftIn, rightIn, headAt, Coded, coded-leaf, coded-pair, coded-row}
 use Rattle.checker.specs.Code.{Fitting, Checks, LevelsIn, Checkable}
-use Rattle.values.specs.Code.{valueIn}
+use Rattle.values.specs.Code.{heldSize, heldAt, Held32, valueIn}
+use Rattle.values.specs.declared.HeldValue.{HeldValue}
+use Rattle.values.proofs.Held.{held-32}
 use Rattle.tables.proofs.Tests.{is-true, both, bounds}
 use Rattle.tables.proofs.Tabulated.{tabulate-at}
 use Rattle.decoder.proofs.Grouped.{none-before, none-behind}
@@ -53,35 +55,39 @@ excess-in-range n small = go (ltb n excessAdded) refl
 levels-long : (card w : List ℕ) (depth : ℕ) → LevelsIn card w depth → length (take depth w) ≡ depth
 levels-long card w depth h = length-take-le depth w (omega arith)
 
-module _ (columns levels : List ℕ) (tag n : ℕ) where
-  pub constant-fits : tag ≡ constantTag → n < words32 → true ≡ valueFits columns levels (valueIn tag n)
+module _ (v : HeldValue) where
+  pub constant-fits : (columns levels : List ℕ) → v .tag ≡ constantTag → Held32 v → true ≡ valueFits columns levels (valueIn v)
   unfolding valueIn
-  constant-fits e small = rw (eq-eqb tag constantTag e) (sym (excess-in-range n small))
+  constant-fits columns levels e small = rw (eq-eqb (v .tag) constantTag e) (sym (excess-in-range (v .number) (small .number-small)))
 
-module _ (card w : List ℕ) (depth tag n : ℕ) (h : LevelsIn card w depth) (not-constant : tag ≡ constantTag → ⊥) where
-  abbrev Fits : Bool
-  Fits = valueFits (columnsIn card) (take depth w) (valueIn tag n)
+  module _ (card w : List ℕ) (depth : ℕ) (h : LevelsIn card w depth) (not-constant : v .tag ≡ constantTag → ⊥) where
+    abbrev Fits : Bool
+    Fits = valueFits (columnsIn card) (take depth w) (valueIn v)
 
-  pub level-missing : depth ≤ tag → false ≡ Fits
-  unfolding valueIn
-  level-missing l = rw (ne-eqb tag constantTag not-constant, levels-long card w depth h, le-ltb tag depth l)
+    pub level-missing : depth ≤ v .tag → false ≡ Fits
+    unfolding valueIn
+    level-missing l = rw (ne-eqb (v .tag) constantTag not-constant, levels-long card w depth h, le-ltb (v .tag) depth l)
 
-  column-fits : tag < depth → Fits ≡ (leb 1 n && leb n (byteAt card (2 + getD w tag 0)))
-  unfolding valueIn
-  column-fits l =
-      rw (
-        ne-eqb tag constantTag not-constant,
-        levels-long card w depth h,
-        lt-ltb tag depth l,
-        getD-take depth w tag 0 l,
-        column-at card (getD w tag 0) (h .table-low tag l) (h .table-high tag l),
-      )
+    module _ (level : v .tag < depth) where
+      abbrev columns : ℕ
+      columns = byteAt card (2 + getD w (v .tag) 0)
 
-  pub column-missing : tag < depth → n < 1 → false ≡ Fits
-  column-missing l z = rw (column-fits l, lt-leb 1 n z)
+      column-fits : Fits ≡ (leb 1 (v .number) && leb (v .number) columns)
+      unfolding valueIn
+      column-fits =
+          rw (
+            ne-eqb (v .tag) constantTag not-constant,
+            levels-long card w depth h,
+            lt-ltb (v .tag) depth level,
+            getD-take depth w (v .tag) 0 level,
+            column-at card (getD w (v .tag) 0) (h .table-low (v .tag) level) (h .table-high (v .tag) level),
+          )
 
-  pub column-last : tag < depth → 1 ≤ n → leb n (byteAt card (2 + getD w tag 0)) ≡ Fits
-  column-last l z = rw (column-fits l, is-true (leb 1 n) (le→leb 1 n z))
+      pub column-missing : v .number < 1 → false ≡ Fits
+      column-missing z = rw (column-fits, lt-leb 1 (v .number) z)
+
+      pub column-last : 1 ≤ v .number → leb (v .number) columns ≡ Fits
+      column-last z = rw (column-fits, is-true (leb 1 (v .number)) (le→leb 1 (v .number) z))
 
 -- ---- answers
 
@@ -106,7 +112,11 @@ module _ {d columns levels : List ℕ} {s e : ℕ} where
   pub kind-behind : markKind NotNull < kindIn d s → Checks d columns levels s e false
   kind-behind l = no-kind (none-behind (kindIn d s) l)
 
--- ---- what checking asks, of inner entries
+-- ---- what checking asks, of values and of inner entries
+
+-- a value that stands among the numbers of entry s
+pub decoded-32 : {card d w : List ℕ} {s e depth : ℕ} → Checkable card d w s e depth → (i : ℕ) {v : HeldValue} → v ≡ heldAt d i → i + heldSize ≤ entrySize * (s + 1) → Held32 v
+decoded-32 {d = d} h i is b = rw is (held-32 d i (λ j l. h .decoded .fields .small (i + j) (omega arith)))
 
 pub checkable-within : {card d w : List ℕ} {s e depth : ℕ} → Checkable card d w s e depth → (m n : ℕ) → m < n → n ≤ e → Checkable card d w m n depth
 checkable-within h m n l b = record { levels = h .levels; decoded = h .decoded; started = l; within = omega arith }

@@ -3,10 +3,8 @@
 // there are.
 ghost use mathlib.Core.Path.{_≡_};
 ghost use mathlib.Core.Bool.{true};
-ghost use Prim.Native.Nat.{_<_};
 ghost use lib.ListN.{take};
 ghost use Rattle.tables.specs.Values.{valueFits};
-ghost use Rattle.cells.specs.Code.{words32};
 ghost use Rattle.card.specs.Layout.{columnsIn};
 ghost use Rattle.card.specs.Groups.{PairNumber, RowNumber, LeafNumber};
 ghost use Rattle.card.specs.Sound.{sound};
@@ -14,7 +12,7 @@ ghost use Rattle.card.specs.Calls.{checkCall};
 ghost use Rattle.decoder.specs.Code.{Roomy, Decoded, kindIn, endIn};
 ghost use Rattle.checker.specs.Answers.{checkedAnswer};
 ghost use Rattle.checker.specs.Code.{Checks, LevelsIn, Checkable};
-ghost use Rattle.values.specs.Code.{valueIn};
+ghost use Rattle.values.specs.Code.{Held32, valueIn};
 use card::AND_ENTRY;
 use card::BLANK;
 use card::COMPARISON_OR_NO;
@@ -31,36 +29,37 @@ use decoder::DECODED;
 use decoder::END;
 use decoder::FEW_DECODED;
 use decoder::FIELDS;
-use decoder::LEFT_NUMBER;
-use decoder::LEFT_TAG;
+use decoder::LEFT;
 use decoder::MIDDLE_CARD;
 use decoder::MIDDLE_DECODED;
 use decoder::NEXT_END;
-use decoder::RIGHT_NUMBER;
-use decoder::RIGHT_TAG;
+use decoder::RIGHT;
 use decoder::SHORT_CARD;
 use decoder::TABLE;
 use decoder::decode;
 use decoder::laid_out;
 use values::CONSTANT;
+use values::HeldValue;
 use values::LEVELS;
+use values::held_at;
 
 // Whether a value's level and column exist; w has the table of each level.
-fn value_fits(card: &[u8], w: &[usize; LEVELS], depth: usize, tag: usize, n: usize) -> bool
-    requires { ⌜ LevelsIn (now card) (now w) depth ⌝ ∗ ⌜ n < words32 ⌝ }
-    ensures { λ r. ⌜ r ≡ valueFits (columnsIn (now (card .entry))) (take depth (now (w .entry))) (valueIn tag n) ⌝ }
+fn value_fits(card: &[u8], w: &[usize; LEVELS], depth: usize, v: HeldValue) -> bool
+    requires { ⌜ LevelsIn (now card) (now w) depth ⌝ ∗ ⌜ Held32 v ⌝ }
+    ensures { λ r. ⌜ r ≡ valueFits (columnsIn (now (card .entry))) (take depth (now (w .entry))) (valueIn v) ⌝ }
 {
+    let tag = v.tag;
     if tag == CONSTANT {
         return true;
     }
     if depth <= tag {
         return false;
     }
-    if n < 1 {
+    if v.number < 1 {
         return false;
     }
     let t = w[tag];
-    n <= byte(card, 2 + t)
+    v.number <= byte(card, 2 + t)
 }
 
 // The entry s, up to e, which is its end, where it has no inner entries: whether it fits.
@@ -78,24 +77,14 @@ fn check_leaf(
     if e != s + 1 {
         return false;
     }
-    let left = value_fits(
-        card,
-        w,
-        depth,
-        d[FIELDS * s + LEFT_TAG],
-        d[FIELDS * s + LEFT_NUMBER],
-    );
+    let left = value_fits(card, w, depth, held_at(d, FIELDS * s + LEFT));
     if !left {
         return false;
     }
     match d[FIELDS * s] {
-        COMPARISON_OR_NO | COMPARISON_OR_YES => value_fits(
-            card,
-            w,
-            depth,
-            d[FIELDS * s + RIGHT_TAG],
-            d[FIELDS * s + RIGHT_NUMBER],
-        ),
+        COMPARISON_OR_NO | COMPARISON_OR_YES => {
+            value_fits(card, w, depth, held_at(d, FIELDS * s + RIGHT))
+        }
         BLANK | NOT_BLANK => true,
         _ => {
             cells::never();

@@ -1,7 +1,7 @@
 -- A card's entries as numbers: when a card is laid out, where a record's bytes stand, and what the decoded numbers say.
 use mathlib.Core.Path.{_≡_, refl, sym, ap, ap₂, subst, _∙_}
 use mathlib.Core.Bool.{Bool, true, false, cond, _&&_, and-true, and-false, and-assoc}
-use mathlib.Core.List.{List}
+use mathlib.Core.List.{List, []}
 use mathlib.Core.Option.{Option, none, some}
 use mathlib.Core.Logic.{⊎-elim}
 use Prim.Native.Nat.{ℕ, _+_, _-_, _*_, _/_, _%_, _<_, _≤_}
@@ -9,23 +9,26 @@ use native.Mathlib.Omega.{arith}
 use borrow.Author.Tests.{eq-eqb, ne-eqb}
 use lib.Dec.{T, eqb, eqb→eq}
 use lib.Ieee.Fits.{and-i}
-use lib.ListN.{length, getD, set, drop, length-set}
-use lib.Seq.{getD-take, getD-drop}
-use Rattle.tables.specs.Lists.{all, only, _>>=_}
+use lib.ListN.{length, getD, set, take, drop, length-set, List·getD-append}
+use lib.Seq.{length-take-le, getD-take, getD-drop, getD-append-add}
+use Rattle.tables.specs.Lists.{all, only, placed, _>>=_}
 use Rattle.tables.specs.Bytes.{between, byteAt, word16, word32, signed, bits}
 use Rattle.tables.specs.Tables.{mostTables, mostColumns}
 use Rattle.tables.specs.Values.{mostEntries, constantTag, Constant, Column, And, NotNull}
 use Rattle.cells.specs.Code.{words32, excess, fromExcess, Holds}
 use Rattle.cells.proofs.Holding.{holds-more, holds-same}
 use Rattle.cells.proofs.Signed.{signed-excess, signed-in}
+use Rattle.tables.proofs.Bytes.{in-range, bits-small, signed-bits}
 use Rattle.tables.proofs.Tests.{is-true, is-so, refuted, both, bounds, between-yes, between-no}
+use Rattle.tables.proofs.Placed.{placed-length}
 use Rattle.tables.proofs.Tabulated.{tabulate-length, all-each, all-of, all-no}
-use Rattle.card.specs.Layout.{recordSize, valueSize, tablePlace, comparisonPlace, leftPlace, rightPlace, Kind, PairKind, RowKind, ComparisonKind, MarkKind, pairKind, markKind, kindNumber, kindWith, uses, Head, cardLength, entryCount, tablesIn, columnsIn, kindAt, recordAt, endAt, valueOf, valueFrom, zeros, recordFits, headIn, headFrom}
+use Rattle.card.specs.Layout.{recordSize, valueSize, tablePlace, comparisonPlace, leftPlace, rightPlace, Kind, PairKind, RowKind, ComparisonKind, MarkKind, pairKind, markKind, kindNumber, kindWith, uses, Head, cardLength, entryCount, tablesIn, columnsIn, kindAt, recordAt, endAt, valueFrom, zeros, recordFits, headIn, headFrom}
 use Rattle.card.specs.Groups.{PairNumber, RowNumber, ComparisonNumber, MarkNumber}
 use Rattle.card.specs.Sound.{laid, columnsFit, sound}
-use Rattle.decoder.specs.Code.{Laid, recordFrom, entrySize, entryEnd, entryTable, entryComparison, entryLeftTag, entryLeftNumber, entryRightTag, entryRightNumber, kindFits, fieldsFit, knownKind, numberIn, numberFrom, fieldsOf, fieldOf, Decoded, kindIn, endIn, headAt}
-use Rattle.values.specs.Code.{valueIn}
-use Rattle.card.proofs.Places.{in-range, bits-small, signed-bits}
+use Rattle.decoder.specs.Code.{Laid, recordFrom, entrySize, entryEnd, entryTable, entryComparison, entryLeft, entryRight, kindFits, fieldsFit, knownKind, numberIn, numberFrom, heldFrom, fieldsOf, fieldOf, Decoded, kindIn, endIn, leftIn, rightIn, headAt}
+use Rattle.values.specs.Code.{heldSize, heldNumbers, heldAt, Held32, valueIn}
+use Rattle.values.specs.declared.HeldValue.{HeldValue}
+use Rattle.values.proofs.Held.{held-among, held-in, numbers-32}
 use Rattle.card.proofs.Back.{kind-back}
 use Rattle.decoder.proofs.Grouped.{below-or-not, none-before, none-behind}
 
@@ -259,6 +262,45 @@ field-at card i k h =
 field-first : (card : List ℕ) (i : ℕ) → fieldOf card (entrySize * i) ≡ getD (fieldsOf card i) 0 0
 field-first card i = let e : entrySize * i ≡ entrySize * i + 0 = omega arith in ap (fieldOf card) e ∙ field-at card i 0 (omega arith)
 
+-- the numbers of its values among them
+module _ (card : List ℕ) (i k : ℕ) (h : k < heldSize) where
+  abbrev held : ℕ → HeldValue
+  held = heldFrom (recordAt card i)
+
+  left-numbers : getD (fieldsOf card i) (entryLeft + k) 0 ≡ getD (heldNumbers (held leftPlace)) k 0
+  unfolding fieldsOf
+  left-numbers = held-among (take entryLeft (fieldsOf card i)) (held leftPlace) (heldNumbers (held rightPlace)) k h
+
+  right-numbers : getD (fieldsOf card i) (entryRight + k) 0 ≡ getD (heldNumbers (held rightPlace)) k 0
+  unfolding fieldsOf
+  right-numbers = held-among (take entryRight (fieldsOf card i)) (held rightPlace) [] k h
+
+-- several elements more, of an array that is filled from its start
+holds-placed : (l : List ℕ) (n : ℕ) (xs : List ℕ) (g : ℕ → ℕ) → Holds l n g → n + length xs ≤ length l
+    → ((k : ℕ) → k < length xs → (getD xs k 0 ≡ g (n + k)) × (getD xs k 0 < words32)) → Holds (placed l n xs) (n + length xs) g
+unfolding placed
+holds-placed l n xs g h room new = record { at = λ q m. each q m .0; small = λ q m. each q m .1 }
+  where
+    size : length (take n l) ≡ n
+    size = length-take-le n l (omega arith)
+
+    each : (q : ℕ) → q < n + length xs → (getD (placed l n xs) q 0 ≡ g q) × (getD (placed l n xs) q 0 < words32)
+    each q m = ⊎-elim front back (below-or-not q n)
+      where
+        front : q < n → (getD (placed l n xs) q 0 ≡ g q) × (getD (placed l n xs) q 0 < words32)
+        front b =
+            let e : getD (placed l n xs) q 0 ≡ getD l q 0 = List·getD-append (take n l) _ 0 q (omega (arith, size)) ∙ getD-take n l q 0 b in
+            (e ∙ h .at q b, omega (arith, h .small q b))
+
+        back : n ≤ q → (getD (placed l n xs) q 0 ≡ g q) × (getD (placed l n xs) q 0 < words32)
+        back b =
+            let z : q ≡ length (take n l) + (q - n) = omega (arith, size) in
+            let y : n + (q - n) ≡ q = omega arith in
+            let e : getD (placed l n xs) q 0 ≡ getD xs (q - n) 0 =
+            ap (λ (k : ℕ). getD (placed l n xs) k 0) z ∙ getD-append-add (take n l) _ (q - n) 0 ∙ List·getD-append xs _ 0 (q - n) (omega arith) in
+            let x = new (q - n) (omega arith) in
+            (e ∙ x .0 ∙ ap g y, omega (arith, x .1))
+
 -- one entry more: its numbers, from t tables and n entries
 abbrev place : ℕ → ℕ → ℕ → ℕ
 place t n i = 3 + t + n + recordSize * i
@@ -276,46 +318,64 @@ module _ (card : List ℕ) (i t n : ℕ) (tables : t ≡ tablesIn card) (entries
     next d k v l h holds e s =
         holds-more d (entrySize * i + k) v (entrySize * i + (k + 1)) (fieldOf card) holds (omega arith) (e ∙ sym (field-at card i k h)) s (omega arith)
 
-    pub entry-more : (d : List ℕ) (kind a0 a1 a2 a3 a4 a5 a6 a7 : ℕ) → length d ≡ m → Holds d (entrySize * i) (fieldOf card)
+    next-value : (d x : List ℕ) (k at : ℕ) {v : HeldValue} → length d ≡ m → k + heldSize ≤ entrySize → Holds d (entrySize * i + k) (fieldOf card)
+        → x ≡ placed d (entrySize * i + k) (heldNumbers v)
+        → (v ≡ heldFrom (recordFrom card (place t n i)) at) × Held32 v
+        → ((j : ℕ) → j < heldSize → getD (fieldsOf card i) (k + j) 0 ≡ getD (heldNumbers (heldFrom (recordAt card i) at)) j 0)
+        → (length x ≡ m) × Holds x (entrySize * i + (k + heldSize)) (fieldOf card)
+    next-value d x k at {v} l h holds put (e, s) numbers =
+        let is : v ≡ heldFrom (recordAt card i) at = e ∙ ap (λ (r : List ℕ). heldFrom r at) record-here in
+        let each : (j : ℕ) → j < heldSize → (getD (heldNumbers v) j 0 ≡ fieldOf card (entrySize * i + k + j)) × (getD (heldNumbers v) j 0 < words32) = λ j b.
+        let z : entrySize * i + (k + j) ≡ entrySize * i + k + j = omega arith in (
+          ap (λ (v : HeldValue). getD (heldNumbers v) j 0) is ∙ sym (numbers j b) ∙ sym (field-at card i (k + j) (omega arith)) ∙ ap (fieldOf card) z,
+          numbers-32 v s j b,
+        ) in
+        let more = holds-placed d (entrySize * i + k) (heldNumbers v) (fieldOf card) holds (omega arith) each in (
+          ap length put ∙ placed-length d (entrySize * i + k) (heldNumbers v) (omega arith) ∙ l,
+          rw put (holds-same _ _ _ (fieldOf card) more (omega arith)),
+        )
+
+    pub entry-more : (d : List ℕ) (kind a0 a1 a2 a3 : ℕ) {left right : HeldValue} → length d ≡ m → Holds d (entrySize * i) (fieldOf card)
         → kind ≡ byteAt card (3 + t + i)
         → (a0 ≡ knownKind kind (recordFrom card (place t n i))) × (a0 < 256)
         → (a1 ≡ word16 card (place t n i)) × (a1 < 65536)
         → (a2 ≡ byteAt card (place t n i + tablePlace)) × (a2 < 256)
         → (a3 ≡ byteAt card (place t n i + comparisonPlace)) × (a3 < 256)
-        → (a4 ≡ byteAt card (place t n i + leftPlace)) × (a4 < 256)
-        → (a5 ≡ numberFrom (recordFrom card (place t n i)) leftPlace) × (a5 < words32)
-        → (a6 ≡ byteAt card (place t n i + rightPlace)) × (a6 < 256)
-        → (a7 ≡ numberFrom (recordFrom card (place t n i)) rightPlace) × (a7 < words32)
+        → (left ≡ heldFrom (recordFrom card (place t n i)) leftPlace) × Held32 left
+        → (right ≡ heldFrom (recordFrom card (place t n i)) rightPlace) × Held32 right
         → let d4 = set (set (set (set d (entrySize * i) a0) (entrySize * i + entryEnd) a1) (entrySize * i + entryTable) a2) (entrySize * i + entryComparison) a3 in
-        Holds (set (set (set (set d4 (entrySize * i + entryLeftTag) a4) (entrySize * i + entryLeftNumber) a5) (entrySize * i + entryRightTag) a6) (entrySize * i + entryRightNumber) a7) (entrySize * (i + 1)) (fieldOf card)
+        (d5 d6 : List ℕ) → d5 ≡ placed d4 (entrySize * i + entryLeft) (heldNumbers left) → d6 ≡ placed d5 (entrySize * i + entryRight) (heldNumbers right)
+        → (length d6 ≡ m) × Holds d6 (entrySize * (i + 1)) (fieldOf card)
     unfolding fieldsOf
-    entry-more d kind a0 a1 a2 a3 a4 a5 a6 a7 l h k e0 e1 e2 e3 e4 e5 e6 e7 =
+    entry-more d kind a0 a1 a2 a3 l h k e0 e1 e2 e3 el er d5 d6 pl pr =
         let kind-is = k ∙ ap (λ (x : ℕ). byteAt card (3 + x + i)) tables in
         let known = e0 .0 ∙ ap₂ knownKind kind-is record-here in
         let two = record-word16 card (place t n i) 0 (place t n i) (omega arith) (omega arith) in
         let end = e1 .0 ∙ sym two ∙ ap (λ (r : List ℕ). word16 r 0) record-here in
-        let left = e5 .0 ∙ ap (λ (r : List ℕ). numberFrom r leftPlace) record-here in
-        let right = e7 .0 ∙ ap (λ (r : List ℕ). numberFrom r rightPlace) record-here in
         let h1 = holds-more d (entrySize * i) a0 (entrySize * i + entryEnd) (fieldOf card) h (omega arith) (known ∙ sym (field-first card i)) (omega arith) refl in
         let h2 = next _ entryEnd a1 (simp length-set l) (omega arith) h1 end (omega arith) in
         let h3 = next _ entryTable a2 (simp length-set l) (omega arith) h2 (byte-here tablePlace a2 (omega arith) (e2 .0)) (omega arith) in
         let h4 = next _ entryComparison a3 (simp length-set l) (omega arith) h3 (byte-here comparisonPlace a3 (omega arith) (e3 .0)) (omega arith) in
-        let h5 = next _ entryLeftTag a4 (simp length-set l) (omega arith) h4 (byte-here leftPlace a4 (omega arith) (e4 .0)) (omega arith) in
-        let h6 = next _ entryLeftNumber a5 (simp length-set l) (omega arith) h5 left (omega arith) in
-        let h7 = next _ entryRightTag a6 (simp length-set l) (omega arith) h6 (byte-here rightPlace a6 (omega arith) (e6 .0)) (omega arith) in
-        let h8 = next _ entryRightNumber a7 (simp length-set l) (omega arith) h7 right (omega arith) in
-        holds-same _ (entrySize * i + entrySize) (entrySize * (i + 1)) (fieldOf card) h8 (omega arith)
+        let h5 = next-value _ d5 entryLeft leftPlace (simp length-set l) (omega arith) h4 pl el (left-numbers card i) in
+        let h6 = next-value d5 d6 entryRight rightPlace (h5 .0) (omega arith) (h5 .1) pr er (right-numbers card i) in
+        (h6 .0, holds-same _ (entrySize * i + entrySize) (entrySize * (i + 1)) (fieldOf card) (h6 .1) (omega arith))
 
 -- ---- what the numbers say
 
 constant-back : (n : ℕ) → fromExcess (excess (bits (signed n))) ≡ signed n
 constant-back n = sym (signed-excess (bits (signed n)) (bits-small (signed n) (signed-in n))) ∙ signed-bits (signed n) (signed-in n)
 
--- the value of a tag and a number is that of the five bytes
-value-back : (tag raw : ℕ) → valueIn tag (numberIn tag raw) ≡ valueOf tag raw
+-- the value that is held is that of the bytes
+value-back : (r : List ℕ) (i : ℕ) → valueIn (heldFrom r i) ≡ valueFrom r i
 unfolding valueIn numberIn
-value-back tag raw = go (eqb tag constantTag)
+value-back r i = go (eqb tag constantTag)
   where
+    tag : ℕ
+    tag = byteAt r i
+
+    raw : ℕ
+    raw = word32 r (i + 1)
+
     number : Bool → ℕ
     number t = cond t (excess (bits (signed raw))) raw
 
@@ -344,6 +404,11 @@ module _ (card d : List ℕ) (decoded : Decoded card d) (i : ℕ) (within : i < 
   field-in : (k : ℕ) → k < entrySize → getD d (entrySize * i + k) 0 ≡ getD (fieldsOf card i) k 0
   field-in k h = decoded .fields .at (entrySize * i + k) (omega arith) ∙ field-at card i k h
 
+  value-in : (k place : ℕ) → k + heldSize ≤ entrySize
+      → ((j : ℕ) → j < heldSize → getD (fieldsOf card i) (k + j) 0 ≡ getD (heldNumbers (heldFrom (recordAt card i) place)) j 0)
+      → valueIn (heldAt d (entrySize * i + k)) ≡ valueFrom (recordAt card i) place
+  value-in k place h numbers = ap valueIn (held-in d (entrySize * i) k entrySize (fieldsOf card i) (heldFrom (recordAt card i) place) field-in h numbers) ∙ value-back (recordAt card i) place
+
   pub end-decoded : endIn d i ≡ endAt card i
   unfolding fieldsOf
   end-decoded = field-in entryEnd (omega arith)
@@ -355,8 +420,6 @@ module _ (card d : List ℕ) (decoded : Decoded card d) (i : ℕ) (within : i < 
       let kind : kindIn d i ≡ knownKind (kindAt card i) r = decoded .fields .at (entrySize * i) (omega arith) ∙ field-first card i in
       let table : getD d (entrySize * i + entryTable) 0 ≡ byteAt r tablePlace = field-in entryTable (omega arith) in
       let comparison : getD d (entrySize * i + entryComparison) 0 ≡ byteAt r comparisonPlace = field-in entryComparison (omega arith) in
-      let left : valueIn (getD d (entrySize * i + entryLeftTag) 0) (getD d (entrySize * i + entryLeftNumber) 0) ≡ valueFrom r leftPlace =
-      ap₂ valueIn (field-in entryLeftTag (omega arith)) (field-in entryLeftNumber (omega arith)) ∙ value-back (byteAt r leftPlace) (word32 r (leftPlace + 1)) in
-      let right : valueIn (getD d (entrySize * i + entryRightTag) 0) (getD d (entrySize * i + entryRightNumber) 0) ≡ valueFrom r rightPlace =
-      ap₂ valueIn (field-in entryRightTag (omega arith)) (field-in entryRightNumber (omega arith)) ∙ value-back (byteAt r rightPlace) (word32 r (rightPlace + 1)) in
+      let left : leftIn d i ≡ valueFrom r leftPlace = value-in entryLeft leftPlace (omega arith) (left-numbers card i) in
+      let right : rightIn d i ≡ valueFrom r rightPlace = value-in entryRight rightPlace (omega arith) (right-numbers card i) in
       rw (kind, table, comparison, left, right) (head-known r (kindAt card i))

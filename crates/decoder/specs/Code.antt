@@ -2,7 +2,7 @@
 -- cites nothing of this file.
 use mathlib.Core.Path.{_≡_}
 use mathlib.Core.Bool.{Bool, false, cond}
-use mathlib.Core.List.{List, [], _∷_}
+use mathlib.Core.List.{List, _∷_, _++_}
 use mathlib.Core.Option.{Option, none, some}
 use Prim.Native.Nat.{ℕ, _+_, _*_, _/_, _%_, _<_, _≤_}
 use lib.Dec.{eqb}
@@ -12,7 +12,8 @@ use Rattle.tables.specs.Bytes.{byteAt, word16, word32, signed, bits}
 use Rattle.tables.specs.Tables.{mostTables, mostColumns}
 use Rattle.tables.specs.Values.{mostEntries, constantTag, Value, comparisonOf, Connective, Quantifier}
 use Rattle.cells.specs.Code.{excess, Holds}
-use Rattle.values.specs.Code.{valueIn}
+use Rattle.values.specs.Code.{heldSize, heldNumbers, heldAt, valueIn}
+use Rattle.values.specs.declared.HeldValue.{HeldValue}
 use Rattle.card.specs.Card.{Leaf, Card, LeafEntry, PairEntry, RowEntry}
 use Rattle.card.specs.Layout.{recordSize, tablePlace, comparisonPlace, leftPlace, rightPlace, Kind, kindWith, uses, Head, LeafHead, PairHead, RowHead, headWith, cardLength, entryCount, tablesIn, kindAt, recordAt, recordFits}
 
@@ -35,10 +36,7 @@ recordFrom card place = take recordSize (drop place card)
 abbrev pub RecordIn : List ℕ → ℕ → Type 0
 RecordIn card place = place + recordSize ≤ length card
 
--- ---- how many numbers an entry is decoded to, and their order: its kind first, then these
-
-abbrev pub entrySize : ℕ
-entrySize = 8
+-- ---- the order of the numbers that an entry is decoded to: its kind first, then these; and how many there are
 
 abbrev pub entryEnd : ℕ
 entryEnd = 1
@@ -49,23 +47,20 @@ entryTable = 2
 abbrev pub entryComparison : ℕ
 entryComparison = 3
 
-abbrev pub entryLeftTag : ℕ
-entryLeftTag = 4
+abbrev pub entryLeft : ℕ
+entryLeft = 4
 
-abbrev pub entryLeftNumber : ℕ
-entryLeftNumber = 5
+abbrev pub entryRight : ℕ
+entryRight = entryLeft + heldSize
 
-abbrev pub entryRightTag : ℕ
-entryRightTag = 6
-
-abbrev pub entryRightNumber : ℕ
-entryRightNumber = 7
+abbrev pub entrySize : ℕ
+entrySize = entryRight + heldSize
 
 -- where the next entry's end stands
 abbrev pub entryNextEnd : ℕ
 entryNextEnd = entrySize + entryEnd
 
--- ---- an entry as eight numbers
+-- ---- an entry as numbers
 
 -- whether the fields of a record are as its kind asks; where there is no such kind they are not
 abbrev pub kindFits : Option Kind → List ℕ → Bool
@@ -87,7 +82,11 @@ numberIn tag raw = cond (eqb tag constantTag) (excess (bits (signed raw))) raw
 abbrev pub numberFrom : List ℕ → ℕ → ℕ
 numberFrom r i = numberIn (byteAt r i) (word32 r (i + 1))
 
--- kind, end, table, comparison, and two values of a tag and a number each
+-- the value of a record's bytes from place i on, as it is held
+abbrev pub heldFrom : List ℕ → ℕ → HeldValue
+heldFrom r i = record { tag = byteAt r i; number = numberFrom r i }
+
+-- kind, end, table, comparison, and two values
 unfoldable pub fieldsOf : List ℕ → ℕ → List ℕ
 fieldsOf card i =
     let r = recordAt card i in
@@ -95,11 +94,7 @@ fieldsOf card i =
     ∷ word16 r 0
     ∷ byteAt r tablePlace
     ∷ byteAt r comparisonPlace
-    ∷ byteAt r leftPlace
-    ∷ numberFrom r leftPlace
-    ∷ byteAt r rightPlace
-    ∷ numberFrom r rightPlace
-    ∷ []
+    ∷ (heldNumbers (heldFrom r leftPlace) ++ heldNumbers (heldFrom r rightPlace))
 
 unfoldable pub fieldOf : List ℕ → ℕ → ℕ
 fieldOf card q = getD (fieldsOf card (q / entrySize)) (q % entrySize) 0
@@ -133,10 +128,10 @@ module _ (d : List ℕ) (i : ℕ) where
   comparisonIn = getD d (entrySize * i + entryComparison) 0
 
   abbrev pub leftIn : Value
-  leftIn = valueIn (getD d (entrySize * i + entryLeftTag) 0) (getD d (entrySize * i + entryLeftNumber) 0)
+  leftIn = valueIn (heldAt d (entrySize * i + entryLeft))
 
   abbrev pub rightIn : Value
-  rightIn = valueIn (getD d (entrySize * i + entryRightTag) 0) (getD d (entrySize * i + entryRightNumber) 0)
+  rightIn = valueIn (heldAt d (entrySize * i + entryRight))
 
   -- what entry i says by itself, were it of this kind; and what it says by the kind that it has
   abbrev pub headBy : Kind → Head

@@ -9,7 +9,8 @@ ghost use Rattle.tables.specs.Tables.{mostColumns};
 ghost use Rattle.card.specs.Layout.{recordSize, valueSize, tablesIn, columnsIn, zeros};
 ghost use Rattle.card.specs.Sound.{laid};
 ghost use Rattle.cells.specs.Code.{words32};
-ghost use Rattle.decoder.specs.Code.{Laid, recordFrom, RecordIn, fieldsFit, knownKind, numberFrom, Roomy, Decoded};
+ghost use Rattle.values.specs.Code.{Held32};
+ghost use Rattle.decoder.specs.Code.{Laid, recordFrom, RecordIn, fieldsFit, knownKind, numberFrom, heldFrom, Roomy, Decoded};
 use card::AND_ENTRY;
 use card::BLANK;
 use card::COMPARISON_OR_NO;
@@ -30,9 +31,12 @@ use cells::read16;
 use cells::read32;
 use tables::MOST_ENTRIES;
 use values::CONSTANT;
+use values::HELD_NUMBERS;
+use values::HeldValue;
+use values::put_held;
 
 // The numbers that an entry is decoded to, and those of all entries.
-pub const FIELDS: usize = 8;
+pub const FIELDS: usize = RIGHT + HELD_NUMBERS;
 
 pub const DECODED: usize = FIELDS * MOST_ENTRIES;
 
@@ -58,13 +62,9 @@ pub const TABLE: usize = 2;
 
 pub const COMPARISON: usize = 3;
 
-pub const LEFT_TAG: usize = 4;
+pub const LEFT: usize = 4;
 
-pub const LEFT_NUMBER: usize = 5;
-
-pub const RIGHT_TAG: usize = 6;
-
-pub const RIGHT_NUMBER: usize = 7;
+pub const RIGHT: usize = LEFT + HELD_NUMBERS;
 
 pub const NEXT_END: usize = FIELDS + END;
 
@@ -184,7 +184,20 @@ fn number_at(card: &[u8], r: usize, i: usize) -> usize
     read32(card, r + i + 1)
 }
 
-// The entries of a card as numbers, eight for each: kind, end, table, comparison, and two values of a tag and a number each.
+// The value at place i. The test of its tag stands in a function that gives the number alone: with a value in each of its arms the compiler would branch on
+// the tag, where it now chooses a number.
+fn value_at(card: &[u8], r: usize, i: usize) -> HeldValue
+    requires { ⌜ RecordIn (now card) r ⌝ ∗ ⌜ i + valueSize ≤ recordSize ⌝ }
+    ensures is { λ x. ⌜ x ≡ heldFrom (recordFrom (now (card .entry)) r) i ⌝ }
+    ensures small { λ x. ⌜ Held32 x ⌝ }
+{
+    HeldValue {
+        tag: byte(card, r + i),
+        number: number_at(card, r, i),
+    }
+}
+
+// The entries of a card as numbers: kind, end, table, comparison, and two values.
 pub fn decode(card: &[u8], d: &mut [usize])
     requires { ⌜ Laid (now card) ⌝ ∗ ⌜ Roomy (now card) (now d) ⌝ }
     ensures { λ _. ⌜ Decoded (now (card .entry)) (now (d .exit)) ⌝ }
@@ -200,10 +213,8 @@ pub fn decode(card: &[u8], d: &mut [usize])
         d[p + END] = read16(card, r);
         d[p + TABLE] = byte(card, r + TABLE_PLACE);
         d[p + COMPARISON] = byte(card, r + COMPARISON_PLACE);
-        d[p + LEFT_TAG] = byte(card, r + LEFT_PLACE);
-        d[p + LEFT_NUMBER] = number_at(card, r, LEFT_PLACE);
-        d[p + RIGHT_TAG] = byte(card, r + RIGHT_PLACE);
-        d[p + RIGHT_NUMBER] = number_at(card, r, RIGHT_PLACE);
+        put_held(d, p + LEFT, value_at(card, r, LEFT_PLACE));
+        put_held(d, p + RIGHT, value_at(card, r, RIGHT_PLACE));
         i += 1;
     }
 }

@@ -6,22 +6,20 @@ use Prim.Native.Nat.{ℕ, _+_, _*_}
 use native.Mathlib.Omega.{arith}
 use lib.ListN.{getD}
 use Rattle.tables.specs.Lists.{placed}
-use Rattle.tables.specs.Bytes.{bytes16, bytes32}
+use Rattle.tables.specs.Bytes.{bytes16}
 use Rattle.tables.specs.Values.{Value, unusedValue, Comparison, comparisonNumber, MarkTest}
 use Rattle.card.specs.Card.{Interpretation, Leaf, CompareLeaf, MarkLeaf, LeafEntry, entries}
 use Rattle.card.specs.Layout.{recordSize, LeafHead, markKind, kindNumber, kindOf, valueBytes, fieldBytes, kindBytes, recordsFrom}
-use Rattle.names.specs.Code.{partSize, partComparison, partLeftTag, partLeftNumber, partRightTag, partRightNumber}
+use Rattle.names.specs.Code.{partSize, partComparison, partLeft, partRight}
 use Rattle.parts.proofs.Small.{comparison-small}
+use Rattle.values.specs.Code.{unusedHeld, heldAt}
 use Rattle.records.specs.declared.LeafNumbers.{LeafNumbers}
-use Rattle.records.specs.Code.{byteNumber, LeafAt, LeafWritten, comparisonAs, ComparedAs, markAs, MarkedAs, compareKindAs}
+use Rattle.records.specs.Code.{heldBytes, LeafAt, LeafWritten, comparisonAs, ComparedAs, markAs, MarkedAs, compareKindAs}
 use Rattle.records.proofs.Flags.{compare-kind-small, mark-small}
-use Rattle.entries.specs.Code.{interpretationOf, leafAs, Wrote, valueBytesIn, CompareReady, MarkReady}
+use Rattle.records.proofs.Putting.{unused-small}
+use Rattle.entries.specs.Code.{interpretationOf, leafAs, Wrote, CompareReady, MarkReady}
 
 -- ---- numbers and bytes
-
--- a value's two numbers stand one after the other
-pub value-at : (p : List ℕ) (i j : ℕ) → j ≡ i + 1 → getD p i 0 ∷ bytes32 (byteNumber (getD p i 0) (getD p j 0)) ≡ valueBytesIn p i
-value-at p i j e = ap (λ (k : ℕ). getD p i 0 ∷ bytes32 (byteNumber (getD p i 0) (getD p k 0))) e
 
 compare-kind-is : (negate unknown : Bool) (op : Comparison) (l r : Value)
     → compareKindAs negate unknown ≡ kindNumber (kindOf (LeafHead (leafAs negate (CompareLeaf (interpretationOf unknown) op l r))))
@@ -47,10 +45,7 @@ mark-bytes true m l = refl
 
 leaf-written : {kinds records kinds′ records′ : List ℕ} {k : ℕ} {x : LeafNumbers} (y : Leaf) → LeafWritten kinds records kinds′ records′ k x
     → x .kind ≡ kindNumber (kindOf (LeafHead y))
-    → 0 ∷ x .comparison
-    ∷ (x .«left_tag» ∷ bytes32 (byteNumber (x .«left_tag») (x .«left_number»)))
-    ++ (x .«right_tag» ∷ bytes32 (byteNumber (x .«right_tag») (x .«right_number»)))
-    ≡ fieldBytes (LeafHead y)
+    → 0 ∷ x .comparison ∷ heldBytes (x .left) ++ heldBytes (x .right) ≡ fieldBytes (LeafHead y)
     → Wrote k (LeafEntry y) kinds records kinds′ records′ (k + 1)
 unfolding entries kindBytes recordsFrom
 leaf-written {kinds} {records} {kinds′} {records′} {k} {x} y w p q = record {
@@ -63,14 +58,7 @@ module _ {p : List ℕ} {s : ℕ} {kinds records : List ℕ} {k : ℕ} where
   -- a comparison
   module _ (h : CompareReady p s kinds records k) (negate unknown : Bool) (kind op : ℕ) (is-kind : kind ≡ compareKindAs negate unknown) (is-op : ComparedAs negate (getD p (partSize * s + partComparison) 0) op) where
     abbrev pub compareNumbers : LeafNumbers
-    compareNumbers = record {
-      kind = kind;
-      comparison = op;
-      «left_tag» = getD p (partSize * s + partLeftTag) 0;
-      «left_number» = getD p (partSize * s + partLeftNumber) 0;
-      «right_tag» = getD p (partSize * s + partRightTag) 0;
-      «right_number» = getD p (partSize * s + partRightNumber) 0;
-    }
+    compareNumbers = record { kind = kind; comparison = op; left = heldAt p (partSize * s + partLeft); right = heldAt p (partSize * s + partRight) }
 
     op-is : op ≡ comparisonNumber (comparisonAs negate (h .comparison))
     op-is = is-op (h .comparison) (h .comparison-is)
@@ -86,10 +74,8 @@ module _ {p : List ℕ} {s : ℕ} {kinds records : List ℕ} {k : ℕ} where
           room = omega arith;
           kind-small = omega (arith, is-kind, compare-kind-small negate unknown);
           comparison-small = omega (arith, op-is, comparison-small (comparisonAs negate (h .comparison)));
-          left-tag-small = s .left-tag;
-          left-small = s .left-number .whole;
-          right-tag-small = s .right-tag;
-          right-small = s .right-number .whole;
+          left-small = s .left .bytes;
+          right-small = s .right .bytes;
         }
 
     pub compare-written : {kinds′ records′ : List ℕ} → LeafWritten kinds records kinds′ records′ k compareNumbers
@@ -97,21 +83,13 @@ module _ {p : List ℕ} {s : ℕ} {kinds records : List ℕ} {k : ℕ} where
     compare-written w =
         leaf-written _ w
         (is-kind ∙ compare-kind-is negate unknown (h .comparison) (h .left) (h .right))
-        (ap₂ (λ (n : ℕ) (v : List ℕ). 0 ∷ n ∷ v) op-is
-        (ap₂ _++_ (value-at p (partSize * s + partLeftTag) (partSize * s + partLeftNumber) (omega arith) ∙ h .left-is) (value-at p (partSize * s + partRightTag) (partSize * s + partRightNumber) (omega arith) ∙ h .right-is))
+        (ap₂ (λ (n : ℕ) (v : List ℕ). 0 ∷ n ∷ v) op-is (ap₂ _++_ (h .left-is) (h .right-is))
         ∙ compare-bytes negate (interpretationOf unknown) (h .comparison) (h .left) (h .right))
 
   -- a test by the mark
   module _ (h : MarkReady p s kinds records k) (negate : Bool) (kind : ℕ) (is-kind : MarkedAs negate (getD p (partSize * s) 0) kind) where
     abbrev pub markNumbers : LeafNumbers
-    markNumbers = record {
-      kind = kind;
-      comparison = 0;
-      «left_tag» = getD p (partSize * s + partLeftTag) 0;
-      «left_number» = getD p (partSize * s + partLeftNumber) 0;
-      «right_tag» = 0;
-      «right_number» = 0;
-    }
+    markNumbers = record { kind = kind; comparison = 0; left = heldAt p (partSize * s + partLeft); right = unusedHeld }
 
     kind-told : kind ≡ markKind (markAs negate (h .mark))
     kind-told = is-kind (h .mark) (h .kind-is)
@@ -127,10 +105,8 @@ module _ {p : List ℕ} {s : ℕ} {kinds records : List ℕ} {k : ℕ} where
           room = omega arith;
           kind-small = omega (arith, kind-told, mark-small (markAs negate (h .mark)));
           comparison-small = omega arith;
-          left-tag-small = s .left-tag;
-          left-small = s .left-number .whole;
-          right-tag-small = omega arith;
-          right-small = omega arith;
+          left-small = s .left .bytes;
+          right-small = unused-small refl;
         }
 
     pub mark-written : {kinds′ records′ : List ℕ} → LeafWritten kinds records kinds′ records′ k markNumbers
@@ -138,5 +114,5 @@ module _ {p : List ℕ} {s : ℕ} {kinds records : List ℕ} {k : ℕ} where
     mark-written w =
         leaf-written _ w
         (kind-told ∙ mark-kind-is negate (h .mark) (h .left))
-        (ap (λ (v : List ℕ). 0 ∷ 0 ∷ v ++ valueBytes unusedValue) (value-at p (partSize * s + partLeftTag) (partSize * s + partLeftNumber) (omega arith) ∙ h .left-is)
+        (ap (λ (v : List ℕ). 0 ∷ 0 ∷ v ++ valueBytes unusedValue) (h .left-is)
         ∙ mark-bytes negate (h .mark) (h .left))

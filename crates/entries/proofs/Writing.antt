@@ -23,13 +23,15 @@ use Rattle.rule.specs.Parts.{joinKind, unaryKind, compareKind, existsKind, list
 use Rattle.rule.specs.Groups.{JoinNumber, UnaryNumber, MarkNumber, ListNumber, UnknownNumber}
 use Rattle.rule.proofs.Fits.{within-length}
 use Rattle.rule.proofs.Groups.{mark-number, list-number}
-use Rattle.names.specs.Code.{partSize, partTable, partEnd, partLeftTag, partLeftNumber, partRightTag, partRightNumber}
+use Rattle.names.specs.Code.{partSize, partTable, partEnd}
 use Rattle.translation.proofs.Demand3.{some-entries}
+use Rattle.values.specs.declared.HeldValue.{HeldValue}
+use Rattle.scopes.specs.Code.{heldOf}
 use Rattle.parts.specs.Parts.{Stands, SmallPart}
-use Rattle.parts.proofs.Parts.{heldNumber, parts-low, part-comparison, part-table, part-left-tag, part-left-number, part-right-tag, part-right-number, IsJoin, IsUnary, IsCompare, IsMark, IsExists, IsListed, is-join, is-unary, is-compare, is-mark, is-exists, is-listed}
-use Rattle.records.specs.Code.{byteNumber, plainRecord, connectiveAs, JoinedAs, rowKindAs}
+use Rattle.parts.proofs.Parts.{parts-low, part-comparison, part-table, part-left, part-right, IsJoin, IsUnary, IsCompare, IsMark, IsExists, IsListed, is-join, is-unary, is-compare, is-mark, is-exists, is-listed}
+use Rattle.records.specs.Code.{heldBytes, plainRecord, connectiveAs, JoinedAs, rowKindAs}
 use Rattle.records.proofs.Flags.{row-small}
-use Rattle.entries.specs.Code.{interpretationOf, leafAs, cardAs, Room, Wrote, valueBytesIn, CompareReady, ComparedTo, MarkReady, MarkedTo, Writable, WroteTo, StandsUnder}
+use Rattle.entries.specs.Code.{interpretationOf, leafAs, cardAs, Room, Wrote, CompareReady, ComparedTo, MarkReady, MarkedTo, Writable, WroteTo, StandsUnder}
 use Rattle.entries.proofs.Cards.{quantifierOf, listConnective, everyRow, rows-are, card-atom, card-not, unknownAs, card-is-unknown, card-is-not-unknown, card-join, card-exists, card-listed, list-kind-is, row-kind-is}
 use Rattle.entries.proofs.Spread.{Plain, room-less, room-plain, room-wrote, plain-asked, end-asked, row-written, pair-written}
 
@@ -40,17 +42,13 @@ excess-bits : (k : ℤ) → T (inRange k) → excess (toExcess k) ≡ bits k
 excess-bits (pos n) h = omega (arith, ltb→lt n 2147483648 h)
 excess-bits (negsuc n) h = omega (arith, ltb→lt n 2147483648 h)
 
-value-numbers : (columns levels : List ℕ) (v : Value) → length levels ≤ 4 → ValueFits columns levels v
-    → taggedOf v .tag ∷ bytes32 (byteNumber (taggedOf v .tag) (heldNumber (taggedOf v))) ≡ valueBytes v
-value-numbers columns levels (Constant k) few f = ap (λ (n : ℕ). constantTag ∷ bytes32 n) (excess-bits k f)
-value-numbers columns levels (Column l c) few f = let level = f .0 in rw (ne-eqb l constantTag (λ e. omega arith))
+value-bytes : (columns levels : List ℕ) (v : Value) → length levels ≤ 4 → ValueFits columns levels v → heldBytes (heldOf (taggedOf v)) ≡ valueBytes v
+value-bytes columns levels (Constant k) few f = ap (λ (n : ℕ). constantTag ∷ bytes32 n) (excess-bits k f)
+value-bytes columns levels (Column l c) few f = let level = f .0 in rw (ne-eqb l constantTag (λ e. omega arith))
 
-value-in : (p : List ℕ) (i j : ℕ) (columns levels : List ℕ) (v : Value) → length levels ≤ 4 → ValueFits columns levels v → j ≡ i + 1
-    → getD p i 0 ≡ taggedOf v .tag → getD p j 0 ≡ heldNumber (taggedOf v) → valueBytesIn p i ≡ valueBytes v
-value-in p i j columns levels v few f e tag number =
-    ap (λ (k : ℕ). getD p i 0 ∷ bytes32 (byteNumber (getD p i 0) (getD p k 0))) (sym e)
-    ∙ ap₂ (λ (t n : ℕ). t ∷ bytes32 (byteNumber t n)) tag number
-    ∙ value-numbers columns levels v few f
+value-in : (columns levels : List ℕ) (v : Value) → length levels ≤ 4 → ValueFits columns levels v → {u : HeldValue} → u ≡ heldOf (taggedOf v)
+    → heldBytes u ≡ valueBytes v
+value-in columns levels v few f e = ap heldBytes e ∙ value-bytes columns levels v few f
 
 -- ---- a part
 
@@ -149,8 +147,8 @@ module _ {p : List ℕ} {s : ℕ} {negate unknown : Bool} {kinds records : List 
           left = x .left;
           right = x .right;
           comparison-is = part-comparison (x .here);
-          left-is = value-in p (partSize * s + partLeftTag) (partSize * s + partLeftNumber) (h .columns) (h .levels) (x .left) levels-few (f .0) (omega arith) (part-left-tag (x .here)) (part-left-number (x .here));
-          right-is = value-in p (partSize * s + partRightTag) (partSize * s + partRightNumber) (h .columns) (h .levels) (x .right) levels-few (f .1) (omega arith) (part-right-tag (x .here)) (part-right-number (x .here));
+          left-is = value-in (h .columns) (h .levels) (x .left) levels-few (f .0) (part-left (x .here));
+          right-is = value-in (h .columns) (h .levels) (x .right) levels-few (f .1) (part-right (x .here));
         }
 
     pub compare-wrote : {kinds′ records′ : List ℕ} {r : ℕ} → ComparedTo p s negate unknown kinds records kinds′ records′ k r → Wrote k card kinds records kinds′ records′ r
@@ -177,7 +175,7 @@ module _ {p : List ℕ} {s : ℕ} {negate unknown : Bool} {kinds records : List 
           mark = kind .0;
           left = x .left;
           kind-is = kind .1;
-          left-is = value-in p (partSize * s + partLeftTag) (partSize * s + partLeftNumber) (h .columns) (h .levels) (x .left) levels-few f (omega arith) (part-left-tag (x .here)) (part-left-number (x .here));
+          left-is = value-in (h .columns) (h .levels) (x .left) levels-few f (part-left (x .here));
         }
 
     pub mark-wrote : {kinds′ records′ : List ℕ} {r : ℕ} → MarkedTo p s negate kinds records kinds′ records′ k r → Wrote k card kinds records kinds′ records′ r
@@ -555,11 +553,9 @@ module _ {p : List ℕ} {s : ℕ} {negate unknown : Bool} {kinds records : List 
             left = x .left;
             right = x .selected;
             comparison-is = part-comparison (x .here);
-            left-is = value-in p (partSize * s + partLeftTag) (partSize * s + partLeftNumber) (h .columns) (h .levels) (x .left) levels-few (list-fits .0) (omega arith) (part-left-tag (x .here)) (part-left-number (x .here));
+            left-is = value-in (h .columns) (h .levels) (x .left) levels-few (list-fits .0) (part-left (x .here));
             right-is =
-                value-in p (partSize * s + partRightTag) (partSize * s + partRightNumber) (h .columns) innerLevels (x .selected) (omega (arith, inner-levels)) (list-fits .1) (omega arith)
-                (part-right-tag (x .here))
-                (part-right-number (x .here));
+                value-in (h .columns) innerLevels (x .selected) (omega (arith, inner-levels)) (list-fits .1) (part-right (x .here));
           }
 
           module _ {kinds4 records4 : List ℕ} {r : ℕ} (v : ComparedTo p s negate unknown kinds3 records3 kinds4 records4 last r) where

@@ -2,21 +2,21 @@
 -- contract of a public call cites nothing of this file.
 use mathlib.Core.Path.{_≡_}
 use mathlib.Core.Bool.{Bool, true, false}
-use mathlib.Core.List.{List, _∷_}
+use mathlib.Core.List.{List}
 use Prim.Native.Nat.{ℕ, _+_, _*_, _<_, _≤_}
 use lib.ListN.{length, getD}
 use Rattle.tables.specs.Lists.{placed}
-use Rattle.tables.specs.Bytes.{bytes32}
 use Rattle.tables.specs.Values.{mostLevels, mostEntries, Value, Comparison, comparisonNumber, MarkTest}
 use Rattle.card.specs.Card.{Interpretation, AsNo, AsYes, Leaf, CompareLeaf, MarkLeaf, Card, LeafEntry, entries}
 use Rattle.card.specs.Layout.{recordSize, valueBytes, kindBytes, recordsFrom}
 use Rattle.rule.specs.Condition.{Rule, parts, fromsDeep}
 use Rattle.rule.specs.Names.{mostParts, Fits}
 use Rattle.rule.specs.Parts.{markKind}
-use Rattle.names.specs.Code.{partSize, partsSize, partComparison, partLeftTag, partRightTag}
+use Rattle.names.specs.Code.{partSize, partsSize, partComparison, partLeft, partRight}
 use Rattle.translation.specs.Translation.{otherLeaf, negated, cardOf}
 use Rattle.parts.specs.Parts.{Stands, SmallPart, SmallParts}
-use Rattle.records.specs.Code.{byteNumber}
+use Rattle.values.specs.Code.{heldAt}
+use Rattle.records.specs.Code.{heldBytes}
 use Rattle.entries.specs.declared.Under.{Under}
 
 -- ---- the card of a rule: false- or true-interpreted, and negated or not
@@ -47,10 +47,6 @@ pub record Wrote (k : ℕ) (c : Card) (kinds records kinds′ records′ : List 
   pub kinds-are : kinds′ ≡ placed kinds k (kindBytes c)
   pub records-are : records′ ≡ placed records (recordSize * k) (recordsFrom k c)
 
--- the value of two numbers of a part, from number i on, as a card has it
-abbrev pub valueBytesIn : List ℕ → ℕ → List ℕ
-valueBytesIn p i = getD p i 0 ∷ bytes32 (byteNumber (getD p i 0) (getD p (i + 1) 0))
-
 -- part s has a comparison and two values: it is a comparison, or a list
 pub record CompareReady (p : List ℕ) (s : ℕ) (kinds records : List ℕ) (k : ℕ) : Type 0 where
   pub size : length p ≡ partsSize
@@ -61,8 +57,8 @@ pub record CompareReady (p : List ℕ) (s : ℕ) (kinds records : List ℕ) (k :
   pub left : Value
   pub right : Value
   pub comparison-is : getD p (partSize * s + partComparison) 0 ≡ comparisonNumber comparison
-  pub left-is : valueBytesIn p (partSize * s + partLeftTag) ≡ valueBytes left
-  pub right-is : valueBytesIn p (partSize * s + partRightTag) ≡ valueBytes right
+  pub left-is : heldBytes (heldAt p (partSize * s + partLeft)) ≡ valueBytes left
+  pub right-is : heldBytes (heldAt p (partSize * s + partRight)) ≡ valueBytes right
 
 abbrev pub ComparedTo : (p : List ℕ) (s : ℕ) (negate unknown : Bool) (kinds records kinds′ records′ : List ℕ) (k : ℕ) → ℕ → Type 0
 ComparedTo p s negate unknown kinds records kinds′ records′ k r =
@@ -78,7 +74,7 @@ pub record MarkReady (p : List ℕ) (s : ℕ) (kinds records : List ℕ) (k : �
   pub mark : MarkTest
   pub left : Value
   pub kind-is : getD p (partSize * s) 0 ≡ markKind mark
-  pub left-is : valueBytesIn p (partSize * s + partLeftTag) ≡ valueBytes left
+  pub left-is : heldBytes (heldAt p (partSize * s + partLeft)) ≡ valueBytes left
 
 abbrev pub MarkedTo : (p : List ℕ) (s : ℕ) (negate : Bool) (kinds records kinds′ records′ : List ℕ) (k : ℕ) → ℕ → Type 0
 MarkedTo p s negate kinds records kinds′ records′ k r =

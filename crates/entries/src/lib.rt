@@ -6,7 +6,7 @@ ghost use mathlib.Core.Path.{_≡_};
 ghost use mathlib.Core.Bool.{Bool};
 ghost use Prim.Native.Nat.{_+_, _*_, _<_, _≤_};
 ghost use lib.ListN.{length, getD};
-ghost use Rattle.rule.specs.Truth.{False, Unknown, True};
+ghost use Rattle.rule.specs.Truth.{False, True};
 ghost use Rattle.rule.specs.Condition.{Is, IsNot};
 ghost use Rattle.rule.specs.Names.{mostParts};
 ghost use Rattle.rule.specs.Parts.{unaryKind, existsKind};
@@ -18,12 +18,11 @@ use grammar::MOST_PARTS;
 use names::PART_COMPARISON;
 use names::PART_END;
 use names::PART_FIELDS;
-use names::PART_LEFT_NUMBER;
-use names::PART_LEFT_TAG;
+use names::PART_LEFT;
 use names::PART_NUMBERS;
-use names::PART_RIGHT_NUMBER;
-use names::PART_RIGHT_TAG;
+use names::PART_RIGHT;
 use names::PART_TABLE;
+use parts::part_value;
 use records::LeafNumbers;
 use rule::ALL_PART;
 use rule::AND_PART;
@@ -41,6 +40,7 @@ use rule::NULL_PART;
 use rule::OR_PART;
 use rule::SOME_PART;
 use tables::MOST_ENTRIES;
+use values::unused_held;
 
 // Number i of part s.
 fn field(p: &[usize; PART_NUMBERS], s: usize, i: usize) -> usize
@@ -66,10 +66,8 @@ fn write_comparison(
     let leaf = LeafNumbers {
         kind: records::compare_kind(negate, unknown),
         comparison: records::comparison_as(field(p, s, PART_COMPARISON), negate),
-        left_tag: field(p, s, PART_LEFT_TAG),
-        left_number: field(p, s, PART_LEFT_NUMBER),
-        right_tag: field(p, s, PART_RIGHT_TAG),
-        right_number: field(p, s, PART_RIGHT_NUMBER),
+        left: part_value(p, s, PART_LEFT),
+        right: part_value(p, s, PART_RIGHT),
     };
     records::put_leaf(kinds, records, k, leaf);
     k + 1
@@ -90,10 +88,8 @@ fn write_mark(
     let leaf = LeafNumbers {
         kind: records::mark_kind(p[PART_FIELDS * s], negate),
         comparison: 0,
-        left_tag: field(p, s, PART_LEFT_TAG),
-        left_number: field(p, s, PART_LEFT_NUMBER),
-        right_tag: 0,
-        right_number: 0,
+        left: part_value(p, s, PART_LEFT),
+        right: unused_held(),
     };
     records::put_leaf(kinds, records, k, leaf);
     k + 1
@@ -230,7 +226,7 @@ fn write_pair(
     records::put_plain(kinds, records, k, kind, 0);
     let middle = write_part(p, s + 1, negate, unknown, kinds, records, k + 1);
     let end = write_part(p, next, negate, unknown, kinds, records, middle);
-    records::put16(records, RECORD_SIZE * k, end);
+    storing::put16(records, RECORD_SIZE * k, end);
     end
 }
 
@@ -252,7 +248,7 @@ fn write_unknown(
     records::put_plain(kinds, records, k, records::pair_kind(AND_PART, known), 0);
     let middle = write_part(p, s + 1, !known, false, kinds, records, k + 1);
     let end = write_part(p, s + 1, known, true, kinds, records, middle);
-    records::put16(records, RECORD_SIZE * k, end);
+    storing::put16(records, RECORD_SIZE * k, end);
     end
 }
 
@@ -273,7 +269,7 @@ fn write_exists(
     let table = field(p, s, PART_TABLE);
     records::put_plain(kinds, records, k, kind, table);
     let end = write_part(p, s + 1, negate, false, kinds, records, k + 1);
-    records::put16(records, RECORD_SIZE * k, end);
+    storing::put16(records, RECORD_SIZE * k, end);
     end
 }
 
@@ -303,7 +299,7 @@ fn write_list(
     );
     let last = write_part(p, s + 1, every, false, kinds, records, k + 2);
     let end = write_comparison(p, s, negate, unknown, kinds, records, last);
-    records::put16(records, RECORD_SIZE * (k + 1), end);
-    records::put16(records, RECORD_SIZE * k, end);
+    storing::put16(records, RECORD_SIZE * (k + 1), end);
+    storing::put16(records, RECORD_SIZE * k, end);
     end
 }

@@ -14,7 +14,7 @@ use Rattle.tables.proofs.Tabulated.{tabulate-map}
 use Rattle.cells.specs.Code.{seenCell, placeIn}
 use Rattle.cells.specs.declared.Seen.{Seen}
 use Rattle.cells.specs.declared.Place.{Place}
-use Rattle.values.specs.Code.{rowFrom, Readable, ValueReady, Sees}
+use Rattle.values.specs.Code.{heldAt, rowFrom, Readable, ValueReady, Sees}
 use Rattle.values.proofs.Rows.{TableAt}
 use Rattle.values.proofs.Ranging.{NextRow, next-none, next-more, table-bounds, table-here, row-deep, row-room as room-at, row-readable}
 use Rattle.rule.specs.Condition.{Not, From, Single, Atom, Join, Apply, Exists, Listed, Rule, parts, fromsDeep}
@@ -23,11 +23,11 @@ use Rattle.rule.specs.Truth.{Truth, False, True, truth, isTrue, truthNumber}
 use Rattle.rule.specs.Meaning.{compare3, over3, meaning}
 use Rattle.rule.specs.Parts.{joinKind, unaryKind, markKind, existsKind, listKind, tableOf}
 use Rattle.rule.specs.Groups.{UnaryNumber, TestNumber}
-use Rattle.names.specs.Code.{partSize, partComparison, partTable, partEnd, partLeftTag, partLeftNumber, partRightTag, partRightNumber}
+use Rattle.names.specs.Code.{partSize, partComparison, partTable, partEnd, partLeft, partRight}
 use Rattle.parts.specs.Parts.{Stands}
 use Rattle.rule.proofs.Parts.{from-back}
 use Rattle.rule.proofs.Groups.{truth-number, test-number}
-use Rattle.parts.proofs.Parts.{parts-low, kind-low, kind-high, part-comparison, part-table, part-left-tag, part-left-number, part-right-tag, part-right-number, IsTest, IsJoin, IsUnary, IsExists, IsListed, is-test, is-join, is-unary, is-exists, is-listed}
+use Rattle.parts.proofs.Parts.{parts-low, kind-low, kind-high, part-comparison, part-table, part-left, part-right, IsTest, IsJoin, IsUnary, IsExists, IsListed, is-test, is-join, is-unary, is-exists, is-listed}
 use Rattle.evaluator.specs.Code.{decidedBy, taken, Decides, UnaryValued, unlessUnknown, emptyTruth, emptyOver, OverNone, TestReady, TestEvaluated, Evaluable, Evaluates, RowReady, RowEvaluated}
 use Rattle.evaluator.proofs.Truths.{rank-high, join-rank, left-stop, is-kept, not-kept, overRows, over-none, over-more, over-stop, over-on, none-open, more-open, quantifierOf, kind-is, none-is, none-decides}
 use Rattle.evaluator.proofs.Rows.{exists-rows, listed-rows}
@@ -447,8 +447,8 @@ module _ {p g file w : List ℕ} {s depth : ℕ} (h : Evaluable p g file w s dep
     unfolding Fits
     selected-fits = fits-as listed-is .2
 
-    pub outer-ready : ValueReady g file w (getD p (partSize * s + partLeftTag) 0) (getD p (partSize * s + partLeftNumber) 0)
-    outer-ready = value-ready (h .readable) (listed-here .left) outer-fits (part-left-tag (listed-here .here)) (part-left-number (listed-here .here))
+    pub outer-ready : ValueReady g file w (heldAt p (partSize * s + partLeft))
+    outer-ready = value-ready (h .readable) (listed-here .left) outer-fits (part-left (listed-here .here))
 
     abbrev kept : Row → Bool
     kept row = isTrue (meaning (tablesOf file) (h .env ▸ row) (listed-here .inner))
@@ -480,10 +480,10 @@ module _ {p g file w : List ℕ} {s depth : ℕ} (h : Evaluable p g file w s dep
               selected-fits = selected-fits;
             }
 
-        module _ (sees : Sees g file w (getD p (partSize * s + partLeftTag) 0) (getD p (partSize * s + partLeftNumber) 0) x) (row : ℕ)
+        module _ (sees : Sees g file w (heldAt p (partSize * s + partLeft)) x) (row : ℕ)
             (evaluated : RowEvaluated p g file (set v depth first) s (depth + 1) empty x row) where
           outer-seen : seenCell x ≡ cellOf (h .env) (listed-here .left)
-          outer-seen = value-seen (h .readable) (listed-here .left) outer-fits (part-left-tag (listed-here .here)) (part-left-number (listed-here .here)) x sees
+          outer-seen = value-seen (h .readable) (listed-here .left) outer-fits (part-left (listed-here .here)) x sees
 
           pub row-valued : row ≡ truthNumber (rowValue file (h .env) (h .rule) (rowFrom file first (at .columns)))
           unfolding row-ready row-inner listed-ranging rowValue
@@ -506,8 +506,8 @@ module _ {p g file v : List ℕ} {s depth empty : ℕ} {x : Seen} (h : RowReady 
   pub row-start : s + 1 < mostParts
   row-start = start (h .inner)
 
-  pub selected-ready : ValueReady g file v (getD p (partSize * s + partRightTag) 0) (getD p (partSize * s + partRightNumber) 0)
-  selected-ready = value-ready (h .inner .readable) (h .selected) (h .selected-fits) (part-right-tag (h .here)) (part-right-number (h .here))
+  pub selected-ready : ValueReady g file v (heldAt p (partSize * s + partRight))
+  selected-ready = value-ready (h .inner .readable) (h .selected) (h .selected-fits) (part-right (h .here))
 
   abbrev innerValue : Truth
   innerValue = meaning (tablesOf file) (h .inner .env) (h .inner .rule)
@@ -516,12 +516,12 @@ module _ {p g file v : List ℕ} {s depth empty : ℕ} {x : Seen} (h : RowReady 
     pub row-lost : (kept ≡ truthNumber True → ⊥) → empty ≡ cond (isTrue innerValue) (truthNumber (compare3 (h .comparison) (seenCell x) (cellOf (h .inner .env) (h .selected)))) empty
     row-lost f = rw (not-kept innerValue (λ e. f (evaluated (h .inner) ∙ e)))
 
-    pub row-compared : kept ≡ truthNumber True → (y : Seen) → Sees g file v (getD p (partSize * s + partRightTag) 0) (getD p (partSize * s + partRightNumber) 0) y
+    pub row-compared : kept ≡ truthNumber True → (y : Seen) → Sees g file v (heldAt p (partSize * s + partRight)) y
         → (r : ℕ) → r ≡ truthNumber (compare3 (comparisonOf (getD p (partSize * s + partComparison) 0)) (seenCell x) (seenCell y))
         → r ≡ cond (isTrue innerValue) (truthNumber (compare3 (h .comparison) (seenCell x) (cellOf (h .inner .env) (h .selected)))) empty
     row-compared e y sees r is =
         let op : comparisonOf (getD p (partSize * s + partComparison) 0) ≡ h .comparison = ap comparisonOf (part-comparison (h .here)) ∙ comparison-back (h .comparison) in
         let right =
-        value-seen (h .inner .readable) (h .selected) (h .selected-fits) (part-right-tag (h .here)) (part-right-number (h .here)) y sees in
+        value-seen (h .inner .readable) (h .selected) (h .selected-fits) (part-right (h .here)) y sees in
         rw (is-kept innerValue (sym (evaluated (h .inner)) ∙ e))
         (is ∙ ap₂ (λ o c. truthNumber (compare3 o (seenCell x) c)) op right)

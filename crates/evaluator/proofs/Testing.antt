@@ -12,41 +12,42 @@ use Rattle.tables.specs.Values.{mostLevels, constantTag, Value, Constant, Colum
 use Rattle.tables.proofs.Values.{comparison-back}
 use Rattle.cells.specs.Code.{seenCell}
 use Rattle.cells.specs.declared.Seen.{Seen}
-use Rattle.values.specs.Code.{valueIn, Readable, ValueReady, Sees}
+use Rattle.values.specs.declared.HeldValue.{HeldValue}
+use Rattle.values.specs.Code.{heldAt, valueIn, Readable, ValueReady, Sees}
 use Rattle.rule.specs.Condition.{Test, Compare, Mark, Atom, Rule}
 use Rattle.rule.specs.Names.{ValueFits, TestFits}
 use Rattle.rule.specs.Parts.{compareKind, markKind, kindNumber, kindOf, taggedOf, AtomHead, partOf}
 use Rattle.rule.specs.Groups.{TestNumber}
-use Rattle.names.specs.Code.{partSize, partComparison, partLeftTag, partLeftNumber, partRightTag, partRightNumber}
+use Rattle.names.specs.Code.{partSize, partComparison, partLeft, partRight}
 use Rattle.rule.specs.Truth.{truth, truthNumber}
 use Rattle.rule.specs.Meaning.{compare3, test3}
+use Rattle.scopes.specs.Code.{heldOf}
 use Rattle.parts.specs.Parts.{Stands}
 use Rattle.rule.proofs.Fits.{value-tested}
 use Rattle.cells.proofs.Signed.{from-to}
-use Rattle.parts.proofs.Parts.{heldNumber, kind-stands, IsCompare, is-compare, is-mark, part-comparison, part-left-tag, part-left-number, part-right-tag, part-right-number}
+use Rattle.parts.proofs.Parts.{kind-stands, IsCompare, is-compare, is-mark, part-comparison, part-left, part-right}
 use Rattle.evaluator.specs.Code.{TestReady}
 
 -- ---- a value
 
--- it is had back from the two numbers of a part
-pub value-held : (columns levels : List ℕ) (v : Value) → length levels ≤ mostLevels → ValueFits columns levels v
-    → valueIn (taggedOf v .tag) (heldNumber (taggedOf v)) ≡ v
+-- it is had back from what a part holds
+pub value-held : (columns levels : List ℕ) (v : Value) → length levels ≤ mostLevels → ValueFits columns levels v → valueIn (heldOf (taggedOf v)) ≡ v
 unfolding valueIn
 value-held columns levels (Constant k) few f = ap Constant (from-to k f)
 value-held columns levels (Column l c) few f = let h = f .0 in rw (ne-eqb l constantTag (λ e. omega arith))
 
 module _ {g file w levels : List ℕ} {env : Env} (readable : Readable g file w levels env) (v : Value) (fits : ValueFits (columnsOf file) levels v)
-    {tag n : ℕ} (tag-is : tag ≡ taggedOf v .tag) (number-is : n ≡ heldNumber (taggedOf v)) where
-  value-is : valueIn tag n ≡ v
-  value-is = ap₂ valueIn tag-is number-is ∙ value-held (columnsOf file) levels v (readable .standing .few) fits
+    {u : HeldValue} (held : u ≡ heldOf (taggedOf v)) where
+  value-is : valueIn u ≡ v
+  value-is = ap valueIn held ∙ value-held (columnsOf file) levels v (readable .standing .few) fits
 
-  tested : T (valueFits (columnsOf file) levels (valueIn tag n))
-  tested = subst (λ u. T (valueFits (columnsOf file) levels u)) (sym value-is) (value-tested (columnsOf file) levels v fits)
+  tested : T (valueFits (columnsOf file) levels (valueIn u))
+  tested = subst (λ x. T (valueFits (columnsOf file) levels x)) (sym value-is) (value-tested (columnsOf file) levels v fits)
 
-  pub value-ready : ValueReady g file w tag n
+  pub value-ready : ValueReady g file w u
   value-ready = record { levels = levels; env = env; readable = readable; fits = tested }
 
-  pub value-seen : (x : Seen) → Sees g file w tag n x → seenCell x ≡ cellOf env v
+  pub value-seen : (x : Seen) → Sees g file w u x → seenCell x ≡ cellOf env v
   unfolding value-ready
   value-seen x sees = sees value-ready ∙ ap (cellOf env) value-is
 
@@ -76,21 +77,18 @@ module _ {p g file w : List ℕ} {s : ℕ} (h : TestReady p g file w s) where
   test-as : {t : Test Value} → _≡_ {A = Rule} (Atom (h .test)) (Atom t) → h .test ≡ t
   test-as e = cc
 
-  left-tag : getD p (partSize * s + partLeftTag) 0 ≡ taggedOf (leftOf (h .test)) .tag
-  left-tag = part-left-tag (h .here) ∙ ap (λ v. v .tag) (left-of-part (s + 1) (h .test))
-
-  left-number : getD p (partSize * s + partLeftNumber) 0 ≡ heldNumber (taggedOf (leftOf (h .test)))
-  left-number = part-left-number (h .here) ∙ ap heldNumber (left-of-part (s + 1) (h .test))
+  left-held : heldAt p (partSize * s + partLeft) ≡ heldOf (taggedOf (leftOf (h .test)))
+  left-held = part-left (h .here) ∙ ap heldOf (left-of-part (s + 1) (h .test))
 
   left-fits : ValueFits (columnsOf file) (h .levels) (leftOf (h .test))
   left-fits = left-of-fits (columnsOf file) (h .levels) (h .test) (h .fits)
 
-  pub left-ready : ValueReady g file w (getD p (partSize * s + partLeftTag) 0) (getD p (partSize * s + partLeftNumber) 0)
-  left-ready = value-ready (h .readable) (leftOf (h .test)) left-fits left-tag left-number
+  pub left-ready : ValueReady g file w (heldAt p (partSize * s + partLeft))
+  left-ready = value-ready (h .readable) (leftOf (h .test)) left-fits left-held
 
-  module _ (x : Seen) (sees : Sees g file w (getD p (partSize * s + partLeftTag) 0) (getD p (partSize * s + partLeftNumber) 0) x) where
+  module _ (x : Seen) (sees : Sees g file w (heldAt p (partSize * s + partLeft)) x) where
     left-seen : seenCell x ≡ cellOf (h .env) (leftOf (h .test))
-    left-seen = value-seen (h .readable) (leftOf (h .test)) left-fits left-tag left-number x sees
+    left-seen = value-seen (h .readable) (leftOf (h .test)) left-fits left-held x sees
 
     pub mark-evaluated : (m : MarkTest) → kindHere ≡ markKind m → (r : ℕ) → r ≡ truthNumber (truth (markPasses m (seenCell x))) → r ≡ truthNumber (test3 (h .env) (h .test))
     mark-evaluated m k r is =
@@ -114,14 +112,14 @@ module _ {p g file w : List ℕ} {s : ℕ} (h : TestReady p g file w s) where
     right-fits : ValueFits (columnsOf file) (h .levels) (comparison .right)
     right-fits = subst (TestFits (columnsOf file) (h .levels)) test-is (h .fits) .1
 
-    pub right-ready : ValueReady g file w (getD p (partSize * s + partRightTag) 0) (getD p (partSize * s + partRightNumber) 0)
-    right-ready = value-ready (h .readable) (comparison .right) right-fits (part-right-tag (comparison .here)) (part-right-number (comparison .here))
+    pub right-ready : ValueReady g file w (heldAt p (partSize * s + partRight))
+    right-ready = value-ready (h .readable) (comparison .right) right-fits (part-right (comparison .here))
 
-    pub compare-evaluated : (x y : Seen) → Sees g file w (getD p (partSize * s + partLeftTag) 0) (getD p (partSize * s + partLeftNumber) 0) x
-        → Sees g file w (getD p (partSize * s + partRightTag) 0) (getD p (partSize * s + partRightNumber) 0) y
+    pub compare-evaluated : (x y : Seen) → Sees g file w (heldAt p (partSize * s + partLeft)) x
+        → Sees g file w (heldAt p (partSize * s + partRight)) y
         → (r : ℕ) → r ≡ truthNumber (compare3 (comparisonOf (getD p (partSize * s + partComparison) 0)) (seenCell x) (seenCell y)) → r ≡ truthNumber (test3 (h .env) (h .test))
     compare-evaluated x y sees-x sees-y r is =
         let left : seenCell x ≡ cellOf (h .env) (comparison .left) = left-seen x sees-x ∙ ap (λ t. cellOf (h .env) (leftOf t)) test-is in
-        let right = value-seen (h .readable) (comparison .right) right-fits (part-right-tag (comparison .here)) (part-right-number (comparison .here)) y sees-y in
+        let right = value-seen (h .readable) (comparison .right) right-fits (part-right (comparison .here)) y sees-y in
         let op : comparisonOf (getD p (partSize * s + partComparison) 0) ≡ comparison .op = ap comparisonOf (part-comparison (comparison .here)) ∙ comparison-back (comparison .op) in
         is ∙ ap truthNumber (ap (λ o. compare3 o (seenCell x) (seenCell y)) op ∙ ap₂ (compare3 (comparison .op)) left right ∙ sym (ap (test3 (h .env)) test-is))

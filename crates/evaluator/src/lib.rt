@@ -18,12 +18,11 @@ use cells::Seen;
 use names::PART_COMPARISON;
 use names::PART_END;
 use names::PART_FIELDS;
-use names::PART_LEFT_NUMBER;
-use names::PART_LEFT_TAG;
+use names::PART_LEFT;
 use names::PART_NUMBERS;
-use names::PART_RIGHT_NUMBER;
-use names::PART_RIGHT_TAG;
+use names::PART_RIGHT;
 use names::PART_TABLE;
+use parts::part_value;
 use rule::ALL_PART;
 use rule::AND_PART;
 use rule::COMPARISON_PART;
@@ -97,22 +96,10 @@ fn evaluate_test(
     ensures { λ r. ⌜ TestEvaluated (now (p .entry)) (now (g .entry)) (now (file .entry)) (now (w .entry)) s r ⌝ }
 {
     let kind = p[PART_FIELDS * s];
-    let x = values::look(
-        g,
-        file,
-        w,
-        p[PART_FIELDS * s + PART_LEFT_TAG],
-        p[PART_FIELDS * s + PART_LEFT_NUMBER],
-    );
+    let x = values::look(g, file, w, part_value(p, s, PART_LEFT));
     match kind {
         COMPARISON_PART => {
-            let y = values::look(
-                g,
-                file,
-                w,
-                p[PART_FIELDS * s + PART_RIGHT_TAG],
-                p[PART_FIELDS * s + PART_RIGHT_NUMBER],
-            );
+            let y = values::look(g, file, w, part_value(p, s, PART_RIGHT));
             compare(p[PART_FIELDS * s + PART_COMPARISON], x, y)
         }
         NULL_PART => truth_of(x.blank),
@@ -275,13 +262,7 @@ fn evaluate_row(
     if kept != TRUE {
         return empty;
     }
-    let y = values::look(
-        g,
-        file,
-        v,
-        p[PART_FIELDS * s + PART_RIGHT_TAG],
-        p[PART_FIELDS * s + PART_RIGHT_NUMBER],
-    );
+    let y = values::look(g, file, v, part_value(p, s, PART_RIGHT));
     compare(p[PART_FIELDS * s + PART_COMPARISON], x, y)
 }
 
@@ -311,13 +292,7 @@ fn evaluate_list(
     let table = cells::table_place(g, p[PART_FIELDS * s + PART_TABLE]);
     let mut first = table.first;
     // The value left of a list is read outside it.
-    let x = values::look(
-        g,
-        file,
-        w,
-        p[PART_FIELDS * s + PART_LEFT_TAG],
-        p[PART_FIELDS * s + PART_LEFT_NUMBER],
-    );
+    let x = values::look(g, file, w, part_value(p, s, PART_LEFT));
     let mut v = *w;
     let mut value = empty;
     let mut r: usize = 0;

@@ -1,11 +1,12 @@
 -- Parts as they are noted, one after the other.
 use mathlib.Core.Path.{_≡_, refl, sym, ap, ap₂, _∙_}
-use mathlib.Core.List.{List, _∷_, _++_, append-assoc, append-nil}
+use mathlib.Core.List.{List, _++_, append-assoc, append-nil}
 use Prim.Native.Nat.{ℕ, zero, suc, _+_, _*_, _≤_, _<_}
 use native.Mathlib.Numerals.{add-one}
 use native.Mathlib.Omega.{arith}
-use lib.ListN.{length, take, set}
-use Rattle.tables.proofs.Placed.{fill, filled, taken-through, placed-length}
+use lib.ListN.{length, take}
+use Rattle.tables.specs.Lists.{placed}
+use Rattle.tables.proofs.Placed.{taken-through, placed-length}
 use Rattle.rule.specs.Condition.{Not, Apply, WrittenCondition, parts, fromsDeep}
 use Rattle.rule.specs.Names.{mostParts}
 use Rattle.rule.specs.Parts.{unaryKind}
@@ -16,14 +17,12 @@ use Rattle.phrases.specs.declared.Note.{Note}
 -- ---- one part
 
 -- the numbers of a part behind w parts
-pub one-put : (l : List ℕ) (w : ℕ) → length l ≡ notesSize → w < mostParts → (a : ℕ) (y : List ℕ) → 1 + length y ≡ noteSize
-    → (take (noteSize * (w + 1)) (fill (set l (noteSize * w) a) (noteSize * w) 1 y) ≡ take (noteSize * w) l ++ (a ∷ y))
-    × (length (fill (set l (noteSize * w) a) (noteSize * w) 1 y) ≡ notesSize)
-one-put l w size h a y e =
+pub one-put : (l : List ℕ) (w : ℕ) → length l ≡ notesSize → w < mostParts → (x : List ℕ) → length x ≡ noteSize → {new : List ℕ} → new ≡ placed l (noteSize * w) x
+    → (take (noteSize * (w + 1)) new ≡ take (noteSize * w) l ++ x) × (length new ≡ notesSize)
+one-put l w size h x e is =
     let at = noteSize * w in
-    let is = filled l at a y (omega arith) in
-    let through : noteSize * (w + 1) ≡ at + length (a ∷ y) = omega arith in
-    (ap₂ take through is ∙ taken-through l at (a ∷ y) (omega arith), ap length is ∙ placed-length l at (a ∷ y) (omega arith) ∙ size)
+    let through : noteSize * (w + 1) ≡ at + length x = omega arith in
+    (ap₂ take through is ∙ taken-through l at x (omega arith), ap length is ∙ placed-length l at x (omega arith) ∙ size)
 
 -- ---- one part after the other
 

@@ -7,14 +7,15 @@ use native.Mathlib.Omega.{arith}
 use lib.ListN.{length, take, getD}
 use Rattle.tables.specs.Lists.{_>>=_}
 use Rattle.rule.specs.Tokens.{NOT, IS, Close}
-use Rattle.rule.specs.Condition.{Unary, Single, Atom, Join, Apply, Exists, Listed, WrittenCondition, parts, fromsDeep}
+use Rattle.rule.specs.Condition.{Single, Atom, Join, Apply, Exists, Listed, WrittenCondition, parts, fromsDeep}
 use Rattle.rule.specs.Names.{mostParts}
 use Rattle.rule.specs.Grammar.{Tokens}
 use Rattle.rule.specs.Reader.{expect, Opening, Bracket, closed, Start, start, condition, factor, test, Found, branch, started, readTruthTest, truthTested, ended, closing, reading, atEnd, readAll}
 use Rattle.rule.proofs.Steps.{reading-factor, reading-test, reading-all}
 use Rattle.lexer.specs.Code.{codeOf, tokensIn}
 use Rattle.rule.specs.Parts.{unaryKind}
-use Rattle.phrases.specs.Code.{noteNumbers, plainNoteNumbers, noted, tokensFrom, WholeIs, AroundIs, BracketIs, TruthIs, TruthTestAt}
+use Rattle.phrases.proofs.Following.{BracketIs}
+use Rattle.phrases.specs.Code.{noteNumbers, plainNoteNumbers, noted, tokensFrom, WholeIs, AroundIs, TruthIs}
 use Rattle.grammar.specs.Code.{noteSize, notNumbers, underNots, NotsTo, Ready, Reads, ReadsAs, atClose, closedReading, StepFits, TestedTo, WholeReading}
 use Rattle.phrases.specs.declared.Note.{Note}
 use Rattle.grammar.specs.declared.Step.{Step}
@@ -221,10 +222,10 @@ module _ (s : List ℕ) (at : ℕ) where
         notes = (one-noted note (sym (f .notes)) put) .first;
       }
 
-  bracket-same : {next : ℕ} → BracketIs s at (start (tokensFrom s at)) next → reading test (tokensFrom s at) ≡ (closedReading (tokensFrom s next) >>= withTruth)
+  bracket-same : {next : ℕ} → BracketIs s at next → reading test (tokensFrom s at) ≡ (closedReading (tokensFrom s next) >>= withTruth)
   bracket-same {next} f = begins (f .found) ∙ closing-around Bracket (reading condition (tokensFrom s next))
 
-  pub bracket-reads : {next : ℕ} → BracketIs s at (start (tokensFrom s at)) next → (w : ℕ) (old new : List ℕ) (r : Step) → ReadsAs (closedReading (tokensFrom s next) >>= withTruth) s next w old new r
+  pub bracket-reads : {next : ℕ} → BracketIs s at next → (w : ℕ) (old new : List ℕ) (r : Step) → ReadsAs (closedReading (tokensFrom s next) >>= withTruth) s next w old new r
       → ReadsAs (reading test (tokensFrom s at)) s at w old new r
   bracket-reads f w old new NoReading e = bracket-same f ∙ e
   bracket-reads f w old new (Next behind n d) r = reads-around r (omega (arith, f .moved .later)) (omega arith) (r .moved .within) (bracket-same f ∙ r .reads)

@@ -15,19 +15,12 @@ use Rattle.rule.specs.Parts.{joinKind, unaryKind}
 use Rattle.rule.specs.Grammar.{Tokens}
 use Rattle.rule.specs.Reader.{expect, Goal, condition, factor, test, Found, truthTested, reading, readAll}
 use Rattle.lexer.specs.Code.{mostTokens, tokensIn}
-use Rattle.phrases.specs.Code.{noted, plainNoteNumbers, tokensFrom, Moved}
+use Rattle.phrases.specs.Code.{notedSize, noted, plainNoteNumbers, tokensFrom, Moved}
 use Rattle.grammar.specs.declared.Step.{Step}
 use Rattle.grammar.specs.declared.Step.the-variants.{Next, NoReading}
 
--- ---- how many numbers a part is noted as, and those of as many as a rule may have
+-- ---- where the fields of a noted part stand, the kind first, and how many numbers they are
 
-abbrev pub noteSize : ℕ
-noteSize = 8
-
-abbrev pub notesSize : ℕ
-notesSize = noteSize * mostParts
-
--- where its fields stand, the kind first
 abbrev pub noteComparison : ℕ
 noteComparison = 1
 
@@ -37,11 +30,18 @@ noteTable = 2
 abbrev pub noteLetter : ℕ
 noteLetter = 3
 
-abbrev pub noteLeftLetter : ℕ
-noteLeftLetter = 4
+abbrev pub noteLeft : ℕ
+noteLeft = 4
 
-abbrev pub noteRightLetter : ℕ
-noteRightLetter = 6
+abbrev pub noteRight : ℕ
+noteRight = noteLeft + notedSize
+
+abbrev pub noteSize : ℕ
+noteSize = noteRight + notedSize
+
+-- those of as many parts as a rule may have
+abbrev pub notesSize : ℕ
+notesSize = noteSize * mostParts
 
 -- so many NOTs
 abbrev pub notNumbers : ℕ → List ℕ

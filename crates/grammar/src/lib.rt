@@ -8,20 +8,24 @@ ghost use Rattle.rule.specs.Names.{mostParts};
 ghost use Rattle.rule.specs.Parts.{joinKind};
 ghost use Rattle.rule.specs.Reader.{condition, conjunction, factor, test, chain, operand, joinWord};
 ghost use Rattle.lexer.specs.Code.{mostTokens};
-ghost use Rattle.phrases.specs.Code.{noteNumbers, leftNumbers};
+ghost use Rattle.phrases.specs.Code.{noteNumbers, plainNoteNumbers};
 ghost use Rattle.grammar.specs.Code.{noteSize, notesSize, notNumbers, joinedBy, joinParts, joinNumbers, NotsTo, StepFits, TestedTo, Ready, ReadsTo, ReadsClosed, ReadsAll};
 use lexer::AND;
 use lexer::CLOSE;
 use lexer::IS;
 use lexer::NOT;
+use lexer::OPEN;
 use lexer::OR;
+use phrases::NOTED_NUMBERS;
 use phrases::Note;
 use phrases::Start;
 use phrases::TruthRead;
 use phrases::left_note;
+use phrases::put_noted;
 use phrases::read_truth_test;
 use phrases::start_test;
 use phrases::token;
+use phrases::unused_noted;
 use rule::AND_PART;
 use rule::NOT_PART;
 use rule::OR_PART;
@@ -31,25 +35,21 @@ pub const MOST_PARTS: usize = 64;
 
 pub const MOST_FROMS: usize = 3;
 
-// The numbers that a part is noted as, and those of all parts.
-pub const NOTE_FIELDS: usize = 8;
-
-pub const NOTE_NUMBERS: usize = NOTE_FIELDS * MOST_PARTS;
-
-// Their order: the kind first, then these.
+// Where the fields of a noted part stand: the kind first, then these.
 pub const NOTE_COMPARISON: usize = 1;
 
 pub const NOTE_TABLE: usize = 2;
 
 pub const NOTE_LETTER: usize = 3;
 
-pub const NOTE_LEFT_LETTER: usize = 4;
+pub const NOTE_LEFT: usize = 4;
 
-const NOTE_LEFT_NUMBER: usize = 5;
+pub const NOTE_RIGHT: usize = NOTE_LEFT + NOTED_NUMBERS;
 
-pub const NOTE_RIGHT_LETTER: usize = 6;
+// How many numbers these are, and those of all parts.
+pub const NOTE_FIELDS: usize = NOTE_RIGHT + NOTED_NUMBERS;
 
-const NOTE_RIGHT_NUMBER: usize = 7;
+pub const NOTE_NUMBERS: usize = NOTE_FIELDS * MOST_PARTS;
 
 // What a reader answers: the place after what it read, how many parts are noted now, and how many FROMs stand around one another in what it read.
 pub enum Step {
@@ -75,17 +75,17 @@ fn note_part(out: &mut [usize; NOTE_NUMBERS], w: usize, note: Note)
     out[p + NOTE_COMPARISON] = note.comparison;
     out[p + NOTE_TABLE] = note.table;
     out[p + NOTE_LETTER] = note.letter;
-    out[p + NOTE_LEFT_LETTER] = note.left_letter;
-    out[p + NOTE_LEFT_NUMBER] = note.left_number;
-    out[p + NOTE_RIGHT_LETTER] = note.right_letter;
-    out[p + NOTE_RIGHT_NUMBER] = note.right_number;
+    let left = note.left;
+    let right = note.right;
+    put_noted(out, p + NOTE_LEFT, left);
+    put_noted(out, p + NOTE_RIGHT, right);
 }
 
 // A part that says no more than its kind: AND, OR, NOT and truth tests.
 fn plain_note(kind: usize) -> Note
-    ensures { λ r. ⌜ noteNumbers r ≡ leftNumbers kind 0 0 ⌝ }
+    ensures { λ r. ⌜ noteNumbers r ≡ plainNoteNumbers kind ⌝ }
 {
-    left_note(kind, 0, 0)
+    left_note(kind, unused_noted())
 }
 
 fn larger(a: usize, b: usize) -> usize
@@ -266,12 +266,17 @@ fn note_truth_test(s: &[usize], out: &mut [usize; NOTE_NUMBERS], step: Step) -> 
     }
 }
 
-// A test: nothing, or a condition and the bracket behind it, follows its start; and brackets alone may be followed by a truth test.
+// A test: nothing, or a condition and the bracket behind it, follows its start; and brackets alone may be followed by a truth test. A bracket is told before any
+// other start, so that a text of many brackets is read faster.
 fn read_test(s: &[usize], at: usize, out: &mut [usize; NOTE_NUMBERS], w: usize) -> Step
     requires { ⌜ Ready (now s) at w (now out) ⌝ }
     ensures reads { λ r. ⌜ ReadsTo test (now (s .entry)) at w (now (out .entry)) (now (out .exit)) r ⌝ }
     ensures size { λ _. ⌜ length (now (out .exit)) ≡ notesSize ⌝ }
 {
+    if token(s, at) == OPEN {
+        let step = read_closed(s, at + 1, out, w);
+        return note_truth_test(s, out, step);
+    }
     match start_test(s, at) {
         Start::Whole { note, next } => {
             note_part(out, w, note);
@@ -280,10 +285,6 @@ fn read_test(s: &[usize], at: usize, out: &mut [usize; NOTE_NUMBERS], w: usize) 
                 count: w + 1,
                 deep: 0,
             }
-        }
-        Start::Bracket { next } => {
-            let step = read_closed(s, next, out, w);
-            note_truth_test(s, out, step)
         }
         Start::Around { note, next } => {
             let Step::Next {

@@ -4,7 +4,8 @@ use mathlib.Core.Bool.{false}
 use Prim.Native.Nat.{ℕ}
 use borrow.Author.Tests.{ne-eqb}
 use lib.Dec.{eqb}
-use Rattle.rule.specs.Tokens.{bytes, words}
+use Rattle.numerals.specs.Texts.{bytes}
+use Rattle.rule.specs.Tokens.{words}
 use Rattle.lexer.specs.Code.{wordCode}
 
 pub other : (a run : ℕ) → (run ≡ a → ⊥) → eqb a run ≡ false

@@ -1,13 +1,17 @@
 -- The four kinds of token, by their codes.
-use mathlib.Core.Path.{_≡_, refl}
+use mathlib.Core.Path.{_≡_, refl, sym, ap}
 use mathlib.Core.Bool.{Bool, true, false}
+use mathlib.Core.Option.{none, some, Option·map}
 use Prim.Native.Nat.{ℕ, _+_, _-_, _≤_, _<_}
 use native.Mathlib.Omega.{arith}
 use borrow.Author.Tests.{ltb-true, ltb-false, lt-ltb, le-ltb}
 use lib.Dec.{ltb}
 use Rattle.tables.specs.Values.{comparisonOf}
-use Rattle.cells.specs.Code.{fromExcess}
-use Rattle.rule.specs.Tokens.{Token, Fixed, Compares, Letter, Number}
+use Rattle.cells.specs.Code.{words32, fromExcess}
+use Rattle.rule.specs.Tokens.{Token, Fixed, Compares, Letter, Number, numberToken}
+use Rattle.digits.specs.Code.{foundAs, Fits32}
+use Rattle.digits.specs.declared.Found.{Found}
+use Rattle.digits.specs.declared.Found.the-variants.{NoNumber}
 use Rattle.lexer.specs.Code.{comparesCode, letterCode, numberCode, tokenOf}
 
 module _ (c : ℕ) where
@@ -48,3 +52,17 @@ module _ (c : ℕ) where
               let l = ltb-true c numberCode g in
               rw (letter-token h l) (letter h l)
           go false e false f false g = let h = ltb-false c numberCode g in rw (number-token h) (number h)
+
+-- ---- the token of a number that was found
+
+module _ (found : Found) where
+  pub none-found : found ≡ NoNumber → (i : ℕ) → none ≡ Option·map numberToken (foundAs i found)
+  none-found e i = ap (λ (f : Found). Option·map numberToken (foundAs i f)) (sym e)
+
+  pub number-found : (n end : ℕ) → found ≡ Found.Number n end → (i : ℕ) → some (tokenOf (numberCode + n), end - i) ≡ Option·map numberToken (foundAs i found)
+  number-found n end e i =
+      let back : numberCode + n - numberCode ≡ n = omega arith in
+      rw (number-token (numberCode + n) (omega arith), back) (ap (λ (f : Found). Option·map numberToken (foundAs i f)) (sym e))
+
+  pub number-small : (n end : ℕ) → found ≡ Found.Number n end → Fits32 found → n < words32
+  number-small n end e h = rw e at h

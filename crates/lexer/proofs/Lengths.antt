@@ -1,18 +1,20 @@
 -- How many bytes a token takes: at least one, and no more than there are.
 use mathlib.Core.Path.{_≡_, refl}
-use mathlib.Core.Bool.{Bool, true, false, _&&_}
+use mathlib.Core.Bool.{Bool, true, false, _||_}
 use mathlib.Core.List.{List, [], _∷_}
-use mathlib.Core.Option.{Option, none, some}
-use Prim.Native.Nat.{ℕ, suc, _+_, _≤_}
+use mathlib.Core.Option.{Option, none, some, Option·map}
+use Prim.Native.Nat.{ℕ, suc, _≤_}
 use native.Mathlib.Omega.{arith}
 use lib.Dec.{T, eqb, leb, leb→le}
-use lib.IntN.{ℤ, pos, negℤ}
+use lib.IntN.{ℤ}
 use lib.ListN.{length}
-use Rattle.tables.specs.Lists.{same, all, only}
-use Rattle.tables.specs.Bytes.{between, inRange}
-use Rattle.tables.proofs.Tests.{both, bounds, is-so}
-use Rattle.rule.specs.Tokens.{Letter, Number, Lexed, Spelling, bytes, begins, takeWhile, words, wordIn, signs, signIn, spelled, numberFrom, firstToken, isCapital, isSmall, isDigit}
-use Rattle.lexer.proofs.Runs.{run-length}
+use Rattle.tables.specs.Lists.{same, all}
+use Rattle.tables.proofs.Tests.{both, is-so}
+use Rattle.numerals.specs.Texts.{bytes, takeWhile}
+use Rattle.numerals.specs.Numerals.{isDigit, minus, firstNumber}
+use Rattle.numerals.proofs.Runs.{run-length}
+use Rattle.numerals.proofs.Reading.{first-told}
+use Rattle.rule.specs.Tokens.{Letter, Lexed, Spelling, begins, words, wordIn, signs, signIn, numberToken, numberFrom, firstToken, isCapital, isSmall}
 
 -- the token found, if any, takes at least one byte and at most so many
 abbrev pub Takes : ℕ → Option Lexed → Type 0
@@ -32,14 +34,13 @@ word-takes (s ∷ ss) w h = go (same (s .text) w) (word-takes ss w h)
     go true r = (h, omega arith)
     go false r = r
 
-number-takes : (sign : ℕ → ℤ) (before : ℕ) (ds : List ℕ) → Takes (before + length ds) (numberFrom sign before ds)
+number-takes : (text : List ℕ) → Takes (length text) (numberFrom text)
 unfolding numberFrom
-number-takes sign before ds = go (between 1 10 (length ds) && inRange (sign (spelled 0 ds))) refl
+number-takes text = go (firstNumber text) refl
   where
-    go : (t : Bool) → (between 1 10 (length ds) && inRange (sign (spelled 0 ds))) ≡ t → Takes (before + length ds) (only t (Number (sign (spelled 0 ds)), before + length ds))
-    go true e =
-        let (p, q) = bounds 1 10 (length ds) (both (between 1 10 (length ds)) (inRange (sign (spelled 0 ds))) (is-so _ e) .0) in (omega arith, omega arith)
-    go false e = tt
+    go : (o : Option (ℤ × ℕ)) → firstNumber text ≡ o → Takes (length text) (Option·map numberToken o)
+    go none e = tt
+    go (some x) e = let f = first-told text (x .0) (x .1) e in (f .some-byte, f .within)
 
 begins-length : (a b : List ℕ) → T (begins a b) → length a ≤ length b
 begins-length [] b h = omega arith
@@ -76,42 +77,24 @@ module _ (b : ℕ) (bs : List ℕ) where
   abbrev capitals : List ℕ
   capitals = takeWhile isCapital (b ∷ bs)
 
-  abbrev digits : List ℕ
-  digits = takeWhile isDigit (b ∷ bs)
-
-  abbrev more : List ℕ
-  more = takeWhile isDigit bs
-
   capital-takes : isCapital b ≡ true → Takes (suc (length bs)) (wordIn words capitals)
   capital-takes e =
       takes-more (length capitals) (suc (length bs)) (wordIn words capitals) (run-length isCapital (b ∷ bs)) (word-takes words capitals (run-starts isCapital b bs e))
 
-  digit-takes : Takes (suc (length bs)) (numberFrom pos 0 digits)
-  digit-takes = takes-more (0 + length digits) (suc (length bs)) (numberFrom pos 0 digits) (omega (arith, run-length isDigit (b ∷ bs))) (number-takes pos 0 digits)
-
-  minus-takes : Takes (suc (length bs)) (numberFrom (λ n. negℤ (pos n)) 1 more)
-  minus-takes =
-      takes-more (1 + length more) (suc (length bs)) (numberFrom (λ n. negℤ (pos n)) 1 more) (omega (arith, run-length isDigit bs)) (number-takes (λ n. negℤ (pos n)) 1 more)
-
   pub first-takes : Takes (suc (length bs)) (firstToken b bs)
   unfolding firstToken
-  first-takes = go (isCapital b) refl (isSmall b) (isDigit b) (eqb b 45)
+  first-takes = go (isCapital b) refl (isSmall b) (isDigit b || eqb b minus)
     where
-      go : (capital : Bool) → isCapital b ≡ capital → (small digit minus : Bool)
+      go : (capital : Bool) → isCapital b ≡ capital → (small number : Bool)
           → Takes (suc (length bs)) (elim capital [
             | true ↦ wordIn words capitals
             | false ↦
                 elim small [
                   | true ↦ some (Letter b, 1)
-                  | false ↦
-                      elim digit [
-                        | true ↦ numberFrom pos 0 digits
-                        | false ↦ elim minus [ true ↦ numberFrom (λ n. negℤ (pos n)) 1 more | false ↦ signIn signs (b ∷ bs) ]
-                      ]
+                  | false ↦ elim number [ true ↦ numberFrom (b ∷ bs) | false ↦ signIn signs (b ∷ bs) ]
                 ]
           ])
-      go true e small digit minus = capital-takes e
-      go false e true digit minus = (omega arith, omega arith)
-      go false e false true minus = digit-takes
-      go false e false false true = minus-takes
-      go false e false false false = sign-takes signs (b ∷ bs) no-sign-empty
+      go true e small number = capital-takes e
+      go false e true number = (omega arith, omega arith)
+      go false e false true = number-takes (b ∷ bs)
+      go false e false false = sign-takes signs (b ∷ bs) no-sign-empty

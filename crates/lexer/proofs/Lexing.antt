@@ -8,10 +8,11 @@ use native.Mathlib.Numerals.{add-one}
 use native.Mathlib.Omega.{arith}
 use lib.ListN.{length, take, drop, getD, set, length-set, length-drop, drop-of-length-le}
 use lib.Seq.{drop-cons, drop-drop, getD-drop, take-suc-set}
-use Rattle.rule.specs.Tokens.{Token, Lexed, isGap, takeWhile, firstToken, andThen, tokensAfter, tokensOf}
+use Rattle.numerals.specs.Texts.{takeWhile}
+use Rattle.rule.specs.Tokens.{Token, Lexed, isGap, firstToken, andThen, tokensAfter, tokensOf}
 use Rattle.rule.specs.Grammar.{Tokens}
 use Rattle.lexer.specs.Code.{tokenOf, tokensIn}
-use Rattle.lexer.proofs.Runs.{run-cons, run-nil, after-run, run-within}
+use Rattle.numerals.proofs.Runs.{run-cons, run-nil, after-run, run-within}
 use Rattle.lexer.proofs.Lengths.{Takes, first-takes}
 
 -- ---- on lists

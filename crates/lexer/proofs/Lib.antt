@@ -1,11 +1,8 @@
 pub mod Codes
-pub mod Runs
-pub mod Spells
 pub mod Coded
 pub mod Counting
 pub mod Signs
 pub mod Words
-pub mod Numbers
 pub mod Firsts
 pub mod Lengths
 pub mod Lexing

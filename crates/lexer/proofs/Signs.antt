@@ -9,7 +9,8 @@ use borrow.Author.Tests.{eqb-true, eqb-false, eq-eqb}
 use lib.Dec.{eqb}
 use lib.ListN.{length, drop, getD}
 use lib.Seq.{drop-cons, getD-drop}
-use Rattle.rule.specs.Tokens.{bytes, begins, signs, signIn}
+use Rattle.numerals.specs.Texts.{bytes}
+use Rattle.rule.specs.Tokens.{begins, signs, signIn}
 use Rattle.lexer.specs.declared.Lexeme.{Lexeme}
 use Rattle.lexer.specs.Code.{tokenOf, lexedAs, lessFrom, greaterFrom}
 use Rattle.lexer.proofs.Coded.{other}

@@ -13,10 +13,13 @@ use Rattle.tables.specs.Lists.{same, all}
 use Rattle.tables.specs.Bytes.{between}
 use Rattle.tables.proofs.Tests.{both, bounds, between-yes, is-so, is-true, refuted}
 use Rattle.tables.proofs.Sizes.{same-is, same-refl}
-use Rattle.rule.specs.Tokens.{Token, Fixed, Compares, Letter, Number, Spelling, Lexed, bytes, takeWhile, words, wordIn, isCapital}
-use Rattle.lexer.proofs.Spells.{in-base-append}
-use Rattle.lexer.specs.Code.{comparesCode, tokenOf, codeOf, inBase, mostCapitals, wordBase, wordCode, RunAt}
-use Rattle.lexer.specs.declared.Run.{Run}
+use Rattle.numerals.specs.Texts.{bytes, takeWhile}
+use Rattle.rule.specs.Tokens.{Token, Fixed, Compares, Letter, Number, Spelling, Lexed, words, wordIn, isCapital}
+use Rattle.numerals.specs.Numerals.{inBase}
+use Rattle.numerals.proofs.Digits.{in-base-append}
+use Rattle.lexer.specs.Code.{comparesCode, tokenOf, codeOf, mostCapitals, wordBase, wordCode}
+use Rattle.digits.specs.Code.{RunAt}
+use Rattle.digits.specs.declared.Run.{Run}
 use Rattle.lexer.proofs.Codes.{fixed-token}
 
 abbrev value : ℕ → List ℕ → ℕ

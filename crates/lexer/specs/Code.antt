@@ -4,19 +4,18 @@ use mathlib.Core.Path.{_≡_}
 use mathlib.Core.Bool.{cond}
 use mathlib.Core.List.{List, [], _∷_, map}
 use mathlib.Core.Option.{Option, none, some}
-use Prim.Native.Nat.{ℕ, zero, suc, _+_, _*_, _-_, _<_, _≤_}
+use Prim.Native.Nat.{ℕ, _+_, _-_, _≤_}
 use lib.Dec.{eqb, ltb}
 use lib.IntN.{pos}
-use lib.ListN.{length, take, drop}
-use Rattle.tables.specs.Bytes.{between}
+use lib.ListN.{take}
 use Rattle.tables.specs.Values.{Ne, Lt, Le, Gt, Ge, comparisonNumber, comparisonOf}
+use Rattle.numerals.specs.Numerals.{inBase}
 use Rattle.cells.specs.Code.{fromExcess, toExcess}
-use Rattle.rule.specs.Tokens.{Token, Fixed, Compares, Letter, Number, Spelling, Lexed, takeWhile, opensFit}
+use Rattle.rule.specs.Tokens.{Token, Fixed, Compares, Letter, Number, Spelling, Lexed, opensFit}
 use Rattle.rule.specs.Grammar.{Tokens}
 use Rattle.rule.specs.Calls.{mostBytes}
 use Rattle.lexer.specs.declared.Lexeme.{Lexeme}
 use Rattle.lexer.specs.declared.Lexeme.the-variants.{Token as LexedToken, NoToken}
-use Rattle.lexer.specs.declared.Run.{Run}
 use Rattle.lexer.specs.declared.Tokenized.{Tokenized}
 use Rattle.lexer.specs.declared.Tokenized.the-variants.{Tokens as Tokenized-tokens, NoTokens}
 
@@ -55,27 +54,7 @@ codeOf (Number n) = numberCode + toExcess n
 abbrev pub tokensIn : List ℕ → Tokens
 tokensIn s = map tokenOf s
 
--- ---- runs of bytes
-
--- the number that bytes spell as digits, where n is spelled before them; zero is the byte of the digit 0
-abbrev pub inBase : ℕ → ℕ → ℕ → List ℕ → ℕ
-inBase base zero′ n [] = n
-inBase base zero′ n (b ∷ bs) = inBase base zero′ (base * n + (b - zero′)) bs
-
-abbrev pub power : ℕ → ℕ → ℕ
-power base zero = 1
-power base (suc k) = base * power base k
-
--- the bytes from low to high are digits of the base, and so many of them make up at most a number of 64 bits
-pub record Spellable (low high base zero′ most : ℕ) : Type 0 where
-  pub digits-low : zero′ ≤ low
-  pub digits-high : high < base + zero′
-  pub fits : power base most ≤ 18446744073709551616
-
--- the run of these bytes that starts at place i: the place after it, and what it spells, unless it is too long
-pub record RunAt (text : List ℕ) (i low high base zero′ most : ℕ) (r : Run) : Type 0 where
-  pub ends : r .end ≡ i + length (takeWhile (between low high) (drop i text))
-  pub spells : r .end - i ≤ most → r .number ≡ inBase base zero′ 0 (takeWhile (between low high) (drop i text))
+-- ---- words
 
 -- how many capitals are looked at as a word: no word is longer, and the bytes of so many make up a number of 64 bits
 abbrev pub mostCapitals : ℕ

@@ -1,19 +1,22 @@
 // The tokens of a rule text, each as one number; refusals 4 and 5.
 ghost use mathlib.Core.Path.{_≡_};
-ghost use Prim.Native.Nat.{_+_, _*_, _-_, _<_, _≤_};
-ghost use lib.IntN.{pos, negℤ};
+ghost use mathlib.Core.Option.{Option·map};
+ghost use Prim.Native.Nat.{ℕ, _+_, _<_, _≤_};
 ghost use lib.ListN.{length, drop};
 ghost use Rattle.tables.specs.Bytes.{byteAt};
-ghost use Rattle.rule.specs.Tokens.{isGap, isCapital, isDigit, takeWhile, words, wordIn, signs, signIn, numberFrom, firstToken, tokensOf};
+ghost use Rattle.numerals.specs.Texts.{takeWhile};
+ghost use Rattle.rule.specs.Tokens.{isGap, isCapital, words, wordIn, signs, signIn, numberToken, firstToken, tokensOf};
 ghost use Rattle.rule.specs.Calls.{mostBytes};
-ghost use Rattle.lexer.specs.Code.{Spellable, RunAt, mostOfThree, wordCode, lexedAs, lessFrom, greaterFrom, tokenizedAs, BracketsTold, FewTokens};
-use cells::EXCESS;
+ghost use Rattle.digits.specs.Code.{foundAs, Fits32};
+ghost use Rattle.lexer.specs.Code.{mostOfThree, wordCode, lexedAs, lessFrom, greaterFrom, tokenizedAs, BracketsTold, FewTokens};
 use cells::byte;
+use digits::Found;
+use digits::negative_at;
+use digits::spell_run;
+use digits::unsigned_at;
 
 // How long a text may be, and so how many tokens it may have.
 pub const MOST_BYTES: usize = 4096;
-
-const MOST_DIGITS: usize = 10;
 
 const MOST_OPEN: usize = 32;
 
@@ -89,44 +92,6 @@ fn skip_gaps(text: &[u8], i: usize) -> usize
     e
 }
 
-// A run of bytes: the place after it, and the number that its bytes spell, unless it is too long.
-pub struct Run {
-    pub end: usize,
-    pub number: usize,
-}
-
-// The run of bytes from low to high that starts at i, and what it spells in a base, where zero is the byte of the digit 0. The bytes are looked at once;
-// those behind the first `most` are only passed over, since no word and no number is longer than that.
-fn spell_run(
-    text: &[u8],
-    i: usize,
-    low: usize,
-    high: usize,
-    base: usize,
-    zero: usize,
-    most: usize,
-) -> Run
-    requires { ⌜ i ≤ length (now text) ⌝ ∗ ⌜ length (now text) ≤ mostBytes ⌝ ∗ ⌜ Spellable low high base zero most ⌝ }
-    ensures { λ r. ⌜ RunAt (now (text .entry)) i low high base zero most r ⌝ }
-{
-    let mut n: usize = 0;
-    let mut e: usize = i;
-    while e < text.len() {
-        let b = byte(text, e);
-        if b < low {
-            return Run { end: e, number: n };
-        }
-        if high < b {
-            return Run { end: e, number: n };
-        }
-        if e - i < most {
-            n = base * n + (b - zero);
-        }
-        e += 1;
-    }
-    Run { end: e, number: n }
-}
-
 // The word whose capitals, at most three, spell this number; 0 if there is none.
 fn short_word(spelled: usize) -> usize
     requires { ⌜ spelled ≤ mostOfThree ⌝ }
@@ -189,45 +154,17 @@ fn word(text: &[u8], i: usize) -> Lexeme
     Lexeme::Token { code, end: run.end }
 }
 
-// The number of the digits from i on.
-fn number(text: &[u8], i: usize) -> Lexeme
-    requires { ⌜ i ≤ length (now text) ⌝ ∗ ⌜ length (now text) ≤ mostBytes ⌝ }
-    ensures { λ r. ⌜ lexedAs i r ≡ numberFrom pos 0 (takeWhile isDigit (drop i (now (text .entry)))) ⌝ }
+// A number that was found, as a token.
+fn number_token(found: Found) -> Lexeme
+    requires { ⌜ Fits32 found ⌝ }
+    ensures { λ r. ⌜ ((i : ℕ) → lexedAs i r ≡ Option·map numberToken (foundAs i found)) ⌝ }
 {
-    let run = spell_run(text, i, 48, 57, 10, 48, MOST_DIGITS);
-    if run.end == i {
+    let Found::Number { number, end } = found else {
         return Lexeme::NoToken;
-    }
-    if MOST_DIGITS < run.end - i {
-        return Lexeme::NoToken;
-    }
-    if 2147483647 < run.number {
-        return Lexeme::NoToken;
-    }
+    };
     Lexeme::Token {
-        code: NUMBER + EXCESS + run.number,
-        end: run.end,
-    }
-}
-
-// The same with the minus before i.
-fn negative(text: &[u8], i: usize) -> Lexeme
-    requires { ⌜ (0 < i) × (i ≤ length (now text)) ⌝ ∗ ⌜ length (now text) ≤ mostBytes ⌝ }
-    ensures { λ r. ⌜ lexedAs (i - 1) r ≡ numberFrom (λ n. negℤ (pos n)) 1 (takeWhile isDigit (drop i (now (text .entry)))) ⌝ }
-{
-    let run = spell_run(text, i, 48, 57, 10, 48, MOST_DIGITS);
-    if run.end == i {
-        return Lexeme::NoToken;
-    }
-    if MOST_DIGITS < run.end - i {
-        return Lexeme::NoToken;
-    }
-    if 2147483648 < run.number {
-        return Lexeme::NoToken;
-    }
-    Lexeme::Token {
-        code: NUMBER + EXCESS - run.number,
-        end: run.end,
+        code: NUMBER + number,
+        end,
     }
 }
 
@@ -322,7 +259,7 @@ fn first_token(text: &[u8], i: usize) -> Lexeme
             return sign(text, i);
         }
         if b == 45 {
-            return negative(text, i + 1);
+            return number_token(negative_at(text, i + 1));
         }
         return sign(text, i);
     }
@@ -342,7 +279,7 @@ fn first_token(text: &[u8], i: usize) -> Lexeme
         };
     }
     if b < 58 {
-        return number(text, i);
+        return number_token(unsigned_at(text, i));
     }
     sign(text, i)
 }

@@ -17,7 +17,7 @@ use Rattle.rule.specs.Names.{mostParts}
 use Rattle.rule.specs.Parts.{Kind, JoinKind, UnaryKind, CompareKind, MarkKind, ExistsKind, ListKind, joinKind, unaryKind, compareKind, markKind, existsKind, listKind, kindNumber}
 use Rattle.rule.specs.Groups.{JoinNumber, UnaryNumber, TestNumber, FromNumber}
 use Rattle.rule.proofs.Groups.{same-kind}
-use Rattle.phrases.specs.Code.{fromNumbers, leftNumbers, plainNoteNumbers, writtenNumbers, writtenOf, noted}
+use Rattle.phrases.specs.Code.{notedNumbers, notedOf, writtenOf, writtenNumbers, unusedNoted, fromNumbers, leftNumbers, plainNoteNumbers, noted}
 use Rattle.grammar.specs.Code.{noteSize, noteTable, noteLetter}
 use Rattle.scopes.specs.Code.{writtenAt}
 use Rattle.names.specs.Code.{ValueKept, SourceKept, Kept, kindAt, Placeable}
@@ -39,21 +39,13 @@ module _ (notes xs ys : List ℕ) (n k : ℕ) (long : n ≤ length notes) (is : 
 
 -- ---- the last part of a condition, and what is noted before it
 
-abbrev pub letterOf : WrittenValue → ℕ
-letterOf (Plain k) = 0
-letterOf (Named x k) = x
-
-abbrev pub numberOf : WrittenValue → ℕ
-numberOf (Plain k) = toExcess k
-numberOf (Named x k) = toExcess k
-
 abbrev pub ownNumbers : WrittenCondition → List ℕ
-ownNumbers (Atom (Compare op l r)) = compareKind ∷ comparisonNumber op ∷ 0 ∷ 0 ∷ letterOf l ∷ numberOf l ∷ letterOf r ∷ numberOf r ∷ []
-ownNumbers (Atom (Mark m l)) = leftNumbers (markKind m) (letterOf l) (numberOf l)
+ownNumbers (Atom (Compare op l r)) = compareKind ∷ comparisonNumber op ∷ 0 ∷ 0 ∷ (writtenNumbers l ++ writtenNumbers r)
+ownNumbers (Atom (Mark m l)) = leftNumbers (markKind m) (notedOf l)
 ownNumbers (Join j a b) = plainNoteNumbers (joinKind j)
 ownNumbers (Apply u a) = plainNoteNumbers (unaryKind u)
-ownNumbers (Exists f w) = existsKind ∷ 0 ∷ (fromNumbers f ++ (0 ∷ 0 ∷ 0 ∷ 0 ∷ []))
-ownNumbers (Listed q op l s f w) = listKind q ∷ comparisonNumber op ∷ (fromNumbers f ++ (letterOf l ∷ numberOf l ∷ letterOf s ∷ numberOf s ∷ []))
+ownNumbers (Exists f w) = existsKind ∷ 0 ∷ (fromNumbers f ++ (notedNumbers unusedNoted ++ notedNumbers unusedNoted))
+ownNumbers (Listed q op l s f w) = listKind q ∷ comparisonNumber op ∷ (fromNumbers f ++ (writtenNumbers l ++ writtenNumbers s))
 
 abbrev pub innerNumbers : WrittenCondition → List ℕ
 innerNumbers (Atom x) = []
@@ -62,18 +54,14 @@ innerNumbers (Apply u a) = noted a
 innerNumbers (Exists f w) = noted w
 innerNumbers (Listed q op l s f w) = noted w
 
-value-is : (l : WrittenValue) → writtenNumbers l ≡ letterOf l ∷ numberOf l ∷ []
-value-is (Plain k) = refl
-value-is (Named x k) = refl
-
 own-last : (t : WrittenCondition) → noted t ≡ innerNumbers t ++ ownNumbers t
 unfolding noted
-own-last (Atom (Compare op l r)) = simp value-is
-own-last (Atom (Mark m l)) = simp value-is
+own-last (Atom (Compare op l r)) = refl
+own-last (Atom (Mark m l)) = refl
 own-last (Join j a b) = sym (append-assoc (noted a) (noted b) _)
 own-last (Apply u a) = refl
 own-last (Exists f w) = refl
-own-last (Listed q op l s f w) = simp value-is
+own-last (Listed q op l s f w) = refl
 
 own-size : (t : WrittenCondition) → length (ownNumbers t) ≡ noteSize
 own-size (Atom (Compare op l r)) = refl
@@ -94,7 +82,7 @@ noted-length (Apply u a) = omega (arith, with-own (Apply u a), noted-length a)
 noted-length (Exists f w) = omega (arith, with-own (Exists f w), noted-length w)
 noted-length (Listed q op l s f w) = omega (arith, with-own (Listed q op l s f w), noted-length w)
 
-pub value-back : (l : WrittenValue) → ValueKept l → writtenOf (letterOf l) (numberOf l) ≡ l
+pub value-back : (l : WrittenValue) → ValueKept l → writtenOf (notedOf l) ≡ l
 value-back (Plain k) h = ap Plain h
 value-back (Named x k) h =
     let z = h .0 in
@@ -188,7 +176,7 @@ module _ {notes : List ℕ} {h : ℕ} {before : List ℕ} {t : WrittenCondition}
   pub value-at : (i : ℕ) → i + 1 < noteSize → writtenAt notes (noteSize * (h - 1) + i) ≡ writtenAt (ownNumbers t) i
   value-at i l =
       let z : noteSize * (h - 1) + i + 1 ≡ noteSize * (h - 1) + (i + 1) = omega arith in
-      ap₂ writtenOf (number-is i (omega arith)) (ap (λ (j : ℕ). getD notes j 0) z ∙ number-is (i + 1) l)
+      ap₂ (λ (x n : ℕ). writtenOf (record { letter = x; number = n })) (number-is i (omega arith)) (ap (λ (j : ℕ). getD notes j 0) z ∙ number-is (i + 1) l)
 
   pub kind-is : kindAt notes h ≡ getD (ownNumbers t) 0 0
   kind-is = ap (λ (i : ℕ). getD notes i 0) (sym (add-zero (noteSize * (h - 1)))) ∙ number-is 0 (omega arith)

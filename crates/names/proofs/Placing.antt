@@ -19,8 +19,9 @@ use Rattle.rule.specs.Parts.{joinKind, compareKind, markKind, listKind, kindNum
 use Rattle.rule.specs.Groups.{lastKind, JoinNumber, UnaryNumber, TestNumber, FromNumber}
 use Rattle.rule.specs.declared.Part.{Part}
 use Rattle.phrases.specs.Code.{noted}
-use Rattle.grammar.specs.Code.{noteSize, noteComparison, noteTable, noteLetter, noteLeftLetter, noteRightLetter}
-use Rattle.scopes.specs.Code.{valueNumbers, existingAs, scopeIn, binding, outerScope, ScopeFits, partFields, plainPartNumbers, leftWritten, rightWritten, comparedNumbers, nullNumbers, ownPartNumbers, comparedAs}
+use Rattle.grammar.specs.Code.{noteSize, noteComparison, noteTable, noteLetter, noteLeft, noteRight}
+use Rattle.values.specs.Code.{heldNumbers, unusedHeld}
+use Rattle.scopes.specs.Code.{valueHeld, existingAs, scopeIn, binding, outerScope, ScopeFits, partFields, plainPartNumbers, leftWritten, rightWritten, comparedNumbers, nullNumbers, ownPartNumbers, comparedAs}
 use Rattle.scopes.proofs.Looking.{none-there, some-there}
 use Rattle.scopes.proofs.Resolving.{map-none, Mapped, map-some}
 use Rattle.scopes.proofs.Owning.{own-mark, own-list}
@@ -141,13 +142,13 @@ module _ (columns : List ℕ) (outside inside : Scope) (t e : ℕ) where
   abbrev ownIn : List ℕ → Option (List ℕ)
   ownIn own = ownPartNumbers (getD own 0 0) (getD own noteComparison 0) t e (valueIn columns outside (leftWritten own 0)) (valueIn columns inside (rightWritten own 0))
 
-  compared-map : {A : Type 0} (F : Value → Value → A) (g : A → List ℕ) (kind op : ℕ) → ((v w : Value) → kind ∷ op ∷ t ∷ e ∷ (valueNumbers v ++ valueNumbers w) ≡ g (F v w))
+  compared-map : {A : Type 0} (F : Value → Value → A) (g : A → List ℕ) (kind op : ℕ) → ((v w : Value) → kind ∷ op ∷ t ∷ e ∷ (heldNumbers (valueHeld v) ++ heldNumbers (valueHeld w)) ≡ g (F v w))
       → (a b : Option Value) → comparedNumbers kind op t e a b ≡ Option·map g (a >>= (λ v. b >>= (λ w. some (F v w))))
   compared-map F g kind op m none b = refl
   compared-map F g kind op m (some v) none = refl
   compared-map F g kind op m (some v) (some w) = ap some (m v w)
 
-  null-map : {A : Type 0} (F : Value → A) (g : A → List ℕ) (kind : ℕ) → ((v : Value) → kind ∷ 0 ∷ 0 ∷ e ∷ (valueNumbers v ++ (0 ∷ 0 ∷ [])) ≡ g (F v))
+  null-map : {A : Type 0} (F : Value → A) (g : A → List ℕ) (kind : ℕ) → ((v : Value) → kind ∷ 0 ∷ 0 ∷ e ∷ (heldNumbers (valueHeld v) ++ heldNumbers unusedHeld) ≡ g (F v))
       → (a : Option Value) → nullNumbers kind e a ≡ Option·map g (a >>= (λ v. some (F v)))
   null-map F g kind m none = refl
   null-map F g kind m (some v) = ap some (m v)
@@ -431,8 +432,8 @@ module _ {file notes : List ℕ} {h : ℕ} {room : List ℕ} {e : ℕ} {scope : 
   own-here {t = t} st outside inside table =
       ap₂ (λ (a o : ℕ). ownPartNumbers a o table e (valueIn columns outside leftHere) (valueIn columns inside rightHere)) (kind-is st) (number-is st noteComparison (omega arith))
       ∙ ap₂ (λ (l r : WrittenValue). ownPartNumbers (getD (ownNumbers t) 0 0) (getD (ownNumbers t) noteComparison 0) table e (valueIn columns outside l) (valueIn columns inside r))
-      (value-at st noteLeftLetter (omega arith))
-      (value-at st noteRightLetter (omega arith))
+      (value-at st noteLeft (omega arith))
+      (value-at st noteRight (omega arith))
 
   module _ (k : TestNumber (kindAt notes h)) (r : Compared)
       (came : comparedAs r ≡ ownPartNumbers kindHere opHere 0 e (valueIn columns around leftHere) (valueIn columns around rightHere)) where

@@ -15,21 +15,15 @@ use Rattle.rule.specs.Throughout.{Throughout}
 use Rattle.rule.specs.Names.{mostParts, mostFroms, outermost, ruleIn}
 use Rattle.rule.specs.Parts.{partsFrom, partsOf}
 use Rattle.rule.specs.declared.Part.{Part}
+use Rattle.values.specs.Code.{heldSize}
 use Rattle.phrases.specs.Code.{noted}
-use Rattle.grammar.specs.Code.{noteSize}
+use Rattle.grammar.specs.Code.{noteSize, notesSize}
 use Rattle.scopes.specs.Code.{taggedNumbers, scopeIn, ScopeFits}
 use Rattle.names.specs.declared.Placed.{Placed}
 use Rattle.names.specs.declared.Placed.the-variants.{At, Unplaced}
 
--- ---- how many numbers a part has, and those of as many as a rule may have
+-- ---- where the fields of a part stand, the kind first, and how many numbers they are
 
-abbrev pub partSize : ℕ
-partSize = 8
-
-abbrev pub partsSize : ℕ
-partsSize = partSize * mostParts
-
--- where its fields stand, the kind first
 abbrev pub partComparison : ℕ
 partComparison = 1
 
@@ -39,17 +33,18 @@ partTable = 2
 abbrev pub partEnd : ℕ
 partEnd = 3
 
-abbrev pub partLeftTag : ℕ
-partLeftTag = 4
+abbrev pub partLeft : ℕ
+partLeft = 4
 
-abbrev pub partLeftNumber : ℕ
-partLeftNumber = 5
+abbrev pub partRight : ℕ
+partRight = partLeft + heldSize
 
-abbrev pub partRightTag : ℕ
-partRightTag = 6
+abbrev pub partSize : ℕ
+partSize = partRight + heldSize
 
-abbrev pub partRightNumber : ℕ
-partRightNumber = 7
+-- the room for as many parts as a rule may have: that of their notes, which stand in the same array before; a part has no more numbers than a note
+abbrev pub partsSize : ℕ
+partsSize = notesSize
 
 -- ---- parts as numbers
 

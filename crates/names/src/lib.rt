@@ -11,9 +11,9 @@ ghost use Rattle.rule.specs.Groups.{JoinNumber, UnaryNumber, TestNumber, FromNu
 ghost use Rattle.scopes.specs.Code.{partFields};
 ghost use Rattle.names.specs.Code.{partSize, partsSize, kindAt, Placeable, PlacedTo, Nameable, NamedTo};
 use cells::byte;
-use grammar::MOST_PARTS;
 use grammar::NOTE_FIELDS;
 use grammar::NOTE_LETTER;
+use grammar::NOTE_NUMBERS;
 use grammar::NOTE_TABLE;
 use rule::ALL_PART;
 use rule::AND_PART;
@@ -39,26 +39,25 @@ use scopes::from_part;
 use scopes::outermost;
 use scopes::plain_part;
 use scopes::test_part;
+use values::HELD_NUMBERS;
+use values::put_held;
 
-// The numbers of a part, and those of all parts.
-pub const PART_FIELDS: usize = 8;
-
-pub const PART_NUMBERS: usize = PART_FIELDS * MOST_PARTS;
-
-// Their order, which is the published one: the kind first, then these.
+// Where the fields of a part stand, in the published order: the kind first, then these.
 pub const PART_COMPARISON: usize = 1;
 
 pub const PART_TABLE: usize = 2;
 
 pub const PART_END: usize = 3;
 
-pub const PART_LEFT_TAG: usize = 4;
+pub const PART_LEFT: usize = 4;
 
-pub const PART_LEFT_NUMBER: usize = 5;
+pub const PART_RIGHT: usize = PART_LEFT + HELD_NUMBERS;
 
-pub const PART_RIGHT_TAG: usize = 6;
+// How many numbers these are.
+pub const PART_FIELDS: usize = PART_RIGHT + HELD_NUMBERS;
 
-pub const PART_RIGHT_NUMBER: usize = 7;
+// Room for the numbers of all parts: that of their notes, which stand in the same array before (`parser`). A part has no more numbers than a note.
+pub const PART_NUMBERS: usize = NOTE_NUMBERS;
 
 // The lowest number of the parts that were placed, or some name means nothing.
 pub enum Placed {
@@ -77,10 +76,10 @@ fn put_part(parts: &mut [usize; PART_NUMBERS], p: usize, part: Fields)
     parts[q + PART_COMPARISON] = part.comparison;
     parts[q + PART_TABLE] = part.table;
     parts[q + PART_END] = part.end;
-    parts[q + PART_LEFT_TAG] = part.left_tag;
-    parts[q + PART_LEFT_NUMBER] = part.left_number;
-    parts[q + PART_RIGHT_TAG] = part.right_tag;
-    parts[q + PART_RIGHT_NUMBER] = part.right_number;
+    let left = part.left;
+    let right = part.right;
+    put_held(parts, q + PART_LEFT, left);
+    put_held(parts, q + PART_RIGHT, right);
 }
 
 // The parts of the condition whose notes are the last of the first h, up to number e: the note's own part stands before its inner parts, so these are

@@ -1,24 +1,23 @@
 -- The parts of a rule that stand in an array: from a list of their numbers, what each number is, and which rule it is by its kind.
 use mathlib.Core.Path.{_≡_, refl, sym, ap, subst, _∙_}
-use mathlib.Core.Bool.{cond}
 use mathlib.Core.List.{List, [], _++_}
 use mathlib.Core.Logic.{⊎-elim}
 use Prim.Native.Nat.{ℕ, _+_, _*_, _≤_}
 use native.Mathlib.Omega.{arith}
-use lib.Dec.{eqb}
 use lib.ListN.{length, getD, take, drop, length-append, length-take}
 use lib.Seq.{take-take, take-at, drop-at, take-add, drop-drop, getD-take, getD-drop, length-take-le}
-use Rattle.tables.specs.Values.{constantTag, Value, Comparison, Connective, And, Quantifier, MarkTest}
-use Rattle.cells.specs.Code.{toExcess}
+use Rattle.tables.specs.Values.{Value, Comparison, Connective, And, Quantifier, MarkTest}
 use Rattle.rule.specs.Condition.{Test, Compare, Mark, Unary, From, Atom, Join, Apply, Exists, Listed, Rule, parts}
-use Rattle.rule.specs.Parts.{Kind, JoinKind, UnaryKind, CompareKind, MarkKind, ExistsKind, ListKind, joinKind, compareKind, existsKind, kindNumber, Head, AtomHead, JoinHead, UnaryHead, ExistsHead, ListedHead, kindOf, partOf, naturalOf, partsFrom, partsOf}
+use Rattle.rule.specs.Parts.{Kind, JoinKind, UnaryKind, CompareKind, MarkKind, ExistsKind, ListKind, joinKind, compareKind, existsKind, kindNumber, Head, AtomHead, JoinHead, UnaryHead, ExistsHead, ListedHead, kindOf, partOf, partsFrom, partsOf}
 use Rattle.rule.specs.Groups.{lastKind, JoinNumber, UnaryNumber, MarkNumber, TestNumber, ListNumber}
-use Rattle.rule.specs.declared.TaggedValue.{TaggedValue}
 use Rattle.rule.specs.declared.Part.{Part}
 use Rattle.rule.proofs.Parts.{parts-length}
 use Rattle.rule.proofs.Groups.{same-kind, kind-bounds}
-use Rattle.names.specs.Code.{partSize, partComparison, partTable, partEnd, partLeftTag, partLeftNumber, partRightTag, partRightNumber, partNumbers, partsNumbers}
+use Rattle.names.specs.Code.{partSize, partComparison, partTable, partEnd, partLeft, partRight, partNumbers, partsNumbers}
 use Rattle.names.proofs.Placing.{numbers-both, parts-numbers-length}
+use Rattle.values.specs.Code.{heldNumbers, heldAt}
+use Rattle.values.proofs.Held.{held-among, held-in}
+use Rattle.scopes.specs.Code.{heldOf}
 use Rattle.parts.specs.Parts.{PartAt, Stands}
 
 -- a rule has a part
@@ -29,10 +28,6 @@ parts-low (Join j a b) = omega arith
 parts-low (Apply u a) = omega arith
 parts-low (Exists f w) = omega arith
 parts-low (Listed q op l s f w) = omega arith
-
--- a value's number as it is noted
-abbrev pub heldNumber : TaggedValue → ℕ
-heldNumber v = cond (eqb (v .tag) constantTag) (toExcess (v .number)) (naturalOf (v .number))
 
 -- ---- from a list of numbers
 
@@ -127,17 +122,15 @@ module _ {p : List ℕ} {s : ℕ} {x : Part} (at : PartAt p s x) where
   pub part-end : getD p (partSize * s + partEnd) 0 ≡ x .end
   part-end = at .field partEnd (omega arith)
 
-  pub part-left-tag : getD p (partSize * s + partLeftTag) 0 ≡ x .left .tag
-  part-left-tag = at .field partLeftTag (omega arith)
+  pub part-left : heldAt p (partSize * s + partLeft) ≡ heldOf (x .left)
+  part-left =
+      held-in p (partSize * s) partLeft partSize (partNumbers x) (heldOf (x .left)) (at .field) (omega arith)
+      (held-among (take partLeft (partNumbers x)) (heldOf (x .left)) (heldNumbers (heldOf (x .right))))
 
-  pub part-left-number : getD p (partSize * s + partLeftNumber) 0 ≡ heldNumber (x .left)
-  part-left-number = at .field partLeftNumber (omega arith)
-
-  pub part-right-tag : getD p (partSize * s + partRightTag) 0 ≡ x .right .tag
-  part-right-tag = at .field partRightTag (omega arith)
-
-  pub part-right-number : getD p (partSize * s + partRightNumber) 0 ≡ heldNumber (x .right)
-  part-right-number = at .field partRightNumber (omega arith)
+  pub part-right : heldAt p (partSize * s + partRight) ≡ heldOf (x .right)
+  part-right =
+      held-in p (partSize * s) partRight partSize (partNumbers x) (heldOf (x .right)) (at .field) (omega arith)
+      (held-among (take partRight (partNumbers x)) (heldOf (x .right)) [])
 
 module _ (p : List ℕ) (s : ℕ) where
   pub first-part : (r : Rule) → Stands p s r → PartAt p s (partOf (s + parts r) (headOf r))

@@ -1,5 +1,5 @@
 -- The parts of a rule that fits its tables have small numbers; and numbers that are noted as naturals come back as they are published.
-use mathlib.Core.Path.{_≡_, refl, sym, ap, ap₂, subst, _∙_}
+use mathlib.Core.Path.{_≡_, refl, sym, ap, subst, _∙_}
 use mathlib.Core.Bool.{Bool, true, false, cond}
 use mathlib.Core.List.{List, [], _∷_, _++_, append-assoc, append-nil}
 use mathlib.Core.Logic.{⊎-elim}
@@ -24,14 +24,14 @@ use Rattle.rule.proofs.Groups.{kind-bounds}
 use Rattle.rule.specs.declared.TaggedValue.{TaggedValue}
 use Rattle.rule.specs.declared.Part.{Part}
 use Rattle.names.specs.Code.{partSize, partsNumbers}
-use Rattle.parts.specs.Parts.{PartAt, signedOf, taggedFrom, partIn, partsIn, Signable, SmallPart}
-use Rattle.parts.proofs.Parts.{heldNumber, one-from, part-kind, part-comparison, part-table, part-end, part-left-tag, part-left-number, part-right-tag, part-right-number}
+use Rattle.scopes.specs.Code.{heldOf}
+use Rattle.parts.specs.Parts.{PartAt, taggedFrom, partIn, partsIn, Publishable, SmallPart}
+use Rattle.parts.proofs.Parts.{one-from, part-kind, part-comparison, part-table, part-end, part-left, part-right}
 use Rattle.cells.proofs.Signed.{from-to, excess-small}
 
 pub record SmallValue (v : TaggedValue) : Type 0 where
-  pub tag-small : v .tag < 256
-  pub signable : Signable (v .tag) (heldNumber v)
-  pub back : signedOf (v .tag) (heldNumber v) ≡ v .number
+  pub signable : Publishable (heldOf v)
+  pub back : taggedFrom (heldOf v) ≡ v
 
 pub record SmallFields (p : Part) : Type 0 where
   pub kind-small : p .kind < 256
@@ -65,10 +65,10 @@ used-small true n h = h
 used-small false n h = omega arith
 
 unused-small : SmallValue (taggedOf unusedValue)
-unused-small = record { tag-small = omega arith; signable = record { whole = omega arith; column = λ f. omega arith }; back = refl }
+unused-small = record { signable = record { bytes = record { tag-byte = omega arith; number-small = omega arith }; column = λ f. omega arith }; back = refl }
 
 any-small : SmallValue (taggedOf anyValue)
-any-small = record { tag-small = omega arith; signable = record { whole = omega arith; column = λ f. absurd (f refl) }; back = refl }
+any-small = record { signable = record { bytes = record { tag-byte = omega arith; number-small = omega arith }; column = λ f. absurd (f refl) }; back = refl }
 
 used-value-small : (b : Bool) (v : Value) → SmallValue (taggedOf v) → SmallValue (taggedOf (cond b v unusedValue))
 used-value-small true v h = h
@@ -94,9 +94,8 @@ module _ (columns : List ℕ) (few : length columns < 256) (narrow : (t : ℕ) �
   value-small : (levels : List ℕ) (v : Value) → length levels < constantTag → ValueFits columns levels v → SmallValue (taggedOf v)
   value-small levels (Constant k) h f =
       record {
-        tag-small = omega arith;
-        signable = record { whole = excess-small k f; column = λ g. absurd (g refl) };
-        back = from-to k f;
+        signable = record { bytes = record { tag-byte = omega arith; number-small = excess-small k f }; column = λ g. absurd (g refl) };
+        back = ap (λ (z : ℤ). record { tag = constantTag; number = z }) (from-to k f);
       }
   value-small levels (Column l c) h f =
       let level = f .0 in
@@ -104,8 +103,7 @@ module _ (columns : List ℕ) (few : length columns < 256) (narrow : (t : ℕ) �
       let few-columns = narrow (getD levels l 0) in
       let other : eqb l constantTag ≡ false = ne-eqb l constantTag (λ e. omega arith) in
       record {
-        tag-small = omega arith;
-        signable = record { whole = rw other (omega arith); column = λ g. rw other (omega arith) };
+        signable = record { bytes = record { tag-byte = omega arith; number-small = rw other (omega arith) }; column = λ g. rw other (omega arith) };
         back = rw other;
       }
 
@@ -165,10 +163,6 @@ made k c t e l r = record { kind = k; comparison = c; table = t; end = e; left =
 same-part : {k c t e k′ c′ t′ e′ : ℕ} {l r l′ r′ : TaggedValue} → k ≡ k′ → c ≡ c′ → t ≡ t′ → e ≡ e′ → l ≡ l′ → r ≡ r′ → made k c t e l r ≡ made k′ c′ t′ e′ l′ r′
 same-part a b c d e f = cc
 
--- a value from its two numbers
-value-is : {tag n : ℕ} {v : TaggedValue} → tag ≡ v .tag → n ≡ heldNumber v → signedOf (v .tag) (heldNumber v) ≡ v .number → taggedFrom tag n ≡ v
-value-is {v = v} e f back = ap₂ taggedFrom e f ∙ ap (λ (z : ℤ). record { tag = v .tag; number = z }) back
-
 module _ (l : List ℕ) where
   -- one part
   module _ (k : ℕ) (p : Part) (at : PartAt l k p) (s : SmallFields p) where
@@ -179,10 +173,8 @@ module _ (l : List ℕ) where
           comparison = rw (part-comparison at) (s .comparison-small);
           table = rw (part-table at) (s .table-small);
           end = rw (part-end at) (s .end-small);
-          left-tag = rw (part-left-tag at) (s .left-small .tag-small);
-          left-number = rw (part-left-tag at, part-left-number at) (s .left-small .signable);
-          right-tag = rw (part-right-tag at) (s .right-small .tag-small);
-          right-number = rw (part-right-tag at, part-right-number at) (s .right-small .signable);
+          left = subst Publishable (sym (part-left at)) (s .left-small .signable);
+          right = subst Publishable (sym (part-right at)) (s .right-small .signable);
         }
 
     -- the record that its numbers stand for
@@ -193,8 +185,8 @@ module _ (l : List ℕ) where
         (part-comparison at)
         (part-table at)
         (part-end at)
-        (value-is (part-left-tag at) (part-left-number at) (s .left-small .back))
-        (value-is (part-right-tag at) (part-right-number at) (s .right-small .back))
+        (ap taggedFrom (part-left at) ∙ s .left-small .back)
+        (ap taggedFrom (part-right at) ∙ s .right-small .back)
 
   -- those from part k on
   from-part : (ps : List Part) (k : ℕ) → EachSmall ps → take (partSize * length ps) (drop (partSize * k) l) ≡ partsNumbers ps

@@ -8,12 +8,14 @@ use lib.Dec.{eqb}
 use lib.IntN.{ℤ, pos}
 use lib.ListN.{getD}
 use Rattle.tables.specs.Values.{constantTag}
-use Rattle.cells.specs.Code.{words32, fromExcess}
+use Rattle.cells.specs.Code.{fromExcess}
+use Rattle.values.specs.Code.{heldAt, FitsBytes}
+use Rattle.values.specs.declared.HeldValue.{HeldValue}
 use Rattle.rule.specs.Condition.{Atom, Join, Apply, Exists, Listed, Rule, parts}
 use Rattle.rule.specs.Parts.{AtomHead, JoinHead, UnaryHead, ExistsHead, ListedHead, partOf}
 use Rattle.rule.specs.declared.TaggedValue.{TaggedValue}
 use Rattle.rule.specs.declared.Part.{Part}
-use Rattle.names.specs.Code.{partSize, partComparison, partTable, partEnd, partLeftTag, partLeftNumber, partRightTag, partRightNumber, partNumbers}
+use Rattle.names.specs.Code.{partSize, partComparison, partTable, partEnd, partLeft, partRight, partNumbers}
 
 -- part s is this one
 pub record PartAt (p : List ℕ) (s : ℕ) (x : Part) : Type 0 where
@@ -29,13 +31,12 @@ Stands p s (Listed q op l r f w) = PartAt p s (partOf (s + (1 + parts w)) (Liste
 
 -- ---- as they are published
 
--- a value's number by its tag: a constant less 2 ^ 31, or a column
-abbrev pub signedOf : ℕ → ℕ → ℤ
-signedOf tag n = cond (eqb tag constantTag) (fromExcess n) (pos n)
+-- a value, from how it is held: its number is a constant less 2 ^ 31, or a column
+abbrev pub signedOf : HeldValue → ℤ
+signedOf v = cond (eqb (v .tag) constantTag) (fromExcess (v .number)) (pos (v .number))
 
--- the value of a tag and a number
-abbrev pub taggedFrom : ℕ → ℕ → TaggedValue
-taggedFrom tag n = record { tag = tag; number = signedOf tag n }
+abbrev pub taggedFrom : HeldValue → TaggedValue
+taggedFrom v = record { tag = v .tag; number = signedOf v }
 
 -- the part that stands at number i, and the first n
 abbrev pub partIn : List ℕ → ℕ → Part
@@ -44,18 +45,18 @@ partIn l i = record {
   comparison = getD l (partSize * i + partComparison) 0;
   table = getD l (partSize * i + partTable) 0;
   end = getD l (partSize * i + partEnd) 0;
-  left = taggedFrom (getD l (partSize * i + partLeftTag) 0) (getD l (partSize * i + partLeftNumber) 0);
-  right = taggedFrom (getD l (partSize * i + partRightTag) 0) (getD l (partSize * i + partRightNumber) 0);
+  left = taggedFrom (heldAt l (partSize * i + partLeft));
+  right = taggedFrom (heldAt l (partSize * i + partRight));
 }
 
 unfoldable pub partsIn : List ℕ → ℕ → List Part
 partsIn l zero = []
 partsIn l (suc n) = partsIn l n ++ (partIn l n ∷ [])
 
--- a number that a value can have: 32 bits, and a byte where it is a column
-pub record Signable (tag n : ℕ) : Type 0 where
-  pub whole : n < words32
-  pub column : (tag ≡ constantTag → ⊥) → n < 256
+-- a value that can be published: its tag has a byte, its number 32 bits, and a byte where it is a column
+pub record Publishable (v : HeldValue) : Type 0 where
+  pub bytes : FitsBytes v
+  pub column : (v .tag ≡ constantTag → ⊥) → v .number < 256
 
 -- its fields have a byte each, but for the numbers of its values
 pub record SmallPart (l : List ℕ) (i : ℕ) : Type 0 where
@@ -63,10 +64,8 @@ pub record SmallPart (l : List ℕ) (i : ℕ) : Type 0 where
   pub comparison : getD l (partSize * i + partComparison) 0 < 256
   pub table : getD l (partSize * i + partTable) 0 < 256
   pub end : getD l (partSize * i + partEnd) 0 < 256
-  pub left-tag : getD l (partSize * i + partLeftTag) 0 < 256
-  pub left-number : Signable (getD l (partSize * i + partLeftTag) 0) (getD l (partSize * i + partLeftNumber) 0)
-  pub right-tag : getD l (partSize * i + partRightTag) 0 < 256
-  pub right-number : Signable (getD l (partSize * i + partRightTag) 0) (getD l (partSize * i + partRightNumber) 0)
+  pub left : Publishable (heldAt l (partSize * i + partLeft))
+  pub right : Publishable (heldAt l (partSize * i + partRight))
 
 abbrev pub SmallParts : List ℕ → ℕ → Type 0
 SmallParts l n = (i : ℕ) → i < n → SmallPart l i

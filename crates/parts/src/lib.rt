@@ -1,12 +1,16 @@
-// The parts of a rule as numbers in an array: how many entries the rule's card has.
+// The parts of a rule as numbers in an array: the values of a part, and how many entries the rule's card has.
 // Short names: p, the parts as numbers; s, the number of the first part, and n, of the first one behind the last.
 ghost use mathlib.Core.Path.{_≡_};
 ghost use Prim.Native.Nat.{ℕ, _+_, _*_, _<_, _≤_};
+ghost use lib.ListN.{length};
 ghost use Rattle.tables.specs.Values.{mostEntries};
+ghost use Rattle.values.specs.Code.{heldSize, heldAt};
 ghost use Rattle.rule.specs.Truth.{Unknown};
 ghost use Rattle.rule.specs.Condition.{Is};
+ghost use Rattle.rule.specs.Names.{mostParts};
 ghost use Rattle.rule.specs.Parts.{Kind, kindNumber, unaryKind};
 ghost use Rattle.rule.specs.Groups.{KindNumber};
+ghost use Rattle.names.specs.Code.{partSize, partsSize};
 ghost use Rattle.parts.specs.Code.{ownEntries, Capped, Countable, CountedTo};
 use names::PART_END;
 use names::PART_FIELDS;
@@ -26,6 +30,17 @@ use rule::NULL_PART;
 use rule::OR_PART;
 use rule::SOME_PART;
 use tables::MOST_ENTRIES;
+use values::HeldValue;
+use values::held_at;
+
+// The value that part s holds from its number k on. Functions that evaluate parts hand the array to it: were a slice of the array made in them, the compiler
+// would not see there that the array stays as it is, and would look at a part's kind again for each row.
+pub fn part_value(p: &[usize; PART_NUMBERS], s: usize, k: usize) -> HeldValue
+    requires { ⌜ length (now p) ≡ partsSize ⌝ ∗ ⌜ s < mostParts ⌝ ∗ ⌜ k + heldSize ≤ partSize ⌝ }
+    ensures { λ r. ⌜ r ≡ heldAt (now (p .entry)) (partSize * s + k) ⌝ }
+{
+    held_at(p, PART_FIELDS * s + k)
+}
 
 // The entries that a part has besides those of its inner parts, where it uses these once: NOT has none, nor have IS TRUE, IS FALSE and their negations, and a
 // list has its row entry, its AND or OR, and its comparison. With an arm for each kind the compiler looks the number up in a table; with kinds that

@@ -1,9 +1,9 @@
 -- How a test begins at a place, by the numbers that stand there: what startList, startValue and start find.
-use mathlib.Core.Path.{_≡_, refl, subst}
+use mathlib.Core.Path.{_≡_, refl, sym, subst}
 use mathlib.Core.Bool.{Bool, true, false}
-use mathlib.Core.List.{List, [], _∷_}
+use mathlib.Core.List.{List, _∷_, _++_}
 use mathlib.Core.Option.{none, some}
-use Prim.Native.Nat.{ℕ, _+_, _≤_}
+use Prim.Native.Nat.{ℕ, _+_}
 use native.Mathlib.Omega.{arith}
 use borrow.Author.Tests.{eqb-true}
 use lib.Dec.{eqb}
@@ -17,7 +17,8 @@ use Rattle.rule.specs.Condition.{WrittenValue, parts, fromsDeep}
 use Rattle.rule.specs.Parts.{listKind}
 use Rattle.rule.specs.Reader.{readValue, readFrom, Around, OfList, startList}
 use Rattle.lexer.specs.Code.{codeOf}
-use Rattle.phrases.specs.Code.{tokensFrom, writtenNumbers, writtenOf, fromOf, noteNumbers, noted, ValueIs, ValueAt, FromIs, FromAt, AroundIs}
+use Rattle.phrases.specs.Code.{tokensFrom, notedNumbers, notedOf, writtenOf, fromOf, noteNumbers, noted, IsComparison, ValueIs, ValueAt, FromIs, FromAt, AroundIs}
+use Rattle.phrases.specs.declared.NotedValue.{NotedValue}
 use Rattle.phrases.specs.declared.Note.{Note}
 use Rattle.phrases.specs.declared.ValueRead.{ValueRead}
 use Rattle.phrases.specs.declared.ValueRead.the-variants.{Value as ReadValue, NoValue}
@@ -28,7 +29,7 @@ use Rattle.phrases.proofs.Tokens.{expect-to, expect-no}
 -- ---- what a call answered
 
 module _ (s : List ℕ) (at : ℕ) where
-  pub value-is : {r : ValueRead} {x n next : ℕ} → r ≡ ReadValue x n next → ValueAt s at r → ValueIs s at x n next
+  pub value-is : {r : ValueRead} {v : NotedValue} {next : ℕ} → r ≡ ReadValue v next → ValueAt s at r → ValueIs s at v next
   value-is e h = subst (ValueAt s at) e h
 
   pub value-missing : {r : ValueRead} → r ≡ NoValue → ValueAt s at r → readValue (tokensFrom s at) ≡ none
@@ -42,12 +43,12 @@ module _ (s : List ℕ) (at : ℕ) where
 
 -- ---- the numbers of what was read
 
-pub value-numbers : (x n : ℕ) → writtenNumbers (writtenOf x n) ≡ x ∷ n ∷ []
-value-numbers x n = go (eqb x 0) refl
+pub value-noted : (v : NotedValue) → notedOf (writtenOf v) ≡ v
+value-noted v = go (eqb (v .letter) 0) refl
   where
-    go : (b : Bool) → eqb x 0 ≡ b → writtenNumbers (writtenOf x n) ≡ x ∷ n ∷ []
-    go true e = rw (e, to-from n, eqb-true x 0 e)
-    go false e = rw (e, to-from n)
+    go : (b : Bool) → eqb (v .letter) 0 ≡ b → notedOf (writtenOf v) ≡ v
+    go true e = rw (e, to-from (v .number), sym (eqb-true (v .letter) 0 e))
+    go false e = rw (e, to-from (v .number))
 
 -- ---- ( SELECT value FROM number letter WHERE
 
@@ -71,23 +72,23 @@ module _ (s : List ℕ) (at : ℕ) where
         pub no-listed : readValue (tokensFrom s (at + 2)) ≡ none → startList q op l (tokensFrom s at) ≡ none
         no-listed e = rw (behind-select, e)
 
-        module _ (r m behind : ℕ) (v : ValueIs s (at + 2) r m behind) where
+        module _ (r : NotedValue) (behind : ℕ) (v : ValueIs s (at + 2) r behind) where
           pub no-source : readFrom (tokensFrom s behind) ≡ none → startList q op l (tokensFrom s at) ≡ none
           no-source e = rw (behind-select, v .found, e)
 
           pub list-found : (t y next : ℕ) → FromIs s behind t y next
-              → startList q op l (tokensFrom s at) ≡ some (Around (OfList q op l (writtenOf r m) (fromOf t y)) (tokensFrom s next))
+              → startList q op l (tokensFrom s at) ≡ some (Around (OfList q op l (writtenOf r) (fromOf t y)) (tokensFrom s next))
           list-found t y next f = rw (behind-select, v .found, f .found)
 
-  module _ (q : Quantifier) (kind c x n : ℕ) (low : 1 ≤ c) (high : c ≤ 6) (k : kind ≡ listKind q) (bracket : getD s at 0 ≡ codeOf Open) (select : getD s (at + 1) 0 ≡ codeOf SELECT)
-      (r m behind : ℕ) (v : ValueIs s (at + 2) r m behind) (t y next : ℕ) (f : FromIs s behind t y next)
+  module _ (q : Quantifier) (kind c : ℕ) (l : NotedValue) (op : IsComparison c) (k : kind ≡ listKind q) (bracket : getD s at 0 ≡ codeOf Open) (select : getD s (at + 1) 0 ≡ codeOf SELECT)
+      (r : NotedValue) (behind : ℕ) (v : ValueIs s (at + 2) r behind) (t y next : ℕ) (f : FromIs s behind t y next)
     where
-      pub a-list : (note : Note) → noteNumbers note ≡ kind ∷ c ∷ t ∷ y ∷ x ∷ n ∷ r ∷ m ∷ [] → AroundIs s at (startList q (comparisonOf c) (writtenOf x n) (tokensFrom s at)) note next
+      pub a-list : (note : Note) → noteNumbers note ≡ kind ∷ c ∷ t ∷ y ∷ (notedNumbers l ++ notedNumbers r) → AroundIs s at (startList q (comparisonOf c) (writtenOf l) (tokensFrom s at)) note next
       unfolding noted parts fromsDeep
       a-list note e = record {
-        opening = OfList q (comparisonOf c) (writtenOf x n) (writtenOf r m) (fromOf t y);
-        found = list-found q (comparisonOf c) (writtenOf x n) bracket select r m behind v t y next f;
-        notes = λ w. rw (e, to-from t, comparison-number c low high, value-numbers x n, value-numbers r m, k);
+        opening = OfList q (comparisonOf c) (writtenOf l) (writtenOf r) (fromOf t y);
+        found = list-found q (comparisonOf c) (writtenOf l) bracket select r behind v t y next f;
+        notes = λ w. rw (e, to-from t, comparison-number c (op .0) (op .1), value-noted l, value-noted r, k);
         one = λ w. refl;
         deeper = λ w. refl;
         untested = λ a rest. refl;

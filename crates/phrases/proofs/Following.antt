@@ -1,6 +1,6 @@
 -- What startValue finds behind a value, and start at a test, by the numbers that stand there.
-use mathlib.Core.Path.{_≡_, refl}
-use mathlib.Core.List.{List, [], _∷_}
+use mathlib.Core.Path.{_≡_, refl, subst}
+use mathlib.Core.List.{List, _∷_, _++_}
 use mathlib.Core.Option.{Option, none, some}
 use Prim.Native.Nat.{ℕ, _+_, _-_, _<_, _≤_}
 use native.Mathlib.Omega.{arith}
@@ -12,15 +12,18 @@ use Rattle.cells.proofs.Signed.{to-from}
 use Rattle.rule.specs.Tokens.{Token, NOT, EXISTS, IN, SOME, ALL, IS, NULL, Open}
 use Rattle.rule.specs.Condition.{Compare, Mark, Atom, WrittenValue, parts, fromsDeep}
 use Rattle.rule.specs.Parts.{compareKind, markKind, existsKind, listKind}
-use Rattle.rule.specs.Reader.{expect, readValue, readFrom, Start, Whole, Around, OfExists, startList, startValue, start}
+use Rattle.rule.specs.Reader.{expect, readValue, readFrom, Bracket, Start, Whole, Around, OfExists, startList, startValue, start}
 use Rattle.lexer.specs.Code.{comparesCode, letterCode, codeOf}
-use Rattle.phrases.specs.Code.{tokensFrom, writtenOf, fromOf, noteNumbers, leftNumbers, noted, Moved, ValueIs, FromIs, WholeIs, AroundIs, BracketIs, Starts, ListAt, BehindAt, TestAt}
+use Rattle.phrases.specs.Code.{tokensFrom, notedNumbers, writtenOf, unusedNoted, fromOf, noteNumbers, leftNumbers, noted, Moved, ValueIs, FromIs, WholeIs, AroundIs, Starts, ListAt, comparedWith, ComparisonAt, FollowedAt, IsComparison, ListBehind, ValueBehind, BehindAt, TestAt}
+use Rattle.phrases.specs.declared.NotedValue.{NotedValue}
 use Rattle.phrases.specs.declared.Note.{Note}
 use Rattle.phrases.specs.declared.Start.{Start as Started}
-use Rattle.phrases.specs.declared.Start.the-variants.{Whole as StartedWhole, Around as StartedAround, Bracket as StartedBracket, NoTest}
+use Rattle.phrases.specs.declared.Start.the-variants.{Whole as StartedWhole, Around as StartedAround, NoTest}
+use Rattle.phrases.specs.declared.Behind.{Behind}
+use Rattle.phrases.specs.declared.Behind.the-variants.{List as BehindList, Value as BehindValue, Nothing}
 use Rattle.phrases.proofs.Tokens.{expect-to, expect-no, comparison-to, comparison-no}
 use Rattle.phrases.proofs.Runs.{moved, no-value}
-use Rattle.phrases.proofs.Begun.{value-numbers}
+use Rattle.phrases.proofs.Begun.{value-noted}
 
 -- ---- a start that is found farther on is the start here
 
@@ -32,7 +35,6 @@ starts-as s at later found begun (StartedWhole note next) p e h =
     record { whole = h .whole; found = rw (e) (h .found); notes = h .notes; one = h .one; flat = h .flat; moved = earlier p (h .moved) }
 starts-as s at later found begun (StartedAround note next) p e h =
     record { opening = h .opening; found = rw (e) (h .found); notes = h .notes; one = h .one; deeper = h .deeper; untested = h .untested; moved = earlier p (h .moved) }
-starts-as s at later found begun (StartedBracket next) p e h = record { found = rw (e) (h .found); moved = earlier p (h .moved) }
 starts-as s at later found begun NoTest p e h = rw (e) h
 
 -- alternatives behind one that are none
@@ -46,6 +48,10 @@ or-none (some x) = refl
 abbrev listWord : Quantifier → Token
 listWord Some = SOME
 listWord All = ALL
+
+word-positive : (q : Quantifier) → 0 < codeOf (listWord q)
+word-positive Some = omega arith
+word-positive All = omega arith
 
 module _ (l : WrittenValue) (s : List ℕ) (at : ℕ) where
   -- IS NULL, IS NOT NULL
@@ -117,12 +123,8 @@ module _ (l : WrittenValue) (s : List ℕ) (at : ℕ) where
           expect-to s (at + 1) (codeOf ALL) (at + 2) tt (omega arith) u,
         )
 
-    pub nothing-compared :
-        (getD s (at + 1) 0 ≡ codeOf SOME → ⊥) → (getD s (at + 1) 0 ≡ codeOf ALL → ⊥) → readValue (tokensFrom s (at + 1)) ≡ none → startValue l (tokensFrom s at) ≡ none
-    nothing-compared f g e = rw (behind-comparison, e, expect-no s (at + 1) (codeOf SOME) f, expect-no s (at + 1) (codeOf ALL) g)
-
-    pub compared-found : (r m next : ℕ) → ValueIs s (at + 1) r m next → startValue l (tokensFrom s at) ≡ some (Whole (Atom (Compare op l (writtenOf r m))) (tokensFrom s next))
-    compared-found r m next v = rw (behind-comparison, v .found)
+    pub compared-found : (getD s (at + 1) 0 ≡ codeOf SOME → ⊥) → (getD s (at + 1) 0 ≡ codeOf ALL → ⊥) → startValue l (tokensFrom s at) ≡ comparedWith op l (tokensFrom s (at + 1))
+    compared-found f g = rw (behind-comparison, expect-no s (at + 1) (codeOf SOME) f, expect-no s (at + 1) (codeOf ALL) g) (simp or-none)
 
   -- IN, NOT IN, and nothing of all
   pub in-found : getD s at 0 ≡ codeOf IN → startValue l (tokensFrom s at) ≡ startList Some Eq l (tokensFrom s (at + 1))
@@ -159,53 +161,104 @@ module _ (l : WrittenValue) (s : List ℕ) (at : ℕ) where
   unfolding startValue
   nothing-behind f g h k = rw (expect-no s at (codeOf IS) f, comparison-no s at k, expect-no s at (codeOf IN) g, expect-no s at (codeOf NOT) h)
 
--- the same, as what the functions answer: x and n are the value's numbers
-module _ (x n : ℕ) (s : List ℕ) (at : ℕ) where
+-- the same, as what the functions answer: l is the value
+module _ (l : NotedValue) (s : List ℕ) (at : ℕ) where
   -- a test by the mark, up to the place behind it
-  a-mark : (m : MarkTest) (note : Note) (next : ℕ) → startValue (writtenOf x n) (tokensFrom s at) ≡ some (Whole (Atom (Mark m (writtenOf x n))) (tokensFrom s next))
-      → noteNumbers note ≡ leftNumbers (markKind m) x n → Moved s at next → WholeIs s at (startValue (writtenOf x n) (tokensFrom s at)) note next
+  a-mark : (m : MarkTest) (note : Note) (next : ℕ) → startValue (writtenOf l) (tokensFrom s at) ≡ some (Whole (Atom (Mark m (writtenOf l))) (tokensFrom s next))
+      → noteNumbers note ≡ leftNumbers (markKind m) l → Moved s at next → WholeIs s at (startValue (writtenOf l) (tokensFrom s at)) note next
   unfolding noted parts fromsDeep
   a-mark m note next found e h =
-      record { whole = Atom (Mark m (writtenOf x n)); found = found; notes = rw (e, value-numbers x n); one = refl; flat = refl; moved = h }
+      record { whole = Atom (Mark m (writtenOf l)); found = found; notes = rw (e, value-noted l); one = refl; flat = refl; moved = h }
 
   module _ (is : getD s at 0 ≡ codeOf IS) (note : Note) where
-    pub a-null : getD s (at + 1) 0 ≡ codeOf NULL → noteNumbers note ≡ leftNumbers (markKind Null) x n → WholeIs s at (startValue (writtenOf x n) (tokensFrom s at)) note (at + 2)
-    a-null u e = a-mark Null note (at + 2) (null-found (writtenOf x n) s at is u) e (moved s at (at + 1) (at + 2) (omega arith) (omega arith) (omega arith))
+    pub a-null : getD s (at + 1) 0 ≡ codeOf NULL → noteNumbers note ≡ leftNumbers (markKind Null) l → WholeIs s at (startValue (writtenOf l) (tokensFrom s at)) note (at + 2)
+    a-null u e = a-mark Null note (at + 2) (null-found (writtenOf l) s at is u) e (moved s at (at + 1) (at + 2) (omega arith) (omega arith) (omega arith))
 
     pub a-not-null :
-        getD s (at + 1) 0 ≡ codeOf NOT → getD s (at + 2) 0 ≡ codeOf NULL → noteNumbers note ≡ leftNumbers (markKind NotNull) x n
-        → WholeIs s at (startValue (writtenOf x n) (tokensFrom s at)) note (at + 3)
+        getD s (at + 1) 0 ≡ codeOf NOT → getD s (at + 2) 0 ≡ codeOf NULL → noteNumbers note ≡ leftNumbers (markKind NotNull) l
+        → WholeIs s at (startValue (writtenOf l) (tokensFrom s at)) note (at + 3)
     a-not-null u w e =
-        a-mark NotNull note (at + 3) (not-null-found (writtenOf x n) s at is u w) e (moved s at (at + 2) (at + 3) (omega arith) (omega arith) (omega arith))
+        a-mark NotNull note (at + 3) (not-null-found (writtenOf l) s at is u w) e (moved s at (at + 2) (at + 3) (omega arith) (omega arith) (omega arith))
+
+  -- a comparison with the value that stands here
+  module _ (c : ℕ) (op : IsComparison c) (r : NotedValue) (next : ℕ) (v : ValueIs s at r next) where
+    pub a-comparison : (note : Note) → noteNumbers note ≡ compareKind ∷ c ∷ 0 ∷ 0 ∷ (notedNumbers l ++ notedNumbers r)
+        → WholeIs s at (comparedWith (comparisonOf c) (writtenOf l) (tokensFrom s at)) note next
+    unfolding noted parts fromsDeep
+    a-comparison note e = record {
+      whole = Atom (Compare (comparisonOf c) (writtenOf l) (writtenOf r));
+      found = rw (v .found);
+      notes = rw (e, comparison-number c (op .0) (op .1), value-noted l, value-noted r);
+      one = refl;
+      flat = refl;
+      moved = v .moved;
+    }
+
+  -- a list, or a value, that is found behind
+  pub a-listed : {kind c next : ℕ} → ListBehind s at kind c next → (r : Started) → ListAt s next kind c l r → FollowedAt s at l r
+  a-listed {next} b r h = starts-as s at next _ _ r (omega (arith, b .moved .later)) (b .found (writtenOf l)) (h (b .quantifier) (b .kind-is))
+
+  pub a-compared : {c next : ℕ} → ValueBehind s at c next → (r : Started) → ComparisonAt s next c l r → FollowedAt s at l r
+  a-compared {next} b r h = starts-as s at next _ _ r (omega (arith, b .moved .later)) (b .found (writtenOf l)) h
+
+-- ---- what stands behind any value
+
+module _ (s : List ℕ) (at : ℕ) where
+  -- what a call answered
+  pub list-is : {r : Behind} {kind c next : ℕ} → r ≡ BehindList kind c next → BehindAt s at r → ListBehind s at kind c next
+  list-is e h = subst (BehindAt s at) e h
+
+  pub compared-is : {r : Behind} {c next : ℕ} → r ≡ BehindValue c next → BehindAt s at r → ValueBehind s at c next
+  compared-is e h = subst (BehindAt s at) e h
+
+  pub nothing-is : {r : Behind} → r ≡ Nothing → BehindAt s at r → (l : WrittenValue) → startValue l (tokensFrom s at) ≡ none
+  nothing-is e h = subst (BehindAt s at) e h
+
+  pub an-in : getD s at 0 ≡ codeOf IN → ListBehind s at (listKind Some) (comparisonNumber Eq) (at + 1)
+  an-in is = record {
+    quantifier = Some;
+    kind-is = refl;
+    compares = (omega arith, omega arith);
+    found = λ l. in-found l s at is;
+    moved = moved s at at (at + 1) (omega arith) refl (omega arith);
+  }
+
+  pub a-not-in : getD s at 0 ≡ codeOf NOT → getD s (at + 1) 0 ≡ codeOf IN → ListBehind s at (listKind All) (comparisonNumber Ne) (at + 2)
+  a-not-in is u = record {
+    quantifier = All;
+    kind-is = refl;
+    compares = (omega arith, omega arith);
+    found = λ l. not-in-found l s at is u;
+    moved = moved s at (at + 1) (at + 2) (omega arith) (omega arith) (omega arith);
+  }
 
   -- t is the number of a comparison
   module _ (t : ℕ) (is : t ≡ getD s at 0) (low : comparesCode < t) (high : t < letterCode) where
-    pub a-comparison : (r m next : ℕ) → ValueIs s (at + 1) r m next → (note : Note) → noteNumbers note ≡ compareKind ∷ (t - comparesCode) ∷ 0 ∷ 0 ∷ x ∷ n ∷ r ∷ m ∷ []
-        → WholeIs s at (startValue (writtenOf x n) (tokensFrom s at)) note next
-    unfolding noted parts fromsDeep
-    a-comparison r m next v note e = record {
-      whole = Atom (Compare (comparisonOf (t - comparesCode)) (writtenOf x n) (writtenOf r m));
-      found = rw (is) (compared-found (writtenOf x n) s at (omega arith) (omega arith) r m next v);
-      notes = rw (e, comparison-number (t - comparesCode) (omega arith) (omega arith), value-numbers x n, value-numbers r m);
-      one = refl;
-      flat = refl;
-      moved = earlier (omega arith) (v .moved);
+    pub a-quantified : (q : Quantifier) → getD s (at + 1) 0 ≡ codeOf (listWord q) → ListBehind s at (listKind q) (t - comparesCode) (at + 2)
+    a-quantified q u = record {
+      quantifier = q;
+      kind-is = refl;
+      compares = (omega arith, omega arith);
+      found = λ l. rw (is) (listed-found l s at (omega arith) (omega arith) q u);
+      moved = moved s at (at + 1) (at + 2) (omega arith) (omega arith) (rw (u) (word-positive q));
     }
 
-    pub a-listed : (q : Quantifier) → getD s (at + 1) 0 ≡ codeOf (listWord q) → (r : Started) → ListAt s (at + 2) (listKind q) (t - comparesCode) x n r → BehindAt s at x n r
-    a-listed q u r h =
-        starts-as s at (at + 2) _ _ r (omega arith) (rw (is) (listed-found (writtenOf x n) s at (omega arith) (omega arith) q u)) (h q refl)
-
-  pub an-in : getD s at 0 ≡ codeOf IN → (r : Started) → ListAt s (at + 1) (listKind Some) (comparisonNumber Eq) x n r → BehindAt s at x n r
-  an-in is r h = starts-as s at (at + 1) _ _ r (omega arith) (in-found (writtenOf x n) s at is) (h Some refl)
-
-  pub a-not-in : getD s at 0 ≡ codeOf NOT → getD s (at + 1) 0 ≡ codeOf IN → (r : Started) → ListAt s (at + 2) (listKind All) (comparisonNumber Ne) x n r → BehindAt s at x n r
-  a-not-in is u r h = starts-as s at (at + 2) _ _ r (omega arith) (not-in-found (writtenOf x n) s at is u) (h All refl)
+    pub a-second : (getD s (at + 1) 0 ≡ codeOf SOME → ⊥) → (getD s (at + 1) 0 ≡ codeOf ALL → ⊥) → ValueBehind s at (t - comparesCode) (at + 1)
+    a-second f g = record {
+      compares = (omega arith, omega arith);
+      found = λ l. rw (is) (compared-found l s at (omega arith) (omega arith) f g);
+      moved = moved s at at (at + 1) (omega arith) refl (omega arith);
+    }
 
 -- ---- a test
 
 module _ (s : List ℕ) (at : ℕ) where
-  pub a-bracket : getD s at 0 ≡ codeOf Open → BracketIs s at (start (tokensFrom s at)) (at + 1)
+  -- a bracket alone makes no part
+  pub record BracketIs (next : ℕ) : Type 0 where
+    pub found : start (tokensFrom s at) ≡ some (Around Bracket (tokensFrom s next))
+    pub moved : Moved s at next
+
+  pub a-bracket : getD s at 0 ≡ codeOf Open → BracketIs (at + 1)
   unfolding start
   a-bracket is = record {
     found = rw (expect-to s at (codeOf Open) (at + 1) tt refl is);
@@ -230,7 +283,7 @@ module _ (s : List ℕ) (at : ℕ) where
       no-rows e = rw (behind-bracket, e)
 
       pub an-exists :
-          (t y next : ℕ) → FromIs s (at + 2) t y next → (note : Note) → noteNumbers note ≡ existsKind ∷ 0 ∷ t ∷ y ∷ 0 ∷ 0 ∷ 0 ∷ 0 ∷ []
+          (t y next : ℕ) → FromIs s (at + 2) t y next → (note : Note) → noteNumbers note ≡ existsKind ∷ 0 ∷ t ∷ y ∷ (notedNumbers unusedNoted ++ notedNumbers unusedNoted)
           → AroundIs s at (start (tokensFrom s at)) note next
       unfolding noted parts fromsDeep
       an-exists t y next f note e = record {
@@ -251,5 +304,5 @@ module _ (s : List ℕ) (at : ℕ) where
     pub no-test : readValue (tokensFrom s at) ≡ none → start (tokensFrom s at) ≡ none
     no-test e = rw (value-first, e)
 
-    pub a-value-test : (x n next : ℕ) → ValueIs s at x n next → (r : Started) → BehindAt s next x n r → TestAt s at r
-    a-value-test x n next v r h = starts-as s at next _ _ r (omega (arith, v .moved .later)) (rw (value-first, v .found)) h
+    pub a-value-test : (l : NotedValue) (next : ℕ) → ValueIs s at l next → (r : Started) → FollowedAt s next l r → TestAt s at r
+    a-value-test l next v r h = starts-as s at next _ _ r (omega (arith, v .moved .later)) (rw (value-first, v .found)) h

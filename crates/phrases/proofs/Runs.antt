@@ -21,7 +21,7 @@ moved s at last next p e h = let l = there s last h in record { later = omega ar
 -- ---- a value: t, u and n stand here and behind
 
 module _ (s : List ℕ) (at t : ℕ) (is : t ≡ getD s at 0) where
-  pub plain-value : numberCode ≤ t → ValueIs s at 0 (t - numberCode) (at + 1)
+  pub plain-value : numberCode ≤ t → ValueIs s at (record { letter = 0; number = t - numberCode }) (at + 1)
   unfolding readValue
   plain-value h = record { found = rw (is, number-here s at (omega arith)); moved = moved s at at (at + 1) (omega arith) refl (omega arith) }
 
@@ -44,7 +44,7 @@ module _ (s : List ℕ) (at t : ℕ) (is : t ≡ getD s at 0) where
       pub no-column : n < numberCode → readValue (tokensFrom s at) ≡ none
       no-column h = rw (column-value, number-no s (at + 2) (omega arith))
 
-      pub named-value : numberCode ≤ n → ValueIs s at t (n - numberCode) (at + 3)
+      pub named-value : numberCode ≤ n → ValueIs s at (record { letter = t; number = n - numberCode }) (at + 3)
       named-value h = record {
         found = rw (column-value, number-to s (at + 2) (at + 3) (omega arith) (omega arith), ne-eqb t 0 (omega arith), behind);
         moved = moved s at (at + 2) (at + 3) (omega arith) (omega arith) (omega arith);

@@ -6,15 +6,14 @@ use mathlib.Core.Option.{Option, none, some}
 use Prim.Native.Nat.{ℕ, _+_, _<_, _≤_}
 use native.Mathlib.Omega.{arith}
 use lib.ListN.{getD}
-use Rattle.tables.specs.Lists.{_>>=_}
 use Rattle.rule.specs.Truth.{Truth, False, Unknown, True}
 use Rattle.rule.specs.Tokens.{Token, NOT, TRUE, FALSE, UNKNOWN}
 use Rattle.rule.specs.Grammar.{Tokens}
 use Rattle.rule.specs.Condition.{Unary, Is, IsNot}
 use Rattle.rule.specs.Parts.{unaryKind}
-use Rattle.rule.specs.Reader.{expect, readTruth, readTruthTest}
+use Rattle.rule.specs.Reader.{readTruth, readTruthTest}
 use Rattle.lexer.specs.Code.{codeOf}
-use Rattle.phrases.specs.Code.{tokensFrom, TruthIs, TruthTo, truthUnary, TruthWordAt, TruthTestAt}
+use Rattle.phrases.specs.Code.{tokensFrom, TruthTo, truthUnary, TruthWordAt, TruthTestAt}
 use Rattle.phrases.specs.declared.TruthRead.{TruthRead}
 use Rattle.phrases.specs.declared.TruthRead.the-variants.{Truth as ReadTruth, NoTruth}
 use Rattle.phrases.proofs.Tokens.{expect-to, expect-no}

@@ -2,11 +2,12 @@
 // Short names: s, the tokens; at, the place of one.
 ghost use mathlib.Core.Path.{_≡_};
 ghost use mathlib.Core.Bool.{cond};
-ghost use Prim.Native.Nat.{_<_, _≤_};
+ghost use Prim.Native.Nat.{_+_, _<_, _≤_};
 ghost use lib.ListN.{length, getD};
-ghost use Rattle.rule.specs.Tokens.{EXISTS, IS};
+ghost use Rattle.tables.specs.Lists.{placed};
+ghost use Rattle.rule.specs.Tokens.{EXISTS, IS, Open};
 ghost use Rattle.lexer.specs.Code.{mostTokens, comparesCode, letterCode, codeOf};
-ghost use Rattle.phrases.specs.Code.{noteNumbers, leftNumbers, ValueAt, FromAt, ListAt, BehindAt, TestAt, TruthWordAt, TruthTestAt};
+ghost use Rattle.phrases.specs.Code.{notedSize, notedNumbers, notedAt, unusedNoted, noteNumbers, leftNumbers, ValueAt, FromAt, ListAt, ComparisonAt, FollowedAt, IsComparison, BehindAt, TestAt, TruthWordAt, TruthTestAt};
 use lexer::ALL;
 use lexer::COMPARES;
 use lexer::EXISTS;
@@ -42,22 +43,59 @@ const EQUAL: usize = 1;
 
 const NOT_EQUAL: usize = 2;
 
-// What a part says by itself, as it is written: its kind and comparison as published, the number and the letter of its FROM, and its values. Numbers
-// are the written ones plus 2 ^ 31; the letter of a constant is 0, and so is whatever a kind does not use.
+// A value as it is written: the letter of a column, or 0 for a number alone, and the number plus 2 ^ 31.
+pub struct NotedValue {
+    pub letter: usize,
+    pub number: usize,
+}
+
+// How many elements of an array it takes.
+pub const NOTED_NUMBERS: usize = 2;
+
+// The value that stands in an array from element i on.
+pub fn noted_at(notes: &[usize], i: usize) -> NotedValue
+    requires { ⌜ i + notedSize ≤ length (now notes) ⌝ }
+    ensures { λ r. ⌜ r ≡ notedAt (now (notes .entry)) i ⌝ }
+{
+    NotedValue {
+        letter: notes[i],
+        number: notes[i + 1],
+    }
+}
+
+// It is put there.
+pub fn put_noted(notes: &mut [usize], i: usize, v: NotedValue)
+    requires { ⌜ i + notedSize ≤ length (now notes) ⌝ }
+    ensures { λ _. ⌜ now (notes .exit) ≡ placed (now (notes .entry)) i (notedNumbers v) ⌝ }
+{
+    notes[i] = v.letter;
+    notes[i + 1] = v.number;
+}
+
+// Stands where a part has no value.
+pub fn unused_noted() -> NotedValue
+    ensures { λ r. ⌜ r ≡ unusedNoted ⌝ }
+{
+    NotedValue {
+        letter: 0,
+        number: 0,
+    }
+}
+
+// What a part says by itself, as it is written: its kind and comparison as published, the number plus 2 ^ 31 and the letter of its FROM, and its values.
+// What a kind does not use is 0.
 pub struct Note {
     pub kind: usize,
     pub comparison: usize,
     pub table: usize,
     pub letter: usize,
-    pub left_letter: usize,
-    pub left_number: usize,
-    pub right_letter: usize,
-    pub right_number: usize,
+    pub left: NotedValue,
+    pub right: NotedValue,
 }
 
-// A value, its letter and its number, and the place after it.
+// A value, and the place after it.
 pub enum ValueRead {
-    Value(usize, usize, usize),
+    Value(NotedValue, usize),
     NoValue,
 }
 
@@ -67,11 +105,10 @@ pub enum FromRead {
     NoFrom,
 }
 
-// How a test begins: it is read to its end; or up to the condition that it holds, in brackets alone or as a part of its own; or there is no test.
+// How a test begins: it is read to its end; or up to the condition that it holds; or there is no test.
 pub enum Start {
     Whole { note: Note, next: usize },
     Around { note: Note, next: usize },
-    Bracket { next: usize },
     NoTest,
 }
 
@@ -99,7 +136,11 @@ fn read_value(s: &[usize], at: usize) -> ValueRead
 {
     let t = token(s, at);
     if NUMBER <= t {
-        return ValueRead::Value(0, t - NUMBER, at + 1);
+        let constant = NotedValue {
+            letter: 0,
+            number: t - NUMBER,
+        };
+        return ValueRead::Value(constant, at + 1);
     }
     if t <= COMPARES + 6 {
         return ValueRead::NoValue;
@@ -111,7 +152,11 @@ fn read_value(s: &[usize], at: usize) -> ValueRead
     if n < NUMBER {
         return ValueRead::NoValue;
     }
-    ValueRead::Value(t, n - NUMBER, at + 3)
+    let column = NotedValue {
+        letter: t,
+        number: n - NUMBER,
+    };
+    ValueRead::Value(column, at + 3)
 }
 
 // FROM number letter WHERE.
@@ -140,16 +185,9 @@ fn read_from(s: &[usize], at: usize) -> FromRead
 }
 
 // ( SELECT value FROM number letter WHERE, after the value and what compares it; the kind is that of SOME or ALL.
-fn start_list(
-    s: &[usize],
-    at: usize,
-    kind: usize,
-    comparison: usize,
-    letter: usize,
-    number: usize,
-) -> Start
-    requires { ⌜ length (now s) ≤ mostTokens ⌝ ∗ ⌜ at ≤ length (now s) ⌝ ∗ ⌜ (1 ≤ comparison) × (comparison ≤ 6) ⌝ }
-    ensures { λ r. ⌜ ListAt (now (s .entry)) at kind comparison letter number r ⌝ }
+fn start_list(s: &[usize], at: usize, kind: usize, comparison: usize, left: NotedValue) -> Start
+    requires { ⌜ length (now s) ≤ mostTokens ⌝ ∗ ⌜ at ≤ length (now s) ⌝ ∗ ⌜ IsComparison comparison ⌝ }
+    ensures { λ r. ⌜ ListAt (now (s .entry)) at kind comparison left r ⌝ }
 {
     if token(s, at) != OPEN {
         return Start::NoTest;
@@ -157,7 +195,7 @@ fn start_list(
     if token(s, at + 1) != SELECT {
         return Start::NoTest;
     }
-    let ValueRead::Value(right_letter, right_number, behind) = read_value(s, at + 2) else {
+    let ValueRead::Value(right, behind) = read_value(s, at + 2) else {
         return Start::NoTest;
     };
     let FromRead::From(table, bound, next) = read_from(s, behind) else {
@@ -168,23 +206,21 @@ fn start_list(
         comparison,
         table,
         letter: bound,
-        left_letter: letter,
-        left_number: number,
-        right_letter,
-        right_number,
+        left,
+        right,
     };
     Start::Around { note, next }
 }
 
 // IS NULL or IS NOT NULL, from the IS on that follows a value.
-fn start_null(s: &[usize], at: usize, letter: usize, number: usize) -> Start
+fn start_null(s: &[usize], at: usize, left: NotedValue) -> Start
     requires { ⌜ length (now s) ≤ mostTokens ⌝ ∗ ⌜ at < length (now s) ⌝ ∗ ⌜ getD (now s) at 0 ≡ codeOf IS ⌝ }
-    ensures { λ r. ⌜ BehindAt (now (s .entry)) at letter number r ⌝ }
+    ensures { λ r. ⌜ FollowedAt (now (s .entry)) at left r ⌝ }
 {
     let t = token(s, at + 1);
     if t == NULL {
         return Start::Whole {
-            note: left_note(NULL_PART, letter, number),
+            note: left_note(NULL_PART, left),
             next: at + 2,
         };
     }
@@ -195,41 +231,105 @@ fn start_null(s: &[usize], at: usize, letter: usize, number: usize) -> Start
         return Start::NoTest;
     }
     Start::Whole {
-        note: left_note(NOT_NULL_PART, letter, number),
+        note: left_note(NOT_NULL_PART, left),
         next: at + 3,
     }
 }
 
-// What a part says that has a left value and no other, as IS NULL and IS NOT NULL; for those without values it is 0.
-pub fn left_note(kind: usize, letter: usize, number: usize) -> Note
-    ensures { λ r. ⌜ noteNumbers r ≡ leftNumbers kind letter number ⌝ }
+// What a part says that has a left value and no other, as IS NULL and IS NOT NULL.
+pub fn left_note(kind: usize, left: NotedValue) -> Note
+    ensures { λ r. ⌜ noteNumbers r ≡ leftNumbers kind left ⌝ }
 {
     Note {
         kind,
         comparison: 0,
         table: 0,
         letter: 0,
-        left_letter: letter,
-        left_number: number,
-        right_letter: 0,
-        right_number: 0,
+        left,
+        right: unused_noted(),
     }
 }
 
-// What follows a value and a comparison: another value, or SOME or ALL and a list.
-fn start_comparison(s: &[usize], at: usize, letter: usize, number: usize) -> Start
+// What stands behind a value and compares it, with the number of the comparison: a list, whose bracket stands at this place, and the kind of the part that they make;
+// another value, at this place; or nothing that does.
+pub enum Behind {
+    List {
+        kind: usize,
+        comparison: usize,
+        at: usize,
+    },
+    Value {
+        comparison: usize,
+        at: usize,
+    },
+    Nothing,
+}
+
+// The same from a comparison on: SOME or ALL and a list, or another value.
+fn behind_comparison(s: &[usize], at: usize) -> Behind
     requires { ⌜ length (now s) ≤ mostTokens ⌝ ∗ ⌜ at < length (now s) ⌝ ∗ ⌜ (comparesCode < getD (now s) at 0) × (getD (now s) at 0 < letterCode) ⌝ }
-    ensures { λ r. ⌜ BehindAt (now (s .entry)) at letter number r ⌝ }
+    ensures { λ r. ⌜ BehindAt (now (s .entry)) at r ⌝ }
 {
     let comparison = token(s, at) - COMPARES;
     let t = token(s, at + 1);
     if t == SOME {
-        return start_list(s, at + 2, SOME_PART, comparison, letter, number);
+        return Behind::List {
+            kind: SOME_PART,
+            comparison,
+            at: at + 2,
+        };
     }
     if t == ALL {
-        return start_list(s, at + 2, ALL_PART, comparison, letter, number);
+        return Behind::List {
+            kind: ALL_PART,
+            comparison,
+            at: at + 2,
+        };
     }
-    let ValueRead::Value(right_letter, right_number, next) = read_value(s, at + 1) else {
+    Behind::Value {
+        comparison,
+        at: at + 1,
+    }
+}
+
+// What stands behind a value, where it is no IS. IN is SOME with =, NOT IN is ALL with <>.
+fn read_behind(s: &[usize], at: usize) -> Behind
+    requires { ⌜ length (now s) ≤ mostTokens ⌝ ∗ ⌜ at ≤ length (now s) ⌝ ∗ ⌜ (getD (now s) at 0 ≡ codeOf IS → ⊥) ⌝ }
+    ensures { λ r. ⌜ BehindAt (now (s .entry)) at r ⌝ }
+{
+    let t = token(s, at);
+    if t == IN {
+        return Behind::List {
+            kind: SOME_PART,
+            comparison: EQUAL,
+            at: at + 1,
+        };
+    }
+    if t == NOT {
+        if token(s, at + 1) != IN {
+            return Behind::Nothing;
+        }
+        return Behind::List {
+            kind: ALL_PART,
+            comparison: NOT_EQUAL,
+            at: at + 2,
+        };
+    }
+    if t <= COMPARES {
+        return Behind::Nothing;
+    }
+    if COMPARES + 6 < t {
+        return Behind::Nothing;
+    }
+    behind_comparison(s, at)
+}
+
+// A comparison of a value with the one at a place.
+fn start_comparison(s: &[usize], at: usize, comparison: usize, left: NotedValue) -> Start
+    requires { ⌜ length (now s) ≤ mostTokens ⌝ ∗ ⌜ at ≤ length (now s) ⌝ ∗ ⌜ IsComparison comparison ⌝ }
+    ensures { λ r. ⌜ ComparisonAt (now (s .entry)) at comparison left r ⌝ }
+{
+    let ValueRead::Value(right, next) = read_value(s, at) else {
         return Start::NoTest;
     };
     let note = Note {
@@ -237,39 +337,34 @@ fn start_comparison(s: &[usize], at: usize, letter: usize, number: usize) -> Sta
         comparison,
         table: 0,
         letter: 0,
-        left_letter: letter,
-        left_number: number,
-        right_letter,
-        right_number,
+        left,
+        right,
     };
     Start::Whole { note, next }
 }
 
-// What follows a value. IN is SOME with =, NOT IN is ALL with <>.
-fn start_value(s: &[usize], at: usize, letter: usize, number: usize) -> Start
+// What follows a value. The call for a list stands here once, so that it is compiled into its callers: as a call by itself it took the value, and gave
+// its answer, through memory, and reading was slower.
+fn start_value(s: &[usize], at: usize, left: NotedValue) -> Start
     requires { ⌜ length (now s) ≤ mostTokens ⌝ ∗ ⌜ at ≤ length (now s) ⌝ }
-    ensures { λ r. ⌜ BehindAt (now (s .entry)) at letter number r ⌝ }
+    ensures { λ r. ⌜ FollowedAt (now (s .entry)) at left r ⌝ }
 {
-    let t = token(s, at);
-    if t == IS {
-        return start_null(s, at, letter, number);
+    if token(s, at) == IS {
+        return start_null(s, at, left);
     }
-    if t == IN {
-        return start_list(s, at + 1, SOME_PART, EQUAL, letter, number);
+    let behind = read_behind(s, at);
+    match behind {
+        Behind::List {
+            kind,
+            comparison,
+            at: next,
+        } => start_list(s, next, kind, comparison, left),
+        Behind::Value {
+            comparison,
+            at: next,
+        } => start_comparison(s, next, comparison, left),
+        Behind::Nothing => Start::NoTest,
     }
-    if t == NOT {
-        if token(s, at + 1) != IN {
-            return Start::NoTest;
-        }
-        return start_list(s, at + 2, ALL_PART, NOT_EQUAL, letter, number);
-    }
-    if t <= COMPARES {
-        return Start::NoTest;
-    }
-    if COMPARES + 6 < t {
-        return Start::NoTest;
-    }
-    start_comparison(s, at, letter, number)
 }
 
 // EXISTS ( FROM number letter WHERE, from the EXISTS on.
@@ -288,30 +383,24 @@ fn start_exists(s: &[usize], at: usize) -> Start
         comparison: 0,
         table,
         letter,
-        left_letter: 0,
-        left_number: 0,
-        right_letter: 0,
-        right_number: 0,
+        left: unused_noted(),
+        right: unused_noted(),
     };
     Start::Around { note, next }
 }
 
-// How the test at a place begins.
+// How the test at a place begins, where it is no bracket.
 pub fn start_test(s: &[usize], at: usize) -> Start
-    requires { ⌜ length (now s) ≤ mostTokens ⌝ ∗ ⌜ at ≤ length (now s) ⌝ }
+    requires { ⌜ length (now s) ≤ mostTokens ⌝ ∗ ⌜ at ≤ length (now s) ⌝ ∗ ⌜ (getD (now s) at 0 ≡ codeOf Open → ⊥) ⌝ }
     ensures { λ r. ⌜ TestAt (now (s .entry)) at r ⌝ }
 {
-    let t = token(s, at);
-    if t == OPEN {
-        return Start::Bracket { next: at + 1 };
-    }
-    if t == EXISTS {
+    if token(s, at) == EXISTS {
         return start_exists(s, at);
     }
-    let ValueRead::Value(letter, number, next) = read_value(s, at) else {
+    let ValueRead::Value(left, next) = read_value(s, at) else {
         return Start::NoTest;
     };
-    start_value(s, next, letter, number)
+    start_value(s, next, left)
 }
 
 // The kind of a truth test by that of IS NOT and of IS with the same word.

@@ -7,7 +7,8 @@ ghost use Prim.Native.Nat.{_+_, _*_, _<_, _≤_};
 ghost use lib.ListN.{length, drop, getD};
 ghost use Rattle.rule.specs.Calls.{readCall};
 ghost use Rattle.names.specs.Code.{partSize, partsSize};
-ghost use Rattle.parts.specs.Parts.{signedOf, taggedFrom, partIn, partsIn, Signable, SmallPart, SmallParts};
+ghost use Rattle.values.specs.Code.{heldSize, heldAt};
+ghost use Rattle.parts.specs.Parts.{signedOf, taggedFrom, partIn, partsIn, Publishable, SmallPart, SmallParts};
 ghost use Rattle.reader.specs.Answers.{readAnswer};
 ghost use Rattle.reader.specs.Code.{storedBy, ReadTo};
 use cells::EXCESS;
@@ -15,16 +16,16 @@ use cells::Reason;
 use names::PART_COMPARISON;
 use names::PART_END;
 use names::PART_FIELDS;
-use names::PART_LEFT_NUMBER;
-use names::PART_LEFT_TAG;
+use names::PART_LEFT;
 use names::PART_NUMBERS;
-use names::PART_RIGHT_NUMBER;
-use names::PART_RIGHT_TAG;
+use names::PART_RIGHT;
 use names::PART_TABLE;
 use parser::Parsed;
 use rule::Part;
 use rule::TaggedValue;
 use values::CONSTANT;
+use values::HeldValue;
+use values::held_at;
 
 // How many parts stand in the list, or why there are none.
 pub enum Reading {
@@ -64,11 +65,12 @@ fn stored(reading: Reading) -> usize
 }
 
 // The number of a value as it is published.
-fn signed_number(tag: usize, n: usize) -> i32
-    requires { ⌜ Signable tag n ⌝ }
-    ensures { λ r. ⌜ r ≡ signedOf tag n ⌝ }
+fn signed_number(v: HeldValue) -> i32
+    requires { ⌜ Publishable v ⌝ }
+    ensures { λ r. ⌜ r ≡ signedOf v ⌝ }
 {
-    if tag != CONSTANT {
+    let n = v.number;
+    if v.tag != CONSTANT {
         return n as i32;
     }
     if EXCESS <= n {
@@ -78,14 +80,14 @@ fn signed_number(tag: usize, n: usize) -> i32
     -1 - ((2147483647 - n) as i32)
 }
 
-// A value from its two numbers.
-fn tagged_value(tag: usize, n: usize) -> TaggedValue
-    requires { ⌜ tag < 256 ⌝ ∗ ⌜ Signable tag n ⌝ }
-    ensures { λ r. ⌜ r ≡ taggedFrom tag n ⌝ }
+// A value as it is published.
+fn tagged_value(v: HeldValue) -> TaggedValue
+    requires { ⌜ Publishable v ⌝ }
+    ensures { λ r. ⌜ r ≡ taggedFrom v ⌝ }
 {
     TaggedValue {
-        tag: tag as u8,
-        number: signed_number(tag, n),
+        tag: v.tag as u8,
+        number: signed_number(v),
     }
 }
 
@@ -97,13 +99,12 @@ fn byte_field(numbers: &[usize], i: usize, k: usize) -> u8
     numbers[PART_FIELDS * i + k] as u8
 }
 
-// The value of two numbers of part i.
-fn value_field(numbers: &[usize], i: usize, tag: usize, number: usize) -> TaggedValue
-    requires { ⌜ partSize * i + tag < length (now numbers) ⌝ ∗ ⌜ partSize * i + number < length (now numbers) ⌝ ∗ ⌜ getD (now numbers) (partSize * i + tag) 0 < 256 ⌝ ∗ ⌜ Signable (getD (now numbers) (partSize * i + tag) 0) (getD (now numbers) (partSize * i + number) 0) ⌝ }
-    ensures { λ r. ⌜ r ≡ taggedFrom (getD (now (numbers .entry)) (partSize * i + tag) 0) (getD (now (numbers .entry)) (partSize * i + number) 0) ⌝ }
+// The value of part i that stands from its number k on.
+fn value_field(numbers: &[usize], i: usize, k: usize) -> TaggedValue
+    requires { ⌜ partSize * i + k + heldSize ≤ length (now numbers) ⌝ ∗ ⌜ Publishable (heldAt (now numbers) (partSize * i + k)) ⌝ }
+    ensures { λ r. ⌜ r ≡ taggedFrom (heldAt (now (numbers .entry)) (partSize * i + k)) ⌝ }
 {
-    let p = PART_FIELDS * i;
-    tagged_value(numbers[p + tag], numbers[p + number])
+    tagged_value(held_at(numbers, PART_FIELDS * i + k))
 }
 
 // Part i.
@@ -116,8 +117,8 @@ fn part_at(numbers: &[usize], i: usize) -> Part
         comparison: byte_field(numbers, i, PART_COMPARISON),
         table: byte_field(numbers, i, PART_TABLE),
         end: byte_field(numbers, i, PART_END),
-        left: value_field(numbers, i, PART_LEFT_TAG, PART_LEFT_NUMBER),
-        right: value_field(numbers, i, PART_RIGHT_TAG, PART_RIGHT_NUMBER),
+        left: value_field(numbers, i, PART_LEFT),
+        right: value_field(numbers, i, PART_RIGHT),
     }
 }
 

@@ -9,7 +9,9 @@ use lib.ListN.{length}
 use Rattle.tables.specs.Lists.{placed}
 use Rattle.tables.specs.Bytes.{bytes16, bytes32}
 use Rattle.tables.specs.Values.{mostEntries, constantTag, unusedValue, Comparison, comparisonNumber, Connective, Some, All, MarkTest}
-use Rattle.cells.specs.Code.{words32, excess}
+use Rattle.cells.specs.Code.{excess}
+use Rattle.values.specs.Code.{FitsBytes}
+use Rattle.values.specs.declared.HeldValue.{HeldValue}
 use Rattle.card.specs.Card.{AsNo, AsYes}
 use Rattle.card.specs.Layout.{recordSize, pairKind, rowKind, comparisonKind, markKind, valueBytes}
 use Rattle.rule.specs.Parts.{joinKind, markKind as partMark}
@@ -18,9 +20,12 @@ use Rattle.records.specs.declared.LeafNumbers.{LeafNumbers}
 
 -- ---- bytes
 
--- a value's number as a card has it: a constant's in two's complement
-abbrev pub byteNumber : ℕ → ℕ → ℕ
-byteNumber tag n = cond (eqb tag constantTag) (excess n) n
+-- a held value's number as a card has it, a constant's in two's complement; and the bytes of the value
+abbrev pub byteNumber : HeldValue → ℕ
+byteNumber v = cond (eqb (v .tag) constantTag) (excess (v .number)) (v .number)
+
+abbrev pub heldBytes : HeldValue → List ℕ
+heldBytes v = v .tag ∷ bytes32 (byteNumber v)
 
 -- the record of an entry with inner ones
 abbrev pub plainRecord : ℕ → ℕ → List ℕ
@@ -28,11 +33,7 @@ plainRecord end′ table = bytes16 end′ ++ (table ∷ 0 ∷ valueBytes unusedV
 
 -- and of any, by its end, its table and what else it says
 abbrev pub entryRecord : ℕ → ℕ → LeafNumbers → List ℕ
-entryRecord end′ table x =
-    bytes16 end′
-    ++ (table ∷ x .comparison
-    ∷ (x .«left_tag» ∷ bytes32 (byteNumber (x .«left_tag») (x .«left_number»)))
-    ++ (x .«right_tag» ∷ bytes32 (byteNumber (x .«right_tag») (x .«right_number»))))
+entryRecord end′ table x = bytes16 end′ ++ (table ∷ x .comparison ∷ heldBytes (x .left) ++ heldBytes (x .right))
 
 -- there is room for entry k, and the numbers of a leaf are as small as their fields
 pub record LeafAt (kinds records : List ℕ) (k : ℕ) (x : LeafNumbers) : Type 0 where
@@ -41,10 +42,8 @@ pub record LeafAt (kinds records : List ℕ) (k : ℕ) (x : LeafNumbers) : Type 
   pub room : recordSize * k + recordSize ≤ length records
   pub kind-small : x .kind < 256
   pub comparison-small : x .comparison < 256
-  pub left-tag-small : x .«left_tag» < 256
-  pub left-small : x .«left_number» < words32
-  pub right-tag-small : x .«right_tag» < 256
-  pub right-small : x .«right_number» < words32
+  pub left-small : FitsBytes (x .left)
+  pub right-small : FitsBytes (x .right)
 
 -- it is written, with its end and its table
 pub record EntryWritten (kinds records kinds′ records′ : List ℕ) (k end′ table : ℕ) (x : LeafNumbers) : Type 0 where

@@ -6,12 +6,11 @@ ghost use mathlib.Core.List.{_∷_, []};
 ghost use Prim.Native.Nat.{_+_, _*_, _<_, _≤_};
 ghost use lib.ListN.{length};
 ghost use Rattle.tables.specs.Lists.{placed};
-ghost use Rattle.tables.specs.Bytes.{bytes16, bytes32};
 ghost use Rattle.tables.specs.Values.{mostEntries};
-ghost use Rattle.cells.specs.Code.{words32};
 ghost use Rattle.card.specs.Layout.{recordSize, valueSize};
+ghost use Rattle.values.specs.Code.{FitsBytes};
 ghost use Rattle.rule.specs.Groups.{JoinNumber, MarkNumber};
-ghost use Rattle.records.specs.Code.{byteNumber, plainRecord, LeafAt, EntryWritten, LeafWritten, ComparisonCode, ComparedAs, JoinedAs, MarkedAs, rowKindAs, compareKindAs};
+ghost use Rattle.records.specs.Code.{heldBytes, plainRecord, LeafAt, EntryWritten, LeafWritten, ComparisonCode, ComparedAs, JoinedAs, MarkedAs, rowKindAs, compareKindAs};
 use card::AND_ENTRY;
 use card::BLANK;
 use card::COMPARISON_OR_NO;
@@ -30,48 +29,32 @@ use rule::AND_PART;
 use rule::NOT_NULL_PART;
 use rule::NULL_PART;
 use rule::OR_PART;
+use storing::put16;
+use storing::put32;
 use tables::MOST_ENTRIES;
 use values::CONSTANT;
+use values::HeldValue;
+use values::unused_held;
 
-// A number of two bytes, from place i on.
-pub fn put16(bytes: &mut [u8], i: usize, n: usize)
-    requires { ⌜ n < 65536 ⌝ ∗ ⌜ i + 2 ≤ length (now bytes) ⌝ }
-    ensures { λ _. ⌜ now (bytes .exit) ≡ placed (now (bytes .entry)) i (bytes16 n) ⌝ }
+// A value: the byte of its tag, and its number, which of a constant is held plus 2 ^ 31.
+fn put_value(bytes: &mut [u8], i: usize, v: HeldValue)
+    requires { ⌜ FitsBytes v ⌝ ∗ ⌜ i + valueSize ≤ length (now bytes) ⌝ }
+    ensures { λ _. ⌜ now (bytes .exit) ≡ placed (now (bytes .entry)) i (heldBytes v) ⌝ }
 {
-    bytes[i] = (n % 256) as u8;
-    bytes[i + 1] = (n / 256) as u8;
-}
-
-// A number of four bytes.
-fn put32(bytes: &mut [u8], i: usize, n: usize)
-    requires { ⌜ n < words32 ⌝ ∗ ⌜ i + 4 ≤ length (now bytes) ⌝ }
-    ensures { λ _. ⌜ now (bytes .exit) ≡ placed (now (bytes .entry)) i (bytes32 n) ⌝ }
-{
-    put16(bytes, i, n % 65536);
-    put16(bytes, i + 2, n / 65536);
-}
-
-// A value: the byte of its tag, and its number, which of a constant is kept plus 2 ^ 31.
-fn put_value(bytes: &mut [u8], i: usize, tag: usize, n: usize)
-    requires { ⌜ tag < 256 ⌝ ∗ ⌜ n < words32 ⌝ ∗ ⌜ i + valueSize ≤ length (now bytes) ⌝ }
-    ensures { λ _. ⌜ now (bytes .exit) ≡ placed (now (bytes .entry)) i (tag ∷ bytes32 (byteNumber tag n)) ⌝ }
-{
-    bytes[i] = tag as u8;
-    if tag == CONSTANT {
-        put32(bytes, i + 1, (n + EXCESS) % 4294967296);
+    bytes[i] = v.tag as u8;
+    if v.tag == CONSTANT {
+        put32(bytes, i + 1, (v.number + EXCESS) % 4294967296);
         return;
     }
-    put32(bytes, i + 1, n);
+    put32(bytes, i + 1, v.number);
 }
 
 // What an entry says besides its end and its table, as numbers: where it has inner entries, its kind alone.
 pub struct LeafNumbers {
     pub kind: usize,
     pub comparison: usize,
-    pub left_tag: usize,
-    pub left_number: usize,
-    pub right_tag: usize,
-    pub right_number: usize,
+    pub left: HeldValue,
+    pub right: HeldValue,
 }
 
 // Entry k: its kind, and its record, with its end and its table.
@@ -91,8 +74,8 @@ fn put_entry(
     put16(records, r, end);
     records[r + TABLE_PLACE] = table as u8;
     records[r + COMPARISON_PLACE] = leaf.comparison as u8;
-    put_value(records, r + LEFT_PLACE, leaf.left_tag, leaf.left_number);
-    put_value(records, r + RIGHT_PLACE, leaf.right_tag, leaf.right_number);
+    put_value(records, r + LEFT_PLACE, leaf.left);
+    put_value(records, r + RIGHT_PLACE, leaf.right);
 }
 
 // An entry with inner ones: its kind and its table, 0 where it has none. Its end is written once its last inner entry is in place.
@@ -107,13 +90,12 @@ pub fn put_plain(
     ensures kinds { λ _. ⌜ now (kinds .exit) ≡ placed (now (kinds .entry)) k (kind ∷ []) ⌝ }
     ensures records { λ _. ⌜ now (records .exit) ≡ placed (now (records .entry)) (recordSize * k) (plainRecord 0 table) ⌝ }
 {
+    let unused = unused_held();
     let plain = LeafNumbers {
         kind,
         comparison: 0,
-        left_tag: 0,
-        left_number: 0,
-        right_tag: 0,
-        right_number: 0,
+        left: unused,
+        right: unused,
     };
     put_entry(kinds, records, k, 0, table, plain);
 }

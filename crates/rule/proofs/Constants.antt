@@ -1,15 +1,18 @@
 -- The numbers of an accepted text have 32 bits: from its tokens to the constants of its condition.
 use mathlib.Core.Path.{_≡_, refl}
-use mathlib.Core.Bool.{Bool, true, false, _&&_}
+use mathlib.Core.Bool.{Bool, true, false, _||_}
 use mathlib.Core.List.{List, [], _∷_}
 use mathlib.Core.Option.{Option, none, some, Option·map}
-use Prim.Native.Nat.{ℕ, zero, suc, _+_, pred}
+use Prim.Native.Nat.{ℕ, zero, suc, pred}
 use lib.Dec.{T, eqb}
-use lib.IntN.{ℤ, pos, negℤ}
-use lib.ListN.{length}
-use Rattle.tables.specs.Lists.{same, only}
-use Rattle.tables.specs.Bytes.{between, inRange}
-use Rattle.rule.specs.Tokens.{Token, Fixed, Compares, Letter, Number, Spelling, words, signs, isGap, isCapital, isSmall, isDigit, takeWhile, Lexed, wordIn, begins, signIn, mostDigits, spelled, numberFrom, firstToken, andThen, tokensAfter, tokensOf}
+use lib.IntN.{ℤ}
+use Rattle.tables.specs.Lists.{same}
+use Rattle.tables.specs.Bytes.{inRange}
+use Rattle.tables.proofs.Tests.{is-so}
+use Rattle.numerals.specs.Texts.{takeWhile}
+use Rattle.numerals.specs.Numerals.{isDigit, minus, firstNumber}
+use Rattle.numerals.proofs.Reading.{first-told}
+use Rattle.rule.specs.Tokens.{Token, Fixed, Compares, Letter, Number, Spelling, words, signs, isGap, isCapital, isSmall, Lexed, wordIn, begins, signIn, numberToken, numberFrom, firstToken, andThen, tokensAfter, tokensOf}
 use Rattle.rule.specs.Condition.{WrittenValue, Plain, Named, WrittenCondition}
 use Rattle.rule.specs.Grammar.{Tokens, IsCondition}
 use Rattle.rule.specs.Throughout.{Throughout}
@@ -49,22 +52,20 @@ unfolding signIn
 sign-fits [] text f = missing
 sign-fits (s ∷ ss) text f = either LexedFits (begins (s .text) text) (there (f .0)) (sign-fits ss text (f .1))
 
-number-fits : (sign : ℕ → ℤ) (before : ℕ) (digits : List ℕ) → Every LexedFits (numberFrom sign before digits)
+number-fits : (text : List ℕ) → Every LexedFits (numberFrom text)
 unfolding numberFrom
-number-fits sign before digits = go (between 1 mostDigits (length digits)) (inRange (sign (spelled 0 digits))) refl
+number-fits text = go (firstNumber text) refl
   where
-    go : (a b : Bool) → inRange (sign (spelled 0 digits)) ≡ b → Every LexedFits (only (a && b) (Number (sign (spelled 0 digits)), before + length digits))
-    go true true e = let f : T (inRange (sign (spelled 0 digits))) = rw e tt in there f
-    go true false e = missing
-    go false b e = missing
+    go : (o : Option (ℤ × ℕ)) → firstNumber text ≡ o → Every LexedFits (Option·map numberToken o)
+    go none e = missing
+    go (some x) e = let f : T (inRange (x .0)) = is-so _ (first-told text (x .0) (x .1) e .fits) in there f
 
 first-fits : (b : ℕ) (bs : List ℕ) → Every LexedFits (firstToken b bs)
 unfolding firstToken words signs
 first-fits b bs =
     either LexedFits (isCapital b) (word-fits words (takeWhile isCapital (b ∷ bs)) (tt, (tt, (tt, (tt, (tt, (tt, (tt, (tt, (tt, (tt, (tt, (tt, (tt, (tt, (tt, tt))))))))))))))))
     (either LexedFits (isSmall b) (there tt)
-    (either LexedFits (isDigit b) (number-fits pos 0 (takeWhile isDigit (b ∷ bs)))
-    (either LexedFits (eqb b 45) (number-fits (λ n. negℤ (pos n)) 1 (takeWhile isDigit bs)) (sign-fits signs (b ∷ bs) (tt, (tt, (tt, (tt, (tt, (tt, (tt, (tt, (tt, tt)))))))))))))
+    (either LexedFits (isDigit b || eqb b minus) (number-fits (b ∷ bs)) (sign-fits signs (b ∷ bs) (tt, (tt, (tt, (tt, (tt, (tt, (tt, (tt, (tt, tt))))))))))))
 
 then-fits : (o : Option Lexed) (behind : ℕ → Option Tokens) → Every LexedFits o → ((n : ℕ) → Every TokensFit (behind n)) → Every TokensFit (andThen o behind)
 then-fits none behind missing h = missing

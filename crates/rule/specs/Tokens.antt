@@ -2,21 +2,19 @@
 use mathlib.Core.Bool.{Bool, true, false, _&&_, _||_}
 use mathlib.Core.List.{List, [], _∷_}
 use mathlib.Core.Option.{Option, none, some, Option·map}
-use Prim.Native.Nat.{ℕ, zero, suc, _+_, _*_, _-_, pred}
-use Prim.Native.Char.{code}
-use Prim.Native.String.{String, [] as []ˢ, _∷_ as _∷ˢ_}
+use Prim.Native.Nat.{ℕ, zero, suc, pred}
+use Prim.Native.String.{String}
 use lib.Dec.{eqb}
-use lib.IntN.{ℤ, pos, negsuc, negℤ, _+ℤ_}
+use lib.IntN.{ℤ, pos, negsuc, _+ℤ_}
 use lib.ListN.{length}
 use lib.Signed.{ltZ}
-use Rattle.tables.specs.Lists.{same, only}
-use Rattle.tables.specs.Bytes.{between, inRange}
+use Rattle.tables.specs.Lists.{same}
+use Rattle.tables.specs.Bytes.{between}
 use Rattle.tables.specs.Values.{Comparison, Eq, Ne, Lt, Le, Gt, Ge}
-
--- a quoted text as its bytes, so that a word can be written as the paper writes it
-unfoldable pub bytes : String → List ℕ
-bytes []ˢ = []
-bytes (c ∷ˢ s) = code c ∷ bytes s
+use Rattle.numerals.specs.Texts.{takeWhile}
+use Rattle.numerals.specs.Numerals.{isDigit, minus, firstNumber}
+-- quoted texts, for those who write a rule's text
+unfoldable pub use Rattle.numerals.specs.Texts.{bytes}
 
 -- ---- the tokens
 
@@ -123,19 +121,11 @@ isCapital = between 65 90
 abbrev pub isSmall : ℕ → Bool
 isSmall = between 97 122
 
-abbrev pub isDigit : ℕ → Bool
-isDigit = between 48 57
-
--- the longest run of bytes of one class that a text begins with: a word and a number take all of it
-unfoldable pub takeWhile : (ℕ → Bool) → List ℕ → List ℕ
-takeWhile p [] = []
-takeWhile p (b ∷ bs) = elim (p b) [ true ↦ b ∷ takeWhile p bs | false ↦ [] ]
-
 -- a token, and how many bytes it takes
 abbrev pub Lexed : Type 0
 Lexed = Token × ℕ
 
--- the word that a run of capitals is
+-- the word that a run of capitals, the whole of it, is
 unfoldable pub wordIn : List Spelling → List ℕ → Option Lexed
 wordIn [] w = none
 wordIn (s ∷ ss) w = elim (same (s .text) w) [ true ↦ some (s .token, length w) | false ↦ wordIn ss w ]
@@ -150,20 +140,13 @@ unfoldable pub signIn : List Spelling → List ℕ → Option Lexed
 signIn [] text = none
 signIn (s ∷ ss) text = elim (begins (s .text) text) [ true ↦ some (s .token, length (s .text)) | false ↦ signIn ss text ]
 
--- how many digits a number may have
-abbrev pub mostDigits : ℕ
-mostDigits = 10
+-- a number that takes so many bytes, as a token
+abbrev pub numberToken : ℤ × ℕ → Lexed
+numberToken x = (Number (x .0), x .1)
 
--- the number that digits spell, where n is spelled before them
-abbrev pub spelled : ℕ → List ℕ → ℕ
-spelled n [] = n
-spelled n (d ∷ ds) = spelled (10 * n + (d - 48)) ds
-
--- the digits of a number, with a minus before them or none: 1 to 10 digits, −2,147,483,648 to 2,147,483,647
-unfoldable pub numberFrom : (ℕ → ℤ) → ℕ → List ℕ → Option Lexed
-numberFrom sign before digits =
-    let n = sign (spelled 0 digits) in
-    only (between 1 mostDigits (length digits) && inRange n) (Number n, before + length digits)
+-- the number that a text begins with, as a token
+unfoldable pub numberFrom : List ℕ → Option Lexed
+numberFrom text = Option·map numberToken (firstNumber text)
 
 -- the token that a text begins with, where its first byte is b and is no gap
 unfoldable pub firstToken : ℕ → List ℕ → Option Lexed
@@ -173,11 +156,7 @@ firstToken b bs =
       | false ↦
           elim (isSmall b) [
             | true ↦ some (Letter b, 1)
-            | false ↦
-                elim (isDigit b) [
-                  | true ↦ numberFrom pos 0 (takeWhile isDigit (b ∷ bs))
-                  | false ↦ elim (eqb b 45) [ true ↦ numberFrom (λ n. negℤ (pos n)) 1 (takeWhile isDigit bs) | false ↦ signIn signs (b ∷ bs) ]
-                ]
+            | false ↦ elim (isDigit b || eqb b minus) [ true ↦ numberFrom (b ∷ bs) | false ↦ signIn signs (b ∷ bs) ]
           ]
     ]
 

@@ -22,10 +22,10 @@ use Rattle.tables.proofs.Tests.{both}
 use Rattle.card.specs.Card.{mostRowEntries, Interpretation, AsNo, AsYes, unknownSays, Leaf, CompareLeaf, MarkLeaf, Card, LeafEntry, PairEntry, RowEntry, leafSays, joined, overRows, answer, leafFits, rowEntryFits, cardFits}
 use Rattle.card.specs.Layout.{ComparisonKind, MarkKind, pairKind, rowKind, comparisonKind, markKind, LeafHead, RowHead}
 use Rattle.card.specs.Groups.{PairNumber, ComparisonNumber, MarkNumber, InnerNumber, LeafNumber}
-use Rattle.decoder.specs.Code.{entrySize, entryEnd, entryLeftTag, entryLeftNumber, entryRightTag, entryRightNumber, entryNextEnd, kindIn, nextEndIn, tableIn, comparisonIn, leftIn, rightIn, headAt, Coded, coded-leaf, coded-pair, coded-row}
+use Rattle.decoder.specs.Code.{entrySize, entryEnd, entryLeft, entryRight, entryNextEnd, kindIn, nextEndIn, tableIn, comparisonIn, leftIn, rightIn, headAt, Coded, coded-leaf, coded-pair, coded-row}
 use Rattle.decoder.proofs.Grouped.{same-kind, pair-bounds, row-bounds, comparison-bounds, mark-bounds, leaf-bounds}
 use Rattle.decoder.proofs.Coded.{head-at, pair-at, row-at, leaf-at, kind-pair, kind-row, kind-leaf, coded-less, coded-end, PairParts, RowParts, pair-of, row-of, leaf-of}
-use Rattle.values.specs.Code.{rowFrom, Readable, ValueReady}
+use Rattle.values.specs.Code.{heldAt, rowFrom, Readable, ValueReady}
 use Rattle.runner.specs.Code.{TellsLeaf, TellsPair, TellsComparison, TellsUnknown, asksBlank, TellsBlank, LeafReady, Runnable, connectiveBy, pairKindFor, PairRunnable, quantifierBy, rowKindFor, RowsRunnable}
 use Rattle.values.proofs.Numbers.{seen-blank}
 use Rattle.values.proofs.Rows.{TableAt}
@@ -132,10 +132,10 @@ module _ {d g file w : List ℕ} {s : ℕ} (h : LeafReady d g file w s) where
   pub right-fits : ComparisonNumber (kindIn d s) → T (valueFits (columnsOf file) (h .levels) (rightIn d s))
   right-fits k = right-by d (columnsOf file) (h .levels) s which k (h .fits)
 
-  abbrev pub left-ready : ValueReady g file w (getD d (entrySize * s + entryLeftTag) 0) (getD d (entrySize * s + entryLeftNumber) 0)
+  abbrev pub left-ready : ValueReady g file w (heldAt d (entrySize * s + entryLeft))
   left-ready = record { levels = h .levels; env = h .env; readable = h .readable; fits = left-fits }
 
-  abbrev pub right-ready : ComparisonNumber (kindIn d s) → ValueReady g file w (getD d (entrySize * s + entryRightTag) 0) (getD d (entrySize * s + entryRightNumber) 0)
+  abbrev pub right-ready : ComparisonNumber (kindIn d s) → ValueReady g file w (heldAt d (entrySize * s + entryRight))
   right-ready k = record { levels = h .levels; env = h .env; readable = h .readable; fits = right-fits k }
 
   module _ (x : Seen) (left : seenCell x ≡ cellOf (h .env) (leftIn d s)) where

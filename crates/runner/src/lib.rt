@@ -20,13 +20,12 @@ use cells::PLACES;
 use cells::Seen;
 use decoder::COMPARISON;
 use decoder::FIELDS;
-use decoder::LEFT_NUMBER;
-use decoder::LEFT_TAG;
+use decoder::LEFT;
 use decoder::NEXT_END;
-use decoder::RIGHT_NUMBER;
-use decoder::RIGHT_TAG;
+use decoder::RIGHT;
 use decoder::TABLE;
 use values::LEVELS;
+use values::held_at;
 
 // Whether the number of a kind is that of an entry without inner entries.
 fn is_leaf(kind: usize) -> bool
@@ -97,22 +96,10 @@ fn run_leaf(d: &[usize], g: &[usize; PLACES], file: &[u8], s: usize, w: &[usize;
     ensures { λ r. ⌜ LeafAnswers (now (d .entry)) (now (g .entry)) (now (file .entry)) (now (w .entry)) s r ⌝ }
 {
     let k = d[FIELDS * s];
-    let x = values::look(
-        g,
-        file,
-        w,
-        d[FIELDS * s + LEFT_TAG],
-        d[FIELDS * s + LEFT_NUMBER],
-    );
+    let x = values::look(g, file, w, held_at(d, FIELDS * s + LEFT));
     let compares = is_comparison(k);
     if compares {
-        let y = values::look(
-            g,
-            file,
-            w,
-            d[FIELDS * s + RIGHT_TAG],
-            d[FIELDS * s + RIGHT_NUMBER],
-        );
+        let y = values::look(g, file, w, held_at(d, FIELDS * s + RIGHT));
         let unknown = unknown_says(k);
         return cells_hold(unknown, d[FIELDS * s + COMPARISON], x, y);
     }

@@ -1,7 +1,7 @@
 -- What a number, a letter and a value stand for, from what the code finds.
 use mathlib.Core.Path.{_≡_, refl, sym, ap, _∙_}
 use mathlib.Core.Bool.{Bool, true, false}
-use mathlib.Core.List.{List, [], _∷_}
+use mathlib.Core.List.{List}
 use mathlib.Core.Option.{Option, none, some, Option·map}
 use Prim.Native.Nat.{ℕ, zero, suc, _+_, _*_, _-_, _<_, _≤_}
 use native.Mathlib.Omega.{arith}
@@ -16,8 +16,10 @@ use Rattle.tables.proofs.Sizes.{column-at}
 use Rattle.cells.specs.Code.{excessAdded, fromExcess}
 use Rattle.cells.proofs.Signed.{to-from}
 use Rattle.rule.specs.Names.{nearest, existing, valueIn}
+use Rattle.values.specs.declared.HeldValue.{HeldValue}
 use Rattle.phrases.specs.Code.{writtenOf}
-use Rattle.scopes.specs.Code.{existingAs, bindingIn, scopeIn, NearestAt, valueNumbers}
+use Rattle.phrases.specs.declared.NotedValue.{NotedValue}
+use Rattle.scopes.specs.Code.{existingAs, bindingIn, scopeIn, NearestAt, valueHeld}
 
 -- ---- tables and columns
 
@@ -99,13 +101,16 @@ below {levels = levels} {r = r} near z = le-ne r levels (near .within) z
 
 -- ---- values
 
-module _ (file scope : List ℕ) (levels x n : ℕ) where
-  abbrev stands : Option (List ℕ)
-  stands = Option·map valueNumbers (valueIn (columnsOf file) (scopeIn scope levels) (writtenOf x n))
+module _ (file scope : List ℕ) (levels : ℕ) (v : NotedValue) where
+  abbrev x : ℕ
+  x = v .letter
 
-  pub plain-value : x ≡ 0 → some (constantTag ∷ n ∷ []) ≡ stands
+  abbrev stands : Option HeldValue
+  stands = Option·map valueHeld (valueIn (columnsOf file) (scopeIn scope levels) (writtenOf v))
+
+  pub plain-value : x ≡ 0 → some (record { tag = constantTag; number = v .number }) ≡ stands
   unfolding valueIn
-  plain-value e = rw (eq-eqb x 0 e, to-from n)
+  plain-value e = rw (eq-eqb x 0 e, to-from (v .number))
 
   module _ (e : x ≡ 0 → ⊥) (level : ℕ) (near : NearestAt scope levels x level) where
     pub letter-unknown : level ≡ levels → none ≡ stands
@@ -115,7 +120,7 @@ module _ (file scope : List ℕ) (levels x n : ℕ) where
         rw (ne-eqb x 0 e, w)
 
     module _ (few : levels ≤ mostLevels) (z : level ≡ levels → ⊥) (low : 1 ≤ getD scope (2 * level + 1) 0) (high : getD scope (2 * level + 1) 0 ≤ tableCount file)
-        (c : ℕ) (found : existingAs c ≡ existing (sizeAt file (getD scope (2 * level + 1) 0 - 1) .columns) (fromExcess n)) where
+        (c : ℕ) (found : existingAs c ≡ existing (sizeAt file (getD scope (2 * level + 1) 0 - 1) .columns) (fromExcess (v .number))) where
       found-at : nearest (scopeIn scope levels) x ≡ some (bindingIn scope level)
       found-at =
           near .found ∙ rw (lt-ltb level levels (below near z))
@@ -133,7 +138,7 @@ module _ (file scope : List ℕ) (levels x n : ℕ) where
       unfolding valueIn
       column-unknown y = rw (ne-eqb x 0 e, found-at, columns-here, none-there c found y)
 
-      pub column-known : (c ≡ 0 → ⊥) → some (level ∷ c ∷ []) ≡ stands
+      pub column-known : (c ≡ 0 → ⊥) → some (record { tag = level; number = c }) ≡ stands
       unfolding valueIn
       column-known y =
           let w = near .within in

@@ -1,11 +1,11 @@
 -- A value that was resolved.
 use mathlib.Core.Path.{_≡_, refl, sym, ap, _∙_}
-use mathlib.Core.List.{[], _∷_}
 use mathlib.Core.Option.{Option, none, some, Option·map}
 use Prim.Native.Nat.{ℕ}
 use native.Mathlib.Omega.{arith}
 use Rattle.tables.specs.Values.{Value}
-use Rattle.scopes.specs.Code.{valueNumbers, resolvedAs}
+use Rattle.values.specs.declared.HeldValue.{HeldValue}
+use Rattle.scopes.specs.Code.{valueHeld, resolvedAs}
 use Rattle.scopes.specs.declared.Resolved.{Resolved}
 use Rattle.scopes.specs.declared.Resolved.the-variants.{Value as ResolvedValue, Unresolved}
 
@@ -27,13 +27,9 @@ module _ {A B : Type 0} (f : A → B) where
       some-is : (x y : B) → some y ≡ some x → x ≡ y
       some-is x y e = cc
 
--- a value that was found, as its numbers
-abbrev pub Valued : Option Value → ℕ → ℕ → Type 0
-Valued o t n = Mapped valueNumbers o (t ∷ n ∷ [])
-
-module _ (o : Option Value) (r : Resolved) (e : resolvedAs r ≡ Option·map valueNumbers o) where
+module _ (o : Option Value) (r : Resolved) (e : resolvedAs r ≡ Option·map valueHeld o) where
   pub value-missing : r ≡ Unresolved → o ≡ none
-  value-missing u = map-none valueNumbers o (sym (ap resolvedAs u) ∙ e)
+  value-missing u = map-none valueHeld o (sym (ap resolvedAs u) ∙ e)
 
-  pub value-there : (t n : ℕ) → r ≡ ResolvedValue t n → Valued o t n
-  value-there t n u = map-some valueNumbers o (t ∷ n ∷ []) (sym (ap resolvedAs u) ∙ e)
+  pub value-there : (v : HeldValue) → r ≡ ResolvedValue v → Mapped valueHeld o v
+  value-there v u = map-some valueHeld o v (sym (ap resolvedAs u) ∙ e)

@@ -15,8 +15,10 @@ use Rattle.rule.specs.Condition.{Not, WrittenValue}
 use Rattle.rule.specs.Names.{judgedTable, judgedLetter, Binding, Scope, nearest}
 use Rattle.rule.specs.Parts.{UnaryKind, kinds, uses, taggedOf, naturalOf}
 use Rattle.rule.specs.declared.TaggedValue.{TaggedValue}
-use Rattle.phrases.specs.Code.{writtenOf}
-use Rattle.grammar.specs.Code.{noteLeftLetter, noteRightLetter}
+use Rattle.values.specs.Code.{heldNumbers, unusedHeld}
+use Rattle.values.specs.declared.HeldValue.{HeldValue}
+use Rattle.phrases.specs.Code.{notedAt, writtenOf}
+use Rattle.grammar.specs.Code.{noteLeft, noteRight}
 use Rattle.scopes.specs.declared.Fields.{Fields}
 use Rattle.scopes.specs.declared.Resolved.{Resolved}
 use Rattle.scopes.specs.declared.Resolved.the-variants.{Value as ResolvedValue, Unresolved}
@@ -28,14 +30,17 @@ use Rattle.scopes.specs.declared.Compared.the-variants.{Part as Compared
 abbrev pub scopeSize : ℕ
 scopeSize = 2 * mostLevels
 
--- ---- values as numbers
+-- ---- values as they are held
 
--- a value: its tag, and a constant plus 2 ^ 31 or a column; 0 and 0 where a part has none
+-- a value of a part, from how it is published: a constant is kept plus 2 ^ 31
+abbrev pub heldOf : TaggedValue → HeldValue
+heldOf v = record { tag = v .tag; number = cond (eqb (v .tag) constantTag) (toExcess (v .number)) (naturalOf (v .number)) }
+
 abbrev pub taggedNumbers : TaggedValue → List ℕ
-taggedNumbers v = v .tag ∷ cond (eqb (v .tag) constantTag) (toExcess (v .number)) (naturalOf (v .number)) ∷ []
+taggedNumbers v = heldNumbers (heldOf v)
 
-abbrev pub valueNumbers : Value → List ℕ
-valueNumbers v = taggedNumbers (taggedOf v)
+abbrev pub valueHeld : Value → HeldValue
+valueHeld v = heldOf (taggedOf v)
 
 -- ---- numbers and letters
 
@@ -72,39 +77,39 @@ pub record ScopeFits (file scope : List ℕ) (levels : ℕ) : Type 0 where
   pub table-low : (k : ℕ) → k < levels → 1 ≤ getD scope (2 * k + 1) 0
   pub table-high : (k : ℕ) → k < levels → getD scope (2 * k + 1) 0 ≤ tableCount file
 
--- what a value came to: its numbers, or it means nothing
-abbrev pub resolvedAs : Resolved → Option (List ℕ)
-resolvedAs (ResolvedValue t n) = some (t ∷ n ∷ [])
+-- what a value came to, or it means nothing
+abbrev pub resolvedAs : Resolved → Option HeldValue
+resolvedAs (ResolvedValue v) = some v
 resolvedAs Unresolved = none
 
 -- the value that is noted from element i on
 abbrev pub writtenAt : List ℕ → ℕ → WrittenValue
-writtenAt notes i = writtenOf (getD notes i 0) (getD notes (i + 1) 0)
+writtenAt notes i = writtenOf (notedAt notes i)
 
 -- ---- parts as numbers
 
--- kind, comparison, table, end, and two values of a tag and a number each
+-- kind, comparison, table, end, and two values
 abbrev pub partFields : Fields → List ℕ
-partFields p = p .kind ∷ p .comparison ∷ p .table ∷ p .end ∷ p .«left_tag» ∷ p .«left_number» ∷ p .«right_tag» ∷ p .«right_number» ∷ []
+partFields p = p .kind ∷ p .comparison ∷ p .table ∷ p .end ∷ (heldNumbers (p .left) ++ heldNumbers (p .right))
 
 -- a part that says no more than its kind
 abbrev pub plainPartNumbers : ℕ → ℕ → List ℕ
-plainPartNumbers kind end′ = kind ∷ 0 ∷ 0 ∷ end′ ∷ 0 ∷ 0 ∷ 0 ∷ 0 ∷ []
+plainPartNumbers kind end′ = kind ∷ 0 ∷ 0 ∷ end′ ∷ (heldNumbers unusedHeld ++ heldNumbers unusedHeld)
 
 -- the left and the right value of the part that is noted from element b on
 abbrev pub leftWritten : List ℕ → ℕ → WrittenValue
-leftWritten notes b = writtenAt notes (b + noteLeftLetter)
+leftWritten notes b = writtenAt notes (b + noteLeft)
 
 abbrev pub rightWritten : List ℕ → ℕ → WrittenValue
-rightWritten notes b = writtenAt notes (b + noteRightLetter)
+rightWritten notes b = writtenAt notes (b + noteRight)
 
 -- the numbers of a part with two values: its kind, comparison, table and end, and its values; or one of them means nothing
 abbrev pub comparedNumbers : ℕ → ℕ → ℕ → ℕ → Option Value → Option Value → Option (List ℕ)
-comparedNumbers kind op t e v w = v >>= (λ x. w >>= (λ y. some (kind ∷ op ∷ t ∷ e ∷ (valueNumbers x ++ valueNumbers y))))
+comparedNumbers kind op t e v w = v >>= (λ x. w >>= (λ y. some (kind ∷ op ∷ t ∷ e ∷ (heldNumbers (valueHeld x) ++ heldNumbers (valueHeld y)))))
 
 -- the same of IS NULL and IS NOT NULL, which have a left value alone
 abbrev pub nullNumbers : ℕ → ℕ → Option Value → Option (List ℕ)
-nullNumbers kind e v = v >>= (λ x. some (kind ∷ 0 ∷ 0 ∷ e ∷ (valueNumbers x ++ (0 ∷ 0 ∷ []))))
+nullNumbers kind e v = v >>= (λ x. some (kind ∷ 0 ∷ 0 ∷ e ∷ (heldNumbers (valueHeld x) ++ heldNumbers unusedHeld)))
 
 -- and of any part: what its kind does not use is 0, and only a value that it uses has to mean something
 abbrev pub ownPartNumbers : ℕ → ℕ → ℕ → ℕ → Option Value → Option Value → Option (List ℕ)

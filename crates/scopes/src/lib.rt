@@ -9,14 +9,16 @@ ghost use Rattle.tables.specs.Values.{mostLevels};
 ghost use Rattle.cells.specs.Code.{fromExcess, Sized};
 ghost use Rattle.rule.specs.Names.{existing, valueIn};
 ghost use Rattle.rule.specs.Groups.{TestNumber, FromNumber};
-ghost use Rattle.phrases.specs.Code.{writtenOf};
+ghost use Rattle.phrases.specs.Code.{notedSize, writtenOf};
 ghost use Rattle.grammar.specs.Code.{noteSize, noteComparison};
-ghost use Rattle.scopes.specs.Code.{scopeSize, existingAs, scopeIn, binding, outerScope, NearestAt, ScopeFits, valueNumbers, resolvedAs, writtenAt, leftWritten, rightWritten, partFields, plainPartNumbers, comparedNumbers, nullNumbers, ownPartNumbers, comparedAs};
+ghost use Rattle.scopes.specs.Code.{scopeSize, existingAs, scopeIn, binding, outerScope, NearestAt, ScopeFits, valueHeld, resolvedAs, writtenAt, leftWritten, rightWritten, partFields, plainPartNumbers, comparedNumbers, nullNumbers, ownPartNumbers, comparedAs};
 use cells::EXCESS;
 use grammar::MOST_FROMS;
 use grammar::NOTE_COMPARISON;
-use grammar::NOTE_LEFT_LETTER;
-use grammar::NOTE_RIGHT_LETTER;
+use grammar::NOTE_LEFT;
+use grammar::NOTE_RIGHT;
+use phrases::NotedValue;
+use phrases::noted_at;
 use rule::ALL_PART;
 use rule::COMPARISON_PART;
 use rule::EXISTS_PART;
@@ -24,6 +26,8 @@ use rule::NOT_NULL_PART;
 use rule::NULL_PART;
 use rule::SOME_PART;
 use values::CONSTANT;
+use values::HeldValue;
+use values::unused_held;
 
 // The judged row's letter and those of the FROMs around a part: a letter and a table for each.
 pub const SCOPE_NUMBERS: usize = 2 * (1 + MOST_FROMS);
@@ -33,22 +37,20 @@ const JUDGED_LETTER: usize = 109;
 
 const JUDGED_TABLE: usize = 1;
 
-// What a value stands for: its tag and its number.
+// What a value stands for.
 pub enum Resolved {
-    Value(usize, usize),
+    Value(HeldValue),
     Unresolved,
 }
 
-// The fields of a part as numbers; a constant is the number plus 2 ^ 31.
+// The fields of a part as numbers.
 pub struct Fields {
     pub kind: usize,
     pub comparison: usize,
     pub table: usize,
     pub end: usize,
-    pub left_tag: usize,
-    pub left_number: usize,
-    pub right_tag: usize,
-    pub right_number: usize,
+    pub left: HeldValue,
+    pub right: HeldValue,
 }
 
 // A part by its fields, or one of its values means nothing.
@@ -88,32 +90,34 @@ fn find_letter(scope: &[usize; SCOPE_NUMBERS], levels: usize, letter: usize) -> 
 }
 
 // What a noted value stands for where these letters are bound.
-fn resolve(
-    file: &[u8],
-    scope: &[usize; SCOPE_NUMBERS],
-    levels: usize,
-    letter: usize,
-    number: usize,
-) -> Resolved
+fn resolve(file: &[u8], scope: &[usize; SCOPE_NUMBERS], levels: usize, v: NotedValue) -> Resolved
     requires { ⌜ Sized (now file) ⌝ ∗ ⌜ ScopeFits (now file) (now scope) levels ⌝ }
-    ensures { λ r. ⌜ resolvedAs r ≡ Option·map valueNumbers (valueIn (columnsOf (now (file .entry))) (scopeIn (now (scope .entry)) levels) (writtenOf letter number)) ⌝ }
+    ensures { λ r. ⌜ resolvedAs r ≡ Option·map valueHeld (valueIn (columnsOf (now (file .entry))) (scopeIn (now (scope .entry)) levels) (writtenOf v)) ⌝ }
 {
-    if letter == 0 {
-        return Resolved::Value(CONSTANT, number);
+    if v.letter == 0 {
+        let constant = HeldValue {
+            tag: CONSTANT,
+            number: v.number,
+        };
+        return Resolved::Value(constant);
     }
-    let level = find_letter(scope, levels, letter);
+    let level = find_letter(scope, levels, v.letter);
     if level == levels {
         return Resolved::Unresolved;
     }
     let table = scope[2 * level + 1];
-    let column = find_numbered(number, cells::table_columns(file, table - 1));
+    let column = find_numbered(v.number, cells::table_columns(file, table - 1));
     if column == 0 {
         return Resolved::Unresolved;
     }
-    Resolved::Value(level, column)
+    let named = HeldValue {
+        tag: level,
+        number: column,
+    };
+    Resolved::Value(named)
 }
 
-// What the value that is noted from element i on stands for; its number stands behind its letter.
+// What the value that is noted from element i on stands for.
 fn resolve_noted(
     file: &[u8],
     notes: &[usize],
@@ -121,10 +125,10 @@ fn resolve_noted(
     scope: &[usize; SCOPE_NUMBERS],
     levels: usize,
 ) -> Resolved
-    requires { ⌜ Sized (now file) ⌝ ∗ ⌜ i + 2 ≤ length (now notes) ⌝ ∗ ⌜ ScopeFits (now file) (now scope) levels ⌝ }
-    ensures { λ r. ⌜ resolvedAs r ≡ Option·map valueNumbers (valueIn (columnsOf (now (file .entry))) (scopeIn (now (scope .entry)) levels) (writtenAt (now (notes .entry)) i)) ⌝ }
+    requires { ⌜ Sized (now file) ⌝ ∗ ⌜ i + notedSize ≤ length (now notes) ⌝ ∗ ⌜ ScopeFits (now file) (now scope) levels ⌝ }
+    ensures { λ r. ⌜ resolvedAs r ≡ Option·map valueHeld (valueIn (columnsOf (now (file .entry))) (scopeIn (now (scope .entry)) levels) (writtenAt (now (notes .entry)) i)) ⌝ }
 {
-    resolve(file, scope, levels, notes[i], notes[i + 1])
+    resolve(file, scope, levels, noted_at(notes, i))
 }
 
 // The scope with one letter more, which ranges over this table.
@@ -165,12 +169,12 @@ fn compared_part(
     requires { ⌜ Sized (now file) ⌝ ∗ ⌜ b + noteSize ≤ length (now notes) ⌝ ∗ ⌜ ScopeFits (now file) (now scope) «right_levels» ⌝ ∗ ⌜ «left_levels» ≤ «right_levels» ⌝ }
     ensures { λ r. ⌜ comparedAs r ≡ comparedNumbers (getD (now (notes .entry)) b 0) (getD (now (notes .entry)) (b + noteComparison) 0) table e (valueIn (columnsOf (now (file .entry))) (scopeIn (now (scope .entry)) «left_levels») (leftWritten (now (notes .entry)) b)) (valueIn (columnsOf (now (file .entry))) (scopeIn (now (scope .entry)) «right_levels») (rightWritten (now (notes .entry)) b)) ⌝ }
 {
-    let left = resolve_noted(file, notes, b + NOTE_LEFT_LETTER, scope, left_levels);
-    let Resolved::Value(left_tag, left_number) = left else {
+    let first = resolve_noted(file, notes, b + NOTE_LEFT, scope, left_levels);
+    let Resolved::Value(left) = first else {
         return Compared::NoValues;
     };
-    let right = resolve_noted(file, notes, b + NOTE_RIGHT_LETTER, scope, right_levels);
-    let Resolved::Value(right_tag, right_number) = right else {
+    let second = resolve_noted(file, notes, b + NOTE_RIGHT, scope, right_levels);
+    let Resolved::Value(right) = second else {
         return Compared::NoValues;
     };
     let part = Fields {
@@ -178,10 +182,8 @@ fn compared_part(
         comparison: notes[b + NOTE_COMPARISON],
         table,
         end: e,
-        left_tag,
-        left_number,
-        right_tag,
-        right_number,
+        left,
+        right,
     };
     Compared::Part(part)
 }
@@ -198,8 +200,8 @@ fn null_part(
     requires { ⌜ Sized (now file) ⌝ ∗ ⌜ b + noteSize ≤ length (now notes) ⌝ ∗ ⌜ ScopeFits (now file) (now scope) levels ⌝ }
     ensures { λ r. ⌜ comparedAs r ≡ nullNumbers (getD (now (notes .entry)) b 0) e (valueIn (columnsOf (now (file .entry))) (scopeIn (now (scope .entry)) levels) (leftWritten (now (notes .entry)) b)) ⌝ }
 {
-    let left = resolve_noted(file, notes, b + NOTE_LEFT_LETTER, scope, levels);
-    let Resolved::Value(left_tag, left_number) = left else {
+    let resolved = resolve_noted(file, notes, b + NOTE_LEFT, scope, levels);
+    let Resolved::Value(left) = resolved else {
         return Compared::NoValues;
     };
     let part = Fields {
@@ -207,10 +209,8 @@ fn null_part(
         comparison: 0,
         table: 0,
         end: e,
-        left_tag,
-        left_number,
-        right_tag: 0,
-        right_number: 0,
+        left,
+        right: unused_held(),
     };
     Compared::Part(part)
 }
@@ -260,10 +260,8 @@ pub fn from_part(
                 comparison: 0,
                 table,
                 end: e,
-                left_tag: 0,
-                left_number: 0,
-                right_tag: 0,
-                right_number: 0,
+                left: unused_held(),
+                right: unused_held(),
             };
             Compared::Part(part)
         }
@@ -286,9 +284,7 @@ pub fn plain_part(kind: usize, end: usize) -> Fields
         comparison: 0,
         table: 0,
         end,
-        left_tag: 0,
-        left_number: 0,
-        right_tag: 0,
-        right_number: 0,
+        left: unused_held(),
+        right: unused_held(),
     }
 }

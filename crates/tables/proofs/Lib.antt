@@ -10,3 +10,4 @@ pub mod Numbering
 pub mod First
 pub mod Blanks
 pub mod Placed
+pub mod Bytes

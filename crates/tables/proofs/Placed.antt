@@ -1,14 +1,16 @@
--- A list with another in its place from some number on: its length, one after another, one over another, the list around a part that was lent, a
+-- A list with another in its place from some number on: its length, one after another, one over another, two apart, the list around a part that was lent, a
 -- list copied element by element, and elements stored one after the other.
 use mathlib.Core.Path.{_≡_, refl, sym, ap, ap₂, _∙_}
+use mathlib.Core.Bool.{Bool, true}
 use mathlib.Core.List.{List, [], _∷_, _++_, append-assoc}
 use Prim.Native.Nat.{ℕ, suc, _+_, _-_, _<_, _≤_}
 use native.Mathlib.Nat.{zero-add, add-zero}
 use native.Mathlib.Numerals.{add-one}
 use native.Mathlib.Omega.{arith}
 use lib.ListN.{length, getD, take, drop, set, length-append, length-drop, length-set, take-append-drop}
-use lib.Seq.{length-take-le, take-at, drop-at, take-all, take-suc, take-take, take-append-le, take-append-seam, drop-drop, set-split, sets, sets-eq}
-use Rattle.tables.specs.Lists.{placed}
+use lib.Seq.{length-take-le, take-at, drop-at, take-all, take-suc, take-take, take-append-le, take-append-add, take-append-seam, drop-append-le, drop-append-add, drop-drop, set-split, sets, sets-eq}
+use Rattle.tables.specs.Lists.{all, placed}
+use Rattle.tables.proofs.Tabulated.{and-yes, all-append, all-parts}
 
 module _ {A : Type 0} where
   -- ---- the length, and the whole list
@@ -175,3 +177,81 @@ module _ {A : Type 0} where
   pub filled : (l : List A) (at : ℕ) (a : A) (y : List A) → at + length (a ∷ y) ≤ length l → fill (set l at a) at 1 y ≡ placed l at (a ∷ y)
   unfolding placed
   filled l at a y h = fill-sets y (set l at a) at 1 ∙ ap (λ (j : ℕ). sets (set l at a) j y) (add-one at) ∙ sets-eq (a ∷ y) l at h ∙ append-assoc (take at l) (a ∷ y) _
+
+  -- ---- a record: some elements stored one after the other, and two lists placed behind them
+
+  module _ (l : List A) (at : ℕ) (a : A) (y xs ys : List A) (room : at + length (((a ∷ y) ++ xs) ++ ys) ≤ length l) where
+    abbrev long : (length ((a ∷ y) ++ xs) ≡ length (a ∷ y) + length xs) × (length (((a ∷ y) ++ xs) ++ ys) ≡ length ((a ∷ y) ++ xs) + length ys)
+    long = (length-append (a ∷ y) xs, length-append ((a ∷ y) ++ xs) ys)
+
+    front-put : fill (set l at a) at 1 y ≡ placed l at (a ∷ y)
+    front-put = filled l at a y (omega (arith, long .0, long .1))
+
+    pub front-length : length (fill (set l at a) at 1 y) ≡ length l
+    front-length = ap length front-put ∙ placed-length l at (a ∷ y) (omega (arith, long .0, long .1))
+
+    module _ {mid : List A} (j : ℕ) (p : mid ≡ placed (fill (set l at a) at 1 y) j xs) (e : j ≡ at + length (a ∷ y)) where
+      left-put : mid ≡ placed l at ((a ∷ y) ++ xs)
+      left-put = p ∙ ap (λ (m : List A). placed m j xs) front-put ∙ placed-next l at (a ∷ y) j xs (omega arith) e
+
+      pub left-length : length mid ≡ length l
+      left-length = ap length left-put ∙ placed-length l at ((a ∷ y) ++ xs) (omega (arith, long .1))
+
+      pub record-put : {new : List A} (k : ℕ) → new ≡ placed mid k ys → k ≡ at + length ((a ∷ y) ++ xs) → new ≡ placed l at (((a ∷ y) ++ xs) ++ ys)
+      record-put k q f = q ∙ ap (λ (m : List A). placed m k ys) left-put ∙ placed-next l at ((a ∷ y) ++ xs) k ys (omega arith) f
+
+-- ---- placed in a part of a list, and apart from another
+
+module _ {A : Type 0} where
+  -- a part of the first of two lists
+  pub part-within : (xs ys : List A) (a m : ℕ) → a + m ≤ length xs → take m (drop a (xs ++ ys)) ≡ take m (drop a xs)
+  part-within xs ys a m h =
+      ap (take m) (drop-append-le a xs ys (omega arith)) ∙ take-append-le m (drop a xs) ys (omega (arith, length-drop a xs))
+
+  pub placed-behind : (xs ys : List A) (i j : ℕ) (new : List A) → i ≡ length xs + j → placed (xs ++ ys) i new ≡ xs ++ placed ys j new
+  unfolding placed
+  placed-behind xs ys i j new e =
+      let z : i + length new ≡ length xs + (j + length new) = omega arith in
+      ap₂ (λ (a b : List A). a ++ (new ++ b)) (ap (λ (k : ℕ). take k (xs ++ ys)) e ∙ take-append-add xs ys j)
+      (ap (λ (k : ℕ). drop k (xs ++ ys)) z ∙ drop-append-add xs ys (j + length new))
+      ∙ append-assoc xs (take j ys) _
+
+  pub placed-within : (xs ys : List A) (i : ℕ) (new : List A) → i + length new ≤ length xs → placed (xs ++ ys) i new ≡ placed xs i new ++ ys
+  unfolding placed
+  placed-within xs ys i new h =
+      ap₂ (λ (a b : List A). a ++ (new ++ b)) (take-append-le i xs ys (omega arith)) (drop-append-le (i + length new) xs ys h)
+      ∙ ap (λ (l : List A). take i xs ++ l) (sym (append-assoc new _ ys))
+      ∙ sym (append-assoc (take i xs) _ ys)
+
+  pub placed-apart : (old : List A) (i : ℕ) (xs : List A) (j : ℕ) (ys : List A) → i + length xs ≤ j → j + length ys ≤ length old
+      → placed (placed old i xs) j ys ≡ placed (placed old j ys) i xs
+  placed-apart old i xs j ys h l =
+      let front = take j old in
+      let rest = drop j old in
+      let whole : old ≡ front ++ rest = sym (take-append-drop j old) in
+      let size : length front ≡ j = length-take-le j old (omega arith) in
+      let inner = placed front i xs in
+      let size′ : length inner ≡ j = placed-length front i xs (omega arith) ∙ size in
+      let at : j ≡ length inner + 0 = omega arith in
+      let at′ : j ≡ length front + 0 = omega arith in
+      ap (λ (z : List A). placed (placed z i xs) j ys) whole
+      ∙ ap (λ (z : List A). placed z j ys) (placed-within front rest i xs (omega arith))
+      ∙ placed-behind inner rest j 0 ys at
+      ∙ sym (placed-within front (placed rest 0 ys) i xs (omega arith))
+      ∙ ap (λ (z : List A). placed z i xs) (sym (placed-behind front rest j 0 ys at′) ∙ ap (λ (z : List A). placed z j ys) (sym whole))
+
+-- ---- one element more
+
+pub set-next : {A : Type 0} (old : List A) (i : ℕ) (xs : List A) (j : ℕ) (y : A) → i + length xs < length old → j ≡ i + length xs
+    → set (placed old i xs) j y ≡ placed old i (xs ++ (y ∷ []))
+set-next old i xs j y h e =
+    placed-one (placed old i xs) j y (omega (arith, placed-length old i xs (omega arith))) ∙ placed-next old i xs j (y ∷ []) (omega arith) e
+
+-- ---- a test of every element
+
+module _ {A : Type 0} (p : A → Bool) where
+  pub all-placed : (xs : List A) (j : ℕ) (ys : List A) → all p xs ≡ true → all p ys ≡ true → all p (placed xs j ys) ≡ true
+  unfolding placed
+  all-placed xs j ys e f =
+      all-append p (take j xs) (ys ++ drop (j + length ys) xs)
+      ∙ and-yes _ _ (all-parts p j xs e .0) (all-append p ys (drop (j + length ys) xs) ∙ and-yes _ _ f (all-parts p (j + length ys) xs e .1))

@@ -23,7 +23,7 @@ fn write_sizes(file: &[u8], entries: usize, out: &mut [u8])
     ensures { λ _. ⌜ now (out .exit) ≡ placed (now (out .entry)) 0 (bytes16 entries ++ (length (columnsOf (now (file .entry))) ∷ columnsOf (now (file .entry)))) ⌝ }
 {
     let tables = cells::byte(file, 0);
-    records::put16(out, 0, entries);
+    storing::put16(out, 0, entries);
     out[2] = tables as u8;
     let mut j: usize = 0;
     while j < tables {

@@ -23,6 +23,7 @@ use Rattle.tables.proofs.Numbering.{cells-within}
 use Rattle.cells.proofs.Cells.{place-of, values-of, marks-of}
 use Rattle.window.proofs.Shown.{seen-shown, shown-from}
 use Rattle.values.specs.Code.{valueIn, rowFrom, LevelAt, Levels, ValueReady}
+use Rattle.values.specs.declared.HeldValue.{HeldValue}
 
 -- ---- where a table's rows stand
 
@@ -104,13 +105,14 @@ pub record CellIn (file : List ℕ) (values marks k : ℕ) : Type 0 where
   pub marks-at : marks ≡ marksAt file
   pub within : k < cellCount file
 
-pub value-constant : (env : Env) (tag n : ℕ) → tag ≡ constantTag → Present (fromExcess n) ≡ cellOf env (valueIn tag n)
-unfolding valueIn
-value-constant env tag n e = rw (eq-eqb tag constantTag e)
+module _ (v : HeldValue) where
+  pub value-constant : (env : Env) → v .tag ≡ constantTag → Present (fromExcess (v .number)) ≡ cellOf env (valueIn v)
+  unfolding valueIn
+  value-constant env e = rw (eq-eqb (v .tag) constantTag e)
 
-value-column : (tag n : ℕ) → (tag ≡ constantTag → ⊥) → valueIn tag n ≡ Column tag n
-unfolding valueIn
-value-column tag n h = rw (ne-eqb tag constantTag h)
+  value-column : (v .tag ≡ constantTag → ⊥) → valueIn v ≡ Column (v .tag) (v .number)
+  unfolding valueIn
+  value-column h = rw (ne-eqb (v .tag) constantTag h)
 
 -- a cell of a row
 row-cell : (file : List ℕ) (k t : ℕ) (row : Row) (n : ℕ) → LevelAt file k t row → 1 ≤ n → n ≤ numbered (columnsOf file) t 0
@@ -121,27 +123,32 @@ row-cell file k t row (suc c) h low high =
     let z : suc c - 1 ≡ c = omega arith in
     rw (h .row-is, z) (tabulate-at (numbered (columnsOf file) t 0) (λ c. cellAt file (k + c)) c Blank high)
 
--- the place of column n in the row of a level, and no other cell
-abbrev cellPlace : (g w : List ℕ) (tag n : ℕ) → Place
-cellPlace g w tag n = record { values = getD g 0 0; marks = getD g 1 0; first = getD w tag 0 + (n - 1); columns = 1; rows = 1 }
+-- the number of the cell that a column names, and its place, with no other cell
+abbrev cellNumbered : List ℕ → HeldValue → ℕ
+cellNumbered w v = getD w (v .tag) 0 + (v .number - 1)
 
-module _ {g file w : List ℕ} {tag n : ℕ} (h : ValueReady g file w tag n) (not-constant : tag ≡ constantTag → ⊥) where
-  column-fits : T (valueFits (columnsOf file) (h .levels) (Column tag n))
-  column-fits = subst (λ v. T (valueFits (columnsOf file) (h .levels) v)) (value-column tag n not-constant) (h .fits)
+abbrev cellPlace : (g w : List ℕ) → HeldValue → Place
+cellPlace g w v = record { values = getD g 0 0; marks = getD g 1 0; first = cellNumbered w v; columns = 1; rows = 1 }
 
-  column-there : (tag < length (h .levels)) × ((1 ≤ n) × (n ≤ numbered (columnsOf file) (getD (h .levels) tag 0) 0))
+module _ {g file w : List ℕ} {v : HeldValue} (h : ValueReady g file w v) (not-constant : v .tag ≡ constantTag → ⊥) where
+  abbrev columns : ℕ
+  columns = numbered (columnsOf file) (getD (h .levels) (v .tag) 0) 0
+
+  column-fits : T (valueFits (columnsOf file) (h .levels) (Column (v .tag) (v .number)))
+  column-fits = subst (λ x. T (valueFits (columnsOf file) (h .levels) x)) (value-column v not-constant) (h .fits)
+
+  column-there : (v .tag < length (h .levels)) × ((1 ≤ v .number) × (v .number ≤ columns))
   column-there =
-      let columns = numbered (columnsOf file) (getD (h .levels) tag 0) 0 in
-      let (p, q) = both (ltb tag (length (h .levels))) (between 1 columns n) column-fits in
-      (ltb→lt tag (length (h .levels)) p, bounds 1 columns n q)
+      let (p, q) = both (ltb (v .tag) (length (h .levels))) (between 1 columns (v .number)) column-fits in
+      (ltb→lt (v .tag) (length (h .levels)) p, bounds 1 columns (v .number) q)
 
-  pub level-low : (tag < mostLevels) × (1 ≤ n)
+  pub level-low : (v .tag < mostLevels) × (1 ≤ v .number)
   level-low = let few = h .readable .standing .few in let c = column-there in (omega arith, c .1 .0)
 
-  pub cell-there : CellIn file (getD g 0 0) (getD g 1 0) (getD w tag 0 + (n - 1))
+  pub cell-there : CellIn file (getD g 0 0) (getD g 1 0) (cellNumbered w v)
   cell-there =
       let c = column-there in
-      let x = h .readable .standing .at tag (c .0) .within in
+      let x = h .readable .standing .at (v .tag) (c .0) .within in
       record {
         sized = h .readable .sized;
         values-at = values-of file g (h .readable .places);
@@ -150,14 +157,14 @@ module _ {g file w : List ℕ} {tag n : ℕ} (h : ValueReady g file w tag n) (no
       }
 
   -- the window on the cell alone shows it
-  pub window-shows : seenCell (seenAt file (cellPlace g w tag n) 0 0) ≡ cellOf (h .env) (valueIn tag n)
+  pub window-shows : seenCell (seenAt file (cellPlace g w v) 0 0) ≡ cellOf (h .env) (valueIn v)
   window-shows =
-      let k = getD w tag 0 in
+      let k = cellNumbered w v in
       let c = column-there in
-      let z : k + (n - 1) + 0 * 1 + 0 ≡ k + (n - 1) = omega arith in
-      seen-shown file (cellPlace g w tag n) 0 0
-      ∙ ap₂ (λ (v m : ℕ). shown file (record { values = v; marks = m; first = k + (n - 1); columns = 1; rows = 1 }) 0 0) (cell-there .values-at) (cell-there .marks-at)
-      ∙ shown-from file (k + (n - 1)) 1 1 0 0
+      let z : k + 0 * 1 + 0 ≡ k = omega arith in
+      seen-shown file (cellPlace g w v) 0 0
+      ∙ ap₂ (λ (x m : ℕ). shown file (record { values = x; marks = m; first = k; columns = 1; rows = 1 }) 0 0) (cell-there .values-at) (cell-there .marks-at)
+      ∙ shown-from file k 1 1 0 0
       ∙ ap (cellAt file) z
-      ∙ sym (row-cell file k (getD (h .levels) tag 0) (getD (h .env) tag []) n (h .readable .standing .at tag (c .0)) (c .1 .0) (c .1 .1))
-      ∙ ap (cellOf (h .env)) (sym (value-column tag n not-constant))
+      ∙ sym (row-cell file _ _ _ (v .number) (h .readable .standing .at (v .tag) (c .0)) (c .1 .0) (c .1 .1))
+      ∙ ap (cellOf (h .env)) (sym (value-column v not-constant))

@@ -1,20 +1,47 @@
--- What the functions of src/ promise their callers, in the terms of the code: a row as the number of its first cell. The contract of a public call
--- cites nothing of this file.
+-- What the functions of src/ promise their callers, in the terms of the code: a value as numbers, a row as the number of its first cell. The contract of a
+-- public call cites nothing of this file.
 use mathlib.Core.Path.{_≡_}
 use mathlib.Core.Bool.{cond}
-use mathlib.Core.List.{List, []}
+use mathlib.Core.List.{List, [], _∷_}
 use Prim.Native.Nat.{ℕ, _+_, _<_, _≤_}
 use lib.Dec.{T, eqb}
 use lib.ListN.{length, getD}
 use Rattle.tables.specs.Lists.{tabulate, numbered}
 use Rattle.tables.specs.Tables.{Row, cellAt, cellCount, columnsOf}
 use Rattle.tables.specs.Values.{mostLevels, constantTag, Value, Constant, Column, Env, cellOf, valueFits}
-use Rattle.cells.specs.Code.{fromExcess, Sized, Places, seenCell}
+use Rattle.cells.specs.Code.{words32, fromExcess, Sized, Places, seenCell}
 use Rattle.cells.specs.declared.Seen.{Seen}
+use Rattle.values.specs.declared.HeldValue.{HeldValue}
 
--- the value of a tag and a number: a constant plus 2 ^ 31, or a column
-unfoldable pub valueIn : ℕ → ℕ → Value
-valueIn tag n = cond (eqb tag constantTag) (Constant (fromExcess n)) (Column tag n)
+-- ---- values as they are held
+
+-- what stands where there is no value
+abbrev pub unusedHeld : HeldValue
+unusedHeld = record { tag = 0; number = 0 }
+
+-- how many elements of an array a value takes, what they are, and the value that stands there from element i on
+abbrev pub heldSize : ℕ
+heldSize = 2
+
+abbrev pub heldNumbers : HeldValue → List ℕ
+heldNumbers v = v .tag ∷ v .number ∷ []
+
+abbrev pub heldAt : List ℕ → ℕ → HeldValue
+heldAt numbers i = record { tag = getD numbers i 0; number = getD numbers (i + 1) 0 }
+
+-- each of its numbers has 32 bits
+pub record Held32 (v : HeldValue) : Type 0 where
+  pub tag-small : v .tag < words32
+  pub number-small : v .number < words32
+
+-- they fit the bytes of a value: its tag has one, its number four
+pub record FitsBytes (v : HeldValue) : Type 0 where
+  pub tag-byte : v .tag < 256
+  pub number-small : v .number < words32
+
+-- the value that is held so: a constant plus 2 ^ 31, or a column of the level that is its tag
+unfoldable pub valueIn : HeldValue → Value
+valueIn v = cond (eqb (v .tag) constantTag) (Constant (fromExcess (v .number))) (Column (v .tag) (v .number))
 
 -- ---- rows and levels
 
@@ -42,12 +69,12 @@ pub record Readable (g file w levels : List ℕ) (env : Env) : Type 0 where
 
 -- ---- what looking at a value asks, and answers: for whatever levels and rows the numbers stand for
 
-pub record ValueReady (g file w : List ℕ) (tag n : ℕ) : Type 0 where
+pub record ValueReady (g file w : List ℕ) (v : HeldValue) : Type 0 where
   pub levels : List ℕ
   pub env : Env
   pub readable : Readable g file w levels env
-  pub fits : T (valueFits (columnsOf file) levels (valueIn tag n))
+  pub fits : T (valueFits (columnsOf file) levels (valueIn v))
 
 -- the cell of the value; which number is seen under a blank is open, and no comparison reads it
-abbrev pub Sees : (g file w : List ℕ) (tag n : ℕ) → Seen → Type 0
-Sees g file w tag n r = (h : ValueReady g file w tag n) → seenCell r ≡ cellOf (h .env) (valueIn tag n)
+abbrev pub Sees : (g file w : List ℕ) → HeldValue → Seen → Type 0
+Sees g file w v r = (h : ValueReady g file w v) → seenCell r ≡ cellOf (h .env) (valueIn v)

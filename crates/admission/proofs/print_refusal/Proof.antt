@@ -1,9 +1,11 @@
 -- A refusal: the word, the number and a line feed, one behind another.
 use mathlib.Core.List.{_++_}
 use native.Mathlib.Omega.{arith}
-use Rattle.rule.specs.Tokens.{bytes}
-use Rattle.admission.specs.Output.{decimal, lineFeed}
-use Rattle.admission.proofs.Writing.{decimal-length}
+use lib.IntN.{pos}
+use Rattle.numerals.specs.Texts.{bytes}
+use Rattle.numerals.specs.Numerals.{numeral}
+use Rattle.admission.specs.Output.{lineFeed}
+use Rattle.admission.proofs.Writing.{number-length}
 use Rattle.admission.proofs.Texts.{Begun, begun-none, begun-more, begun-answered, refusal-grouped}
 use borrow.Author.Needs.{needs}
 use Rattle.admission.proofs.print_refusal.Statement.{statement}
@@ -15,13 +17,13 @@ first c =
     let start = c .before .before .before in
     begun-more _ _ _ _ _ (begun-none (start .args .out .now) (start .pre .0)) _ _ _ 8 (c .put-word .ensures .0) (c .put-word .ensures .1) (omega arith) (omega arith)
 
-put-decimal-requires : tie.Need-put-decimal-requires
-put-decimal-requires c κs =
+put-number-requires : tie.Need-put-number-requires
+put-number-requires c κs =
     let b = first (c .before) in
     (b .size, (c .before .before .before .before .pre .1, omega arith))
 
-second : (c : tie.After-put-decimal) → Begun (c .before .before .before .before .before .args .out .now) (bytes "refused " ++ decimal (c .before .before .before .before .before .args .number)) 12 (c .put-decimal .last .0) (c .put-decimal .result)
-second c = begun-more _ _ _ _ _ (first (c .before .before)) _ _ _ 4 (c .put-decimal .ensures .0) (c .put-decimal .ensures .1 .0) (decimal-length _) (omega arith)
+second : (c : tie.After-put-number) → Begun (c .before .before .before .before .before .args .out .now) (bytes "refused " ++ numeral (pos (c .before .before .before .before .before .args .number))) 12 (c .put-number .last .0) (c .put-number .result)
+second c = begun-more _ _ _ _ _ (first (c .before .before)) _ _ _ 4 (c .put-number .ensures .0) (c .put-number .ensures .1 .0) (number-length _ (omega arith)) (omega arith)
 
 put-word-requires-2 : tie.Need-put-word-requires-2
 put-word-requires-2 c κs =
@@ -39,7 +41,7 @@ print-refusal-spec =
     (tie.spec
     (λ c. search needs)
     (λ c κs. search needs)
-    put-decimal-requires
+    put-number-requires
     (λ c. search needs)
     put-word-requires-2
     returns)

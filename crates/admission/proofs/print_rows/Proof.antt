@@ -4,9 +4,9 @@ use Prim.Native.Nat.{_*_}
 use native.Mathlib.Omega.{arith}
 use lib.ListN.{take}
 use lib.Seq.{length-take-le}
-use Rattle.rule.specs.Tokens.{bytes}
+use Rattle.numerals.specs.Texts.{bytes}
 use Rattle.admission.specs.Output.{lineFeed, rowLines}
-use Rattle.admission.proofs.Writing.{decimal-length}
+use Rattle.admission.proofs.Writing.{number-length}
 use Rattle.admission.proofs.Texts.{Begun, begun-none, begun-more, begun-answered, toAdmitted, toTotal, rows-grouped}
 use borrow.Author.Needs.{needs}
 use Rattle.admission.proofs.print_rows.Statement.{statement}
@@ -18,13 +18,13 @@ first c =
     let start = c .before .before .before in
     begun-more _ _ _ _ _ (begun-none (start .args .out .now) (start .pre .0)) _ _ _ 5 (c .put-word .ensures .0) (c .put-word .ensures .1) (omega arith) (omega arith)
 
-put-decimal-requires : tie.Need-put-decimal-requires
-put-decimal-requires c κs =
+put-number-requires : tie.Need-put-number-requires
+put-number-requires c κs =
     let b = first (c .before) in
     (b .size, (omega arith, omega arith))
 
-second : (c : tie.After-put-decimal) → Begun (c .before .before .before .before .before .args .out .now) (toAdmitted (c .before .before .before .before .before .args .n)) 9 (c .put-decimal .last .0) (c .put-decimal .result)
-second c = begun-more _ _ _ _ _ (first (c .before .before)) _ _ _ 4 (c .put-decimal .ensures .0) (c .put-decimal .ensures .1 .0) (decimal-length _) (omega arith)
+second : (c : tie.After-put-number) → Begun (c .before .before .before .before .before .args .out .now) (toAdmitted (c .before .before .before .before .before .args .n)) 9 (c .put-number .last .0) (c .put-number .result)
+second c = begun-more _ _ _ _ _ (first (c .before .before)) _ _ _ 4 (c .put-number .ensures .0) (c .put-number .ensures .1 .0) (number-length _ (omega arith)) (omega arith)
 
 put-word-requires-2 : tie.Need-put-word-requires-2
 put-word-requires-2 c κs =
@@ -35,16 +35,16 @@ third : (c : tie.After-put-word2) → Begun (c .before .before .before .before .
 unfolding bytes
 third c = begun-more _ _ _ _ _ (second (c .before .before .before)) _ _ _ 4 (c .put-word2 .ensures .0) (c .put-word2 .ensures .1) (omega arith) (omega arith)
 
-put-decimal-requires-2 : tie.Need-put-decimal-requires-2
-put-decimal-requires-2 c κs =
+put-number-requires-2 : tie.Need-put-number-requires-2
+put-number-requires-2 c κs =
     let b = third (c .before) in
     let p = c .before .before .before .before .before .before .before .before .before .pre in
     (b .size, (omega arith, omega arith))
 
-fourth : (c : tie.After-put-decimal2)
+fourth : (c : tie.After-put-number2)
     → let start = c .before .before .before .before .before .before .before .before .before .before in
-    Begun (start .args .out .now) (toTotal (start .args .n) (start .args .total)) 17 (c .put-decimal2 .last .0) (c .put-decimal2 .result)
-fourth c = begun-more _ _ _ _ _ (third (c .before .before)) _ _ _ 4 (c .put-decimal2 .ensures .0) (c .put-decimal2 .ensures .1 .0) (decimal-length _) (omega arith)
+    Begun (start .args .out .now) (toTotal (start .args .n) (start .args .total)) 17 (c .put-number2 .last .0) (c .put-number2 .result)
+fourth c = begun-more _ _ _ _ _ (third (c .before .before)) _ _ _ 4 (c .put-number2 .ensures .0) (c .put-number2 .ensures .1 .0) (number-length _ (omega arith)) (omega arith)
 
 put-word-requires-3 : tie.Need-put-word-requires-3
 put-word-requires-3 c κs =
@@ -78,10 +78,10 @@ print-rows-spec =
     (tie.spec
     (λ c. search needs)
     (λ c κs. search needs)
-    put-decimal-requires
+    put-number-requires
     (λ c. search needs)
     put-word-requires-2
-    put-decimal-requires-2
+    put-number-requires-2
     (λ c. search needs)
     put-word-requires-3
     put-rows-requires

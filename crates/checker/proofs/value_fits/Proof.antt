@@ -8,29 +8,31 @@ use Rattle.checker.proofs.value_fits.Statement.{statement}
 use Rattle.checker.proofs.value_fits.Tie as tie
 
 returns : tie.Need-returns
-returns c = constant-fits _ _ _ _ (c .if1 .taken) (c .before .before .pre .1)
+returns c = constant-fits _ _ _ (c .if1 .taken) (c .before .before .pre .1)
 
 returns-2 : tie.Need-returns-2
-returns-2 c = level-missing _ _ _ _ _ (c .before .before .before .pre .0) (c .before .if1 .left) (omega arith)
+returns-2 c = level-missing _ _ _ _ (c .before .before .before .pre .0) (c .before .if1 .left) (omega arith)
 
 returns-3 : tie.Need-returns-3
-returns-3 c = column-missing _ _ _ _ _ (c .before .before .before .before .pre .0) (c .before .before .if1 .left) (omega arith) (omega arith)
+returns-3 c = column-missing _ _ _ _ (c .before .before .before .before .before .pre .0) (c .before .before .before .if1 .left) (omega arith) (omega arith)
 
 add-byte : tie.Need-add-byte
 add-byte c =
-    let h = c .before .before .before .before .before .pre .0 in
-    omega (arith, h .table-high (c .before .before .before .before .before .args .tag) (omega arith), h .laid-out .tables-high)
+    let start = c .before .before .before .before .before .before in
+    let h = start .pre .0 in
+    omega (arith, h .table-high (start .args .v .tag) (omega arith), h .laid-out .tables-high)
 
 byte-requires : tie.Need-byte-requires
 byte-requires c κs =
-    let h = c .before .before .before .before .before .pre .0 in
-    omega (arith, h .table-high (c .before .before .before .before .before .args .tag) (omega arith), h .laid-out .long)
+    let start = c .before .before .before .before .before .before in
+    let h = start .pre .0 in
+    omega (arith, h .table-high (start .args .v .tag) (omega arith), h .laid-out .long)
 
 returns-4 : tie.Need-returns-4
 returns-4 c =
-    let a = c .before .before .before .before .before .before .args in
-    ap (leb (a .n)) (c .byte .ensures .0)
-    ∙ column-last _ _ _ _ _ (c .before .before .before .before .before .before .pre .0) (c .before .before .before .before .if1 .left) (omega arith) (omega arith)
+    let start = c .before .before .before .before .before .before .before .before in
+    ap (leb (start .args .v .number)) (c .before .byte .ensures .0)
+    ∙ column-last _ _ _ _ (start .pre .0) (c .before .before .before .before .before .before .if1 .left) (omega arith) (omega arith)
 
 pub value-fits-spec : {M : Type 1} → statement M
 value-fits-spec =

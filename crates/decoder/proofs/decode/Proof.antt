@@ -1,4 +1,5 @@
-use mathlib.Core.Path.{_≡_, refl}
+-- `decoder::decode` meets its contract. The loop's invariant: the numbers of the first i entries stand in d.
+use mathlib.Core.Path.{_≡_, refl, ap, _∙_}
 use Prim.Native.Nat.{_+_, _*_, _-_, _<_, _≤_}
 use native.Mathlib.Omega.{arith}
 use lib.ListN.{length, length-set}
@@ -7,6 +8,7 @@ use Rattle.tables.specs.Values.{mostEntries}
 use Rattle.card.specs.Layout.{recordSize}
 use Rattle.cells.specs.Code.{Holds}
 use Rattle.cells.proofs.Holding.{holds-none, holds-same}
+use Rattle.tables.proofs.Placed.{placed-length}
 use Rattle.decoder.specs.Code.{entrySize, fieldOf}
 use Rattle.decoder.proofs.Decoding.{entry-more}
 use Rattle.decoder.proofs.decode.Statement.{statement}
@@ -33,44 +35,41 @@ inside : (c : tie.In-loop Inv-loop μ-loop)
 inside c = (omega arith, omega arith, omega arith, omega arith, omega arith)
 
 -- a write leaves d as long as it was, so there is room for the next one
-writes :
-    tie.Need-slice-write-d-2 Inv-loop μ-loop
-    × tie.Need-slice-write-d-3 Inv-loop μ-loop
-    × tie.Need-slice-write-d-4 Inv-loop μ-loop
-    × tie.Need-slice-write-d-5 Inv-loop μ-loop
-    × tie.Need-slice-write-d-6 Inv-loop μ-loop
-    × tie.Need-slice-write-d-7 Inv-loop μ-loop
-    × tie.Need-slice-write-d-8 Inv-loop μ-loop
+writes : tie.Need-slice-write-d-2 Inv-loop μ-loop × tie.Need-slice-write-d-3 Inv-loop μ-loop × tie.Need-slice-write-d-4 Inv-loop μ-loop
 writes = (
   λ c. simp length-set (omega (arith, inside (c .before .before .before))),
   λ c. simp length-set (omega (arith, inside (c .before .before .before .before))),
   λ c. simp length-set (omega (arith, inside (c .before .before .before .before .before))),
-  λ c. simp length-set (omega (arith, inside (c .before .before .before .before .before .before))),
-  λ c. simp length-set (omega (arith, inside (c .before .before .before .before .before .before .before))),
-  λ c. simp length-set (omega (arith, inside (c .before .before .before .before .before .before .before .before))),
-  λ c. simp length-set (omega (arith, inside (c .before .before .before .before .before .before .before .before .before))),
 )
+
+put-held-requires : tie.Need-put-held-requires Inv-loop μ-loop
+put-held-requires c κs = simp length-set (omega (arith, inside (c .before .before .before .before .before .before .before)))
+
+put-held-requires-2 : tie.Need-put-held-requires-2 Inv-loop μ-loop
+put-held-requires-2 c κs =
+    let put = c .before .before .before .before in
+    let loop = put .before .before .before .before .before .before .before .before in
+    let room = inside loop in
+    let long : length (put .put-held .last .0) ≡ length (loop .before .loop .d) = ap length (put .put-held .ensures) ∙ placed-length _ _ _ (simp length-set (omega (arith, room))) ∙ simp length-set in
+    omega (arith, room, long)
 
 loop-again : tie.Need-loop-again Inv-loop μ-loop
 loop-again c =
-    let at-loop = c .before .before .before .before .before .before .before .before .before .before in
+    let left = c .before .before .before .before .before .before .before .before in
+    let fields = left .before .before in
+    let at-loop = fields .before .before .before .before .before .before in
     let start = at-loop .before .before .before .before .before in
     let tables = at-loop .before .byte in
     let entries = at-loop .before .before .read16 in
     let inv = at-loop .loop .inv in
-    let taken = c .before .before .before .before .before .before .before .before .before .loop-test .taken in (
-      omega arith,
-      simp length-set (inv .1),
-      simp length-set (inv .2),
-      entry-more (start .args .card .now) (at-loop .loop .i) (tables .result) (entries .result) (tables .ensures .0) (entries .ensures .0)
-          (length (at-loop .loop .d)) (omega arith) _ _ _ _ _ _ _ _ _ _ refl (inv .3)
-          (c .before .before .before .before .before .before .before .before .byte2 .ensures .0)
-          (c .before .before .before .before .before .before .before .known-kind .ensures)
-          (c .before .before .before .before .before .before .read162 .ensures)
-          (c .before .before .before .before .before .byte3 .ensures)
-          (c .before .before .before .before .byte4 .ensures) (c .before .before .before .byte5 .ensures)
-          (c .before .before .number-at .ensures) (c .before .byte6 .ensures) (c .number-at2 .ensures),
-    )
+    let taken = fields .before .before .before .before .before .loop-test .taken in
+    let more = entry-more (start .args .card .now) (at-loop .loop .i) (tables .result) (entries .result) (tables .ensures .0) (entries .ensures .0)
+    (length (at-loop .loop .d)) (omega arith) _ _ _ _ _ _ refl (inv .3)
+    (fields .before .before .before .before .byte2 .ensures .0) (fields .before .before .before .known-kind .ensures)
+    (fields .before .before .read162 .ensures) (fields .before .byte3 .ensures) (fields .byte4 .ensures)
+    (left .value-at .ensures) (c .before .before .before .value-at2 .ensures)
+    _ _ (c .before .before .before .before .before .before .before .put-held .ensures) (c .before .before .put-held2 .ensures) in
+    (omega arith, omega (arith, more .0), more .0 ∙ inv .2, more .1)
 
 same-length : tie.Need-same-length Inv-loop μ-loop
 same-length c = c .before .loop .inv .2
@@ -111,26 +110,14 @@ decode-spec =
     (λ c. omega (arith, inside (c .before .before .before .before .before)))
     (λ c. omega (arith, inside (c .before .before .before .before .before)))
     (writes .2)
-    (λ c. omega (arith, inside (c .before .before .before .before .before)))
-    (λ c κs. omega (arith, inside (c .before .before .before .before .before)))
     (λ c. omega (arith, inside (c .before .before .before .before .before .before)))
-    (λ c. omega (arith, inside (c .before .before .before .before .before .before)))
-    (writes .3)
     (λ c κs. omega (arith, inside (c .before .before .before .before .before .before)))
-    (λ c. omega (arith, inside (c .before .before .before .before .before .before .before)))
-    (λ c. omega (arith, inside (c .before .before .before .before .before .before .before)))
-    (writes .4)
-    (λ c. omega (arith, inside (c .before .before .before .before .before .before .before)))
-    (λ c κs. omega (arith, inside (c .before .before .before .before .before .before .before)))
-    (λ c. omega (arith, inside (c .before .before .before .before .before .before .before .before)))
-    (λ c. omega (arith, inside (c .before .before .before .before .before .before .before .before)))
-    (writes .5)
-    (λ c κs. omega (arith, inside (c .before .before .before .before .before .before .before .before)))
-    (λ c. omega (arith, inside (c .before .before .before .before .before .before .before .before .before)))
-    (λ c. omega (arith, inside (c .before .before .before .before .before .before .before .before .before)))
-    (writes .6)
-    (λ c. omega (arith, inside (c .before .before .before .before .before .before .before .before .before)))
-    (λ c. omega (arith, inside (c .before .before .before .before .before .before .before .before .before)))
+    put-held-requires
+    (λ c. omega (arith, inside (c .before .before .before .before .before .before .before .before .before .before .before)))
+    (λ c κs. omega (arith, inside (c .before .before .before .before .before .before .before .before .before .before .before)))
+    put-held-requires-2
+    (λ c. omega (arith, inside (c .before .before .before .before .before .before .before .before .before .before .before .before .before .before .before)))
+    (λ c. omega (arith, inside (c .before .before .before .before .before .before .before .before .before .before .before .before .before .before .before)))
     loop-again
     same-length
     returns)

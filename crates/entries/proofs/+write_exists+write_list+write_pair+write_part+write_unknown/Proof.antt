@@ -28,7 +28,7 @@ use Rattle.entries.proofs.+write_exists+write_list+write_pair+write_par
 use Rattle.entries.proofs.+write_exists+write_list+write_pair+write_part+write_unknown.Lts-write_part as write-part-lts
 use Rattle.cells.proofs.never.Reads as never-reads
 use Rattle.records.proofs.pair_kind.Reads as pair-kind-reads
-use Rattle.records.proofs.put16.Reads as put16-reads
+use Rattle.storing.proofs.put16.Reads as put16-reads
 use Rattle.records.proofs.put_plain.Reads as put-plain-reads
 use Rattle.records.proofs.row_kind.Reads as row-kind-reads
 use Rattle.entries.proofs.field.Reads as field-reads

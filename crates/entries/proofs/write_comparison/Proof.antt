@@ -10,17 +10,23 @@ comparison-as-requires c κs = let o = c .before .before .before in (o .pre .com
 
 put-leaf-requires : tie.Need-put-leaf-requires
 put-leaf-requires c κs =
-    let o = c .before .before .before .before .before .before .before .before .before .before in
-    rw (c .before .before .before .before .before .field2 .ensures, c .before .before .before .before .field3 .ensures, c .before .before .before .field4 .ensures, c .before .before .field5 .ensures)
-    (compare-at (o .pre) (o .args .negate) (o .args .unknown) _ _ (c .before .before .before .before .before .before .before .before .compare-kind .ensures)
-    (λ op e. c .before .before .before .before .before .before .comparison-as .ensures op (c .before .before .before .before .before .before .before .field .ensures ∙ e)))
+    let right = c .before .before in
+    let left = right .before in
+    let compared = left .before in
+    let o = compared .before .before .before .before in
+    rw (left .part-value .ensures, right .part-value2 .ensures)
+    (compare-at (o .pre) (o .args .negate) (o .args .unknown) _ _ (compared .before .before .compare-kind .ensures)
+    (λ op e. compared .comparison-as .ensures op (compared .before .field .ensures ∙ e)))
 
 returns : tie.Need-returns
 returns c =
-    let o = c .before .before .before .before .before .before .before .before .before .before .before .before .before in
-    let put = rw (c .before .before .before .before .before .before .before .before .field2 .ensures, c .before .before .before .before .before .before .before .field3 .ensures, c .before .before .before .before .before .before .field4 .ensures, c .before .before .before .before .before .field5 .ensures) at (c .before .before .put-leaf .ensures) in
-    λ h. compare-written h (o .args .negate) (o .args .unknown) _ _ (c .before .before .before .before .before .before .before .before .before .before .before .compare-kind .ensures)
-    (λ op e. c .before .before .before .before .before .before .before .before .before .comparison-as .ensures op (c .before .before .before .before .before .before .before .before .before .before .field .ensures ∙ e)) put
+    let right = c .before .before .before .before .before in
+    let left = right .before in
+    let compared = left .before in
+    let o = compared .before .before .before .before in
+    let put = rw (left .part-value .ensures, right .part-value2 .ensures) at (c .before .before .put-leaf .ensures) in
+    λ h. compare-written h (o .args .negate) (o .args .unknown) _ _ (compared .before .before .compare-kind .ensures)
+    (λ op e. compared .comparison-as .ensures op (compared .before .field .ensures ∙ e)) put
 
 pub write-comparison-spec : {M : Type 1} → statement M
 write-comparison-spec =
@@ -29,8 +35,6 @@ write-comparison-spec =
     (λ c κs. search needs)
     (λ c κs. search needs)
     comparison-as-requires
-    (λ c κs. search needs)
-    (λ c κs. search needs)
     (λ c κs. search needs)
     (λ c κs. search needs)
     put-leaf-requires

@@ -6,14 +6,16 @@ use Rattle.entries.proofs.write_mark.Tie as tie
 
 put-leaf-requires : tie.Need-put-leaf-requires
 put-leaf-requires c κs =
-    let o = c .before .before .before .before .before .before .before in
-    rw (c .before .before .before .field .ensures, c .before .before .field2 .ensures) (mark-at (o .pre) (o .args .negate) _ (c .before .before .before .before .mark-kind .ensures))
+    let left = c .before .before .before in
+    let o = left .before .before .before .before in
+    rw (left .part-value .ensures, c .before .before .unused-held .ensures) (mark-at (o .pre) (o .args .negate) _ (left .before .mark-kind .ensures))
 
 returns : tie.Need-returns
 returns c =
-    let o = c .before .before .before .before .before .before .before .before .before .before in
-    let put = rw (c .before .before .before .before .before .before .field .ensures, c .before .before .before .before .before .field2 .ensures) at (c .before .before .put-leaf .ensures) in
-    λ h. mark-written h (o .args .negate) _ (c .before .before .before .before .before .before .before .mark-kind .ensures) put
+    let left = c .before .before .before .before .before .before in
+    let o = left .before .before .before .before in
+    let put = rw (left .part-value .ensures, c .before .before .before .before .before .unused-held .ensures) at (c .before .before .put-leaf .ensures) in
+    λ h. mark-written h (o .args .negate) _ (left .before .mark-kind .ensures) put
 
 pub write-mark-spec : {M : Type 1} → statement M
 write-mark-spec =

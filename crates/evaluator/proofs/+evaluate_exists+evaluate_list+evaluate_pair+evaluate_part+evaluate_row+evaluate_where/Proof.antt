@@ -45,6 +45,7 @@ use Rattle.evaluator.proofs.evaluate_test.Reads as evaluate-test-reads
 use Rattle.evaluator.proofs.greater.Reads as greater-reads
 use Rattle.evaluator.proofs.lesser.Reads as lesser-reads
 use Rattle.evaluator.proofs.unary_value.Reads as unary-value-reads
+use Rattle.parts.proofs.part_value.Reads as part-value-reads
 use Rattle.values.proofs.look.Reads as look-reads
 use Rattle.evaluator.proofs.+evaluate_exists+evaluate_list+evaluate_pair+evaluate_part+evaluate_row+evaluate_where.{
   statement,
@@ -122,7 +123,7 @@ abbrev evaluate-exists-claims : ℕ → evaluate-exists-lts.Claims
 evaluate-exists-claims t = (table-place-reads.Asked, table-place-reads.Learnt, evaluate-where-below t, evaluate-where.Post)
 
 abbrev evaluate-list-claims : ℕ → evaluate-list-lts.Claims
-evaluate-list-claims t = (table-place-reads.Asked, table-place-reads.Learnt, look-reads.Asked, look-reads.Learnt, evaluate-row-below t, evaluate-row.Post, after-reads.Asked, after-reads.Learnt)
+evaluate-list-claims t = (table-place-reads.Asked, table-place-reads.Learnt, part-value-reads.Asked, part-value-reads.Learnt, look-reads.Asked, look-reads.Learnt, evaluate-row-below t, evaluate-row.Post, after-reads.Asked, after-reads.Learnt)
 
 abbrev evaluate-pair-claims : ℕ → evaluate-pair-lts.Claims
 evaluate-pair-claims t = (evaluate-part-below t, evaluate-part.Post, lesser-reads.Asked, lesser-reads.Learnt, greater-reads.Asked, greater-reads.Learnt)
@@ -131,7 +132,7 @@ abbrev evaluate-part-claims : ℕ → evaluate-part-lts.Claims
 evaluate-part-claims t = (evaluate-pair-below t, evaluate-pair.Post, evaluate-part-below t, evaluate-part.Post, unary-value-reads.Asked, unary-value-reads.Learnt, evaluate-exists-below t, evaluate-exists.Post, evaluate-list-below t, evaluate-list.Post, evaluate-test-reads.Asked, evaluate-test-reads.Learnt, never-reads.Asked, never-reads.Learnt)
 
 abbrev evaluate-row-claims : ℕ → evaluate-row-lts.Claims
-evaluate-row-claims t = (evaluate-where-below t, evaluate-where.Post, look-reads.Asked, look-reads.Learnt, compare-reads.Asked, compare-reads.Learnt)
+evaluate-row-claims t = (evaluate-where-below t, evaluate-where.Post, part-value-reads.Asked, part-value-reads.Learnt, look-reads.Asked, look-reads.Learnt, compare-reads.Asked, compare-reads.Learnt)
 
 abbrev evaluate-where-claims : ℕ → evaluate-where-lts.Claims
 evaluate-where-claims t = (evaluate-test-reads.Asked, evaluate-test-reads.Learnt, evaluate-part-below t, evaluate-part.Post)
@@ -226,58 +227,37 @@ evaluate-list-element-copy-out-table-place t c = let z = start (c .before .pre .
 evaluate-list-table-place-requires : (t : ℕ) → evaluate-list-lts.Need-table-place-requires (evaluate-list-claims t) (evaluate-list-at t) evaluate-list.Post evaluate-list-Inv-loop evaluate-list-μ-loop
 evaluate-list-table-place-requires t c κs = let k = c .before .before .pre .1 in range-bounds (k .0) (listed-ranging (k .0) (k .1)) .high
 
-evaluate-list-mul-look : (t : ℕ) → evaluate-list-lts.Need-mul-look (evaluate-list-claims t) (evaluate-list-at t) evaluate-list.Post evaluate-list-Inv-loop evaluate-list-μ-loop
-evaluate-list-mul-look t c = let z = start (c .before .before .before .pre .1 .0) in omega arith
-
-evaluate-list-add-look : (t : ℕ) → evaluate-list-lts.Need-add-look (evaluate-list-claims t) (evaluate-list-at t) evaluate-list.Post evaluate-list-Inv-loop evaluate-list-μ-loop
-evaluate-list-add-look t c = let z = start (c .before .before .before .pre .1 .0) in omega arith
-
-evaluate-list-mul-look-2 : (t : ℕ) → evaluate-list-lts.Need-mul-look-2 (evaluate-list-claims t) (evaluate-list-at t) evaluate-list.Post evaluate-list-Inv-loop evaluate-list-μ-loop
-evaluate-list-mul-look-2 t c = let z = start (c .before .before .before .pre .1 .0) in omega arith
-
-evaluate-list-element-copy-out-look : (t : ℕ) → evaluate-list-lts.Need-element-copy-out-look (evaluate-list-claims t) (evaluate-list-at t) evaluate-list.Post evaluate-list-Inv-loop evaluate-list-μ-loop
-evaluate-list-element-copy-out-look t c = let z = start (c .before .before .before .pre .1 .0) in omega arith
-
-evaluate-list-mul-look-3 : (t : ℕ) → evaluate-list-lts.Need-mul-look-3 (evaluate-list-claims t) (evaluate-list-at t) evaluate-list.Post evaluate-list-Inv-loop evaluate-list-μ-loop
-evaluate-list-mul-look-3 t c = let z = start (c .before .before .before .before .pre .1 .0) in omega arith
-
-evaluate-list-add-look-2 : (t : ℕ) → evaluate-list-lts.Need-add-look-2 (evaluate-list-claims t) (evaluate-list-at t) evaluate-list.Post evaluate-list-Inv-loop evaluate-list-μ-loop
-evaluate-list-add-look-2 t c = let z = start (c .before .before .before .before .pre .1 .0) in omega arith
-
-evaluate-list-mul-look-4 : (t : ℕ) → evaluate-list-lts.Need-mul-look-4 (evaluate-list-claims t) (evaluate-list-at t) evaluate-list.Post evaluate-list-Inv-loop evaluate-list-μ-loop
-evaluate-list-mul-look-4 t c = let z = start (c .before .before .before .before .pre .1 .0) in omega arith
-
-evaluate-list-element-copy-out-look-2 : (t : ℕ) → evaluate-list-lts.Need-element-copy-out-look-2 (evaluate-list-claims t) (evaluate-list-at t) evaluate-list.Post evaluate-list-Inv-loop evaluate-list-μ-loop
-evaluate-list-element-copy-out-look-2 t c = let z = start (c .before .before .before .before .pre .1 .0) in omega arith
+evaluate-list-part-value-requires : (t : ℕ) → evaluate-list-lts.Need-part-value-requires (evaluate-list-claims t) (evaluate-list-at t) evaluate-list.Post evaluate-list-Inv-loop evaluate-list-μ-loop
+evaluate-list-part-value-requires t c κs = let z = start (c .before .before .before .pre .1 .0) in omega arith
 
 evaluate-list-look-requires : (t : ℕ) → evaluate-list-lts.Need-look-requires (evaluate-list-claims t) (evaluate-list-at t) evaluate-list.Post evaluate-list-Inv-loop evaluate-list-μ-loop
-evaluate-list-look-requires t c κs = outer-ready (c .before .before .before .before .before .pre .1 .0) (c .before .before .before .before .before .pre .1 .1)
+evaluate-list-look-requires t c κs = let k = c .before .before .before .before .pre .1 in rw (c .part-value .ensures) (outer-ready (k .0) (k .1))
 
 evaluate-list-loop-holds : (t : ℕ) → evaluate-list-lts.Need-loop-holds (evaluate-list-claims t) (evaluate-list-at t) evaluate-list.Post evaluate-list-Inv-loop evaluate-list-μ-loop
-evaluate-list-loop-holds t c = passed-none _ _ _ _ _ _ _ _ (none-is (c .before .before .before .before .before .before .before .pre .1 .1)) (c .before .before .before .before .before .before .before .pre .1 .0 .readable .standing .size)
+evaluate-list-loop-holds t c = passed-none _ _ _ _ _ _ _ _ (none-is (c .before .before .before .before .before .before .pre .1 .1)) (c .before .before .before .before .before .before .pre .1 .0 .readable .standing .size)
 
 evaluate-list-mul-v : (t : ℕ) → evaluate-list-lts.Need-mul-v (evaluate-list-claims t) (evaluate-list-at t) evaluate-list.Post evaluate-list-Inv-loop evaluate-list-μ-loop
-evaluate-list-mul-v t c = let k = c .before .before .before .before .before .before .before .before .before .before .pre .1 in let z = range-bounds (k .0) (listed-ranging (k .0) (k .1)) in omega arith
+evaluate-list-mul-v t c = let k = c .before .before .before .before .before .before .before .before .before .pre .1 in let z = range-bounds (k .0) (listed-ranging (k .0) (k .1)) in omega arith
 
 evaluate-list-array-write-v : (t : ℕ) → evaluate-list-lts.Need-array-write-v (evaluate-list-claims t) (evaluate-list-at t) evaluate-list.Post evaluate-list-Inv-loop evaluate-list-μ-loop
-evaluate-list-array-write-v t c = let k = c .before .before .before .before .before .before .before .before .before .before .pre .1 in let z = range-bounds (k .0) (listed-ranging (k .0) (k .1)) in omega arith
+evaluate-list-array-write-v t c = let k = c .before .before .before .before .before .before .before .before .before .pre .1 in let z = range-bounds (k .0) (listed-ranging (k .0) (k .1)) in omega arith
 
 evaluate-list-add-evaluate-row : (t : ℕ) → evaluate-list-lts.Need-add-evaluate-row (evaluate-list-claims t) (evaluate-list-at t) evaluate-list.Post evaluate-list-Inv-loop evaluate-list-μ-loop
-evaluate-list-add-evaluate-row t c = let k = c .before .before .before .before .before .before .before .before .before .before .before .pre .1 in let z = range-bounds (k .0) (listed-ranging (k .0) (k .1)) in omega arith
+evaluate-list-add-evaluate-row t c = let k = c .before .before .before .before .before .before .before .before .before .before .pre .1 in let z = range-bounds (k .0) (listed-ranging (k .0) (k .1)) in omega arith
 
 evaluate-list-evaluate-row-requires : (t : ℕ) → evaluate-list-lts.Need-evaluate-row-requires (evaluate-list-claims t) (evaluate-list-at t) evaluate-list.Post evaluate-list-Inv-loop evaluate-list-μ-loop
 evaluate-list-evaluate-row-requires t c κs =
-    let k = c .before .before .before .before .before .before .before .before .before .before .before .pre in
+    let k = c .before .before .before .before .before .before .before .before .before .before .pre in
     let m = k .0 in
     let z = start (k .1 .0) in
-    (omega arith, row-ready (k .1 .0) (k .1 .1) (c .before .before .before .before .before .before .before .before .table-place .ensures) (c .before .if1 .taken) (c .before .before .before .loop .inv) (c .before .before .before .before .before .look .result))
+    (omega arith, row-ready (k .1 .0) (k .1 .1) (c .before .before .before .before .before .before .before .table-place .ensures) (c .before .if1 .taken) (c .before .before .before .loop .inv) (c .before .before .before .before .before .look .result))
 
 evaluate-list-sub-if2 : (t : ℕ) → evaluate-list-lts.Need-sub-if2 (evaluate-list-claims t) (evaluate-list-at t) evaluate-list.Post evaluate-list-Inv-loop evaluate-list-μ-loop
-evaluate-list-sub-if2 t c = let z = none-high (c .before .before .before .before .before .before .before .before .before .before .before .before .pre .1 .1) in omega arith
+evaluate-list-sub-if2 t c = let z = none-high (c .before .before .before .before .before .before .before .before .before .before .before .pre .1 .1) in omega arith
 
 evaluate-list-returns : (t : ℕ) → evaluate-list-lts.Need-returns (evaluate-list-claims t) (evaluate-list-at t) evaluate-list.Post evaluate-list-Inv-loop evaluate-list-μ-loop
 evaluate-list-returns t c = λ h.
-    listed-decides h (c .before .before .before .before .before .before .before .before .before .before .before .before .before .pre .1 .1) (c .before .before .before .before .before .before .before .before .before .before .table-place .ensures) (c .before .before .before .if1 .taken) (c .before .before .before .before .before .loop .inv) (c .before .before .before .before .before .before .before .look .result) (c .before .before .before .before .before .before .before .look .ensures) (c .before .evaluate-row .result) (c .before .evaluate-row .ensures)
+    listed-decides h (c .before .before .before .before .before .before .before .before .before .before .before .before .pre .1 .1) (c .before .before .before .before .before .before .before .before .before .table-place .ensures) (c .before .before .before .if1 .taken) (c .before .before .before .before .before .loop .inv) (c .before .before .before .before .before .before .before .look .result) (rw (c .before .before .before .before .before .before .before .before .part-value .ensures) at (c .before .before .before .before .before .before .before .look .ensures)) (c .before .evaluate-row .result) (c .before .evaluate-row .ensures)
     (c .if2 .taken)
 
 evaluate-list-after-requires : (t : ℕ) → evaluate-list-lts.Need-after-requires (evaluate-list-claims t) (evaluate-list-at t) evaluate-list.Post evaluate-list-Inv-loop evaluate-list-μ-loop
@@ -285,8 +265,8 @@ evaluate-list-after-requires t c κs = search needs
 
 evaluate-list-add-first : (t : ℕ) → evaluate-list-lts.Need-add-first (evaluate-list-claims t) (evaluate-list-at t) evaluate-list.Post evaluate-list-Inv-loop evaluate-list-μ-loop
 evaluate-list-add-first t c =
-    let k = c .before .before .before .before .before .before .before .before .before .before .before .before .before .before .before .pre .1 in
-    let z = row-room (k .0) (listed-ranging (k .0) (k .1)) (c .before .before .before .before .before .before .before .before .before .before .before .before .table-place .ensures) (c .before .before .before .before .before .if1 .taken) (c .before .before .before .before .before .before .before .loop .inv) in
+    let k = c .before .before .before .before .before .before .before .before .before .before .before .before .before .before .pre .1 in
+    let z = row-room (k .0) (listed-ranging (k .0) (k .1)) (c .before .before .before .before .before .before .before .before .before .before .before .table-place .ensures) (c .before .before .before .before .before .if1 .taken) (c .before .before .before .before .before .before .before .loop .inv) in
     omega arith
 
 evaluate-list-add-r : (t : ℕ) → evaluate-list-lts.Need-add-r (evaluate-list-claims t) (evaluate-list-at t) evaluate-list.Post evaluate-list-Inv-loop evaluate-list-μ-loop
@@ -297,12 +277,12 @@ evaluate-list-loop-less t c = omega arith
 
 evaluate-list-loop-again : (t : ℕ) → evaluate-list-lts.Need-loop-again (evaluate-list-claims t) (evaluate-list-at t) evaluate-list.Post evaluate-list-Inv-loop evaluate-list-μ-loop
 evaluate-list-loop-again t c =
-    passed-more _ _ _ _ _ _ _ _ (c .before .before .before .before .before .before .before .loop .inv) (c .before .before .before .before .before .if1 .taken) (c .before .before .before .evaluate-row .result) (λ e. c .before .before .if2 .left (e ∙ sym (none-decides (c .before .before .before .before .before .before .before .before .before .before .before .before .before .before .before .pre .1 .1)))) (λ h.
-    row-valued h (c .before .before .before .before .before .before .before .before .before .before .before .before .before .before .before .pre .1 .1) (c .before .before .before .before .before .before .before .before .before .before .before .before .table-place .ensures) (c .before .before .before .before .before .if1 .taken) (c .before .before .before .before .before .before .before .loop .inv) (c .before .before .before .before .before .before .before .before .before .look .result) (c .before .before .before .before .before .before .before .before .before .look .ensures) (c .before .before .before .evaluate-row .result) (c .before .before .before .evaluate-row .ensures))
+    passed-more _ _ _ _ _ _ _ _ (c .before .before .before .before .before .before .before .loop .inv) (c .before .before .before .before .before .if1 .taken) (c .before .before .before .evaluate-row .result) (λ e. c .before .before .if2 .left (e ∙ sym (none-decides (c .before .before .before .before .before .before .before .before .before .before .before .before .before .before .pre .1 .1)))) (λ h.
+    row-valued h (c .before .before .before .before .before .before .before .before .before .before .before .before .before .before .pre .1 .1) (c .before .before .before .before .before .before .before .before .before .before .before .table-place .ensures) (c .before .before .before .before .before .if1 .taken) (c .before .before .before .before .before .before .before .loop .inv) (c .before .before .before .before .before .before .before .before .before .look .result) (rw (c .before .before .before .before .before .before .before .before .before .before .part-value .ensures) at (c .before .before .before .before .before .before .before .before .before .look .ensures)) (c .before .before .before .evaluate-row .result) (c .before .before .before .evaluate-row .ensures))
     _ (c .before .after .ensures)
 
 evaluate-list-returns-2 : (t : ℕ) → evaluate-list-lts.Need-returns-2 (evaluate-list-claims t) (evaluate-list-at t) evaluate-list.Post evaluate-list-Inv-loop evaluate-list-μ-loop
-evaluate-list-returns-2 t c = λ h. listed-ends h (c .before .before .before .before .before .before .before .before .before .before .pre .1 .1) (c .before .before .before .before .before .before .before .table-place .ensures) (c .before .before .loop .inv) (c .if1 .left)
+evaluate-list-returns-2 t c = λ h. listed-ends h (c .before .before .before .before .before .before .before .before .before .pre .1 .1) (c .before .before .before .before .before .before .table-place .ensures) (c .before .before .loop .inv) (c .if1 .left)
 
 evaluate-pair-add-evaluate-part : (t : ℕ) → evaluate-pair-lts.Need-add-evaluate-part (evaluate-pair-claims t) (evaluate-pair-at t) evaluate-pair.Post
 evaluate-pair-add-evaluate-part t c = let z = start (c .before .pre .1 .0) in omega arith
@@ -455,50 +435,29 @@ evaluate-row-evaluate-where-requires t c κs = let m = c .before .pre .0 in let 
 evaluate-row-returns : (t : ℕ) → evaluate-row-lts.Need-returns (evaluate-row-claims t) (evaluate-row-at t) evaluate-row.Post
 evaluate-row-returns t c = λ h. row-lost h (c .before .evaluate-where .result) (c .before .evaluate-where .ensures) (λ e. omega (arith, e, c .if1 .taken))
 
-evaluate-row-mul-look : (t : ℕ) → evaluate-row-lts.Need-mul-look (evaluate-row-claims t) (evaluate-row-at t) evaluate-row.Post
-evaluate-row-mul-look t c = let z = row-start (c .before .before .before .pre .1) in omega arith
-
-evaluate-row-add-look : (t : ℕ) → evaluate-row-lts.Need-add-look (evaluate-row-claims t) (evaluate-row-at t) evaluate-row.Post
-evaluate-row-add-look t c = let z = row-start (c .before .before .before .pre .1) in omega arith
-
-evaluate-row-mul-look-2 : (t : ℕ) → evaluate-row-lts.Need-mul-look-2 (evaluate-row-claims t) (evaluate-row-at t) evaluate-row.Post
-evaluate-row-mul-look-2 t c = let z = row-start (c .before .before .before .pre .1) in omega arith
-
-evaluate-row-element-copy-out-look : (t : ℕ) → evaluate-row-lts.Need-element-copy-out-look (evaluate-row-claims t) (evaluate-row-at t) evaluate-row.Post
-evaluate-row-element-copy-out-look t c = let z = row-start (c .before .before .before .pre .1) in omega arith
-
-evaluate-row-mul-look-3 : (t : ℕ) → evaluate-row-lts.Need-mul-look-3 (evaluate-row-claims t) (evaluate-row-at t) evaluate-row.Post
-evaluate-row-mul-look-3 t c = let z = row-start (c .before .before .before .before .pre .1) in omega arith
-
-evaluate-row-add-look-2 : (t : ℕ) → evaluate-row-lts.Need-add-look-2 (evaluate-row-claims t) (evaluate-row-at t) evaluate-row.Post
-evaluate-row-add-look-2 t c = let z = row-start (c .before .before .before .before .pre .1) in omega arith
-
-evaluate-row-mul-look-4 : (t : ℕ) → evaluate-row-lts.Need-mul-look-4 (evaluate-row-claims t) (evaluate-row-at t) evaluate-row.Post
-evaluate-row-mul-look-4 t c = let z = row-start (c .before .before .before .before .pre .1) in omega arith
-
-evaluate-row-element-copy-out-look-2 : (t : ℕ) → evaluate-row-lts.Need-element-copy-out-look-2 (evaluate-row-claims t) (evaluate-row-at t) evaluate-row.Post
-evaluate-row-element-copy-out-look-2 t c = let z = row-start (c .before .before .before .before .pre .1) in omega arith
+evaluate-row-part-value-requires : (t : ℕ) → evaluate-row-lts.Need-part-value-requires (evaluate-row-claims t) (evaluate-row-at t) evaluate-row.Post
+evaluate-row-part-value-requires t c κs = let z = row-start (c .before .before .before .pre .1) in omega arith
 
 evaluate-row-look-requires : (t : ℕ) → evaluate-row-lts.Need-look-requires (evaluate-row-claims t) (evaluate-row-at t) evaluate-row.Post
-evaluate-row-look-requires t c κs = selected-ready (c .before .before .before .before .before .pre .1)
+evaluate-row-look-requires t c κs = rw (c .part-value .ensures) (selected-ready (c .before .before .before .before .pre .1))
 
 evaluate-row-mul-compare : (t : ℕ) → evaluate-row-lts.Need-mul-compare (evaluate-row-claims t) (evaluate-row-at t) evaluate-row.Post
-evaluate-row-mul-compare t c = let z = row-start (c .before .before .before .before .before .before .pre .1) in omega arith
+evaluate-row-mul-compare t c = let z = row-start (c .before .before .before .before .before .pre .1) in omega arith
 
 evaluate-row-add-compare : (t : ℕ) → evaluate-row-lts.Need-add-compare (evaluate-row-claims t) (evaluate-row-at t) evaluate-row.Post
-evaluate-row-add-compare t c = let z = row-start (c .before .before .before .before .before .before .pre .1) in omega arith
+evaluate-row-add-compare t c = let z = row-start (c .before .before .before .before .before .pre .1) in omega arith
 
 evaluate-row-mul-compare-2 : (t : ℕ) → evaluate-row-lts.Need-mul-compare-2 (evaluate-row-claims t) (evaluate-row-at t) evaluate-row.Post
-evaluate-row-mul-compare-2 t c = let z = row-start (c .before .before .before .before .before .before .pre .1) in omega arith
+evaluate-row-mul-compare-2 t c = let z = row-start (c .before .before .before .before .before .pre .1) in omega arith
 
 evaluate-row-element-copy-out-compare : (t : ℕ) → evaluate-row-lts.Need-element-copy-out-compare (evaluate-row-claims t) (evaluate-row-at t) evaluate-row.Post
-evaluate-row-element-copy-out-compare t c = let z = row-start (c .before .before .before .before .before .before .pre .1) in omega arith
+evaluate-row-element-copy-out-compare t c = let z = row-start (c .before .before .before .before .before .pre .1) in omega arith
 
 evaluate-row-compare-requires : (t : ℕ) → evaluate-row-lts.Need-compare-requires (evaluate-row-claims t) (evaluate-row-at t) evaluate-row.Post
 evaluate-row-compare-requires t c κs = search needs
 
 evaluate-row-returns-2 : (t : ℕ) → evaluate-row-lts.Need-returns-2 (evaluate-row-claims t) (evaluate-row-at t) evaluate-row.Post
-evaluate-row-returns-2 t c = λ h. row-compared h (c .before .before .before .before .before .before .evaluate-where .result) (c .before .before .before .before .before .before .evaluate-where .ensures) (c .before .before .before .before .before .if1 .left) (c .before .before .look .result) (c .before .before .look .ensures) _ (c .compare .ensures)
+evaluate-row-returns-2 t c = λ h. row-compared h (c .before .before .before .before .before .evaluate-where .result) (c .before .before .before .before .before .evaluate-where .ensures) (c .before .before .before .before .if1 .left) (c .before .before .look .result) (rw (c .before .before .before .part-value .ensures) at (c .before .before .look .ensures)) _ (c .compare .ensures)
 
 evaluate-where-mul-kind : (t : ℕ) → evaluate-where-lts.Need-mul-kind (evaluate-where-claims t) (evaluate-where-at t) evaluate-where.Post
 evaluate-where-mul-kind t c = let z = start (c .before .pre .1) in omega arith
@@ -563,14 +522,7 @@ pub +evaluate-exists+evaluate-list+evaluate-pair+evaluate-part+evaluate-row+eval
     (evaluate-list-mul-table-place-2 t)
     (evaluate-list-element-copy-out-table-place t)
     (evaluate-list-table-place-requires t)
-    (evaluate-list-mul-look t)
-    (evaluate-list-add-look t)
-    (evaluate-list-mul-look-2 t)
-    (evaluate-list-element-copy-out-look t)
-    (evaluate-list-mul-look-3 t)
-    (evaluate-list-add-look-2 t)
-    (evaluate-list-mul-look-4 t)
-    (evaluate-list-element-copy-out-look-2 t)
+    (evaluate-list-part-value-requires t)
     (evaluate-list-look-requires t)
     (evaluate-list-loop-holds t)
     (evaluate-list-mul-v t)
@@ -635,14 +587,7 @@ pub +evaluate-exists+evaluate-list+evaluate-pair+evaluate-part+evaluate-row+eval
     (evaluate-row-add-evaluate-where t)
     (evaluate-row-evaluate-where-requires t)
     (evaluate-row-returns t)
-    (evaluate-row-mul-look t)
-    (evaluate-row-add-look t)
-    (evaluate-row-mul-look-2 t)
-    (evaluate-row-element-copy-out-look t)
-    (evaluate-row-mul-look-3 t)
-    (evaluate-row-add-look-2 t)
-    (evaluate-row-mul-look-4 t)
-    (evaluate-row-element-copy-out-look-2 t)
+    (evaluate-row-part-value-requires t)
     (evaluate-row-look-requires t)
     (evaluate-row-mul-compare t)
     (evaluate-row-add-compare t)

@@ -9,6 +9,7 @@ use borrow.Fn.Kinds.{In}
 use borrow.Fn.PlainCycle.{Measures}
 use lib.ListN.{length}
 use Rattle.phrases.specs.Code.{tokensFrom}
+use Rattle.phrases.proofs.Following.{a-bracket}
 use Rattle.grammar.specs.Code.{joinedBy, closedReading}
 use Rattle.grammar.proofs.Chain.{Before, SoFar, begins, ready, turns, turns-not, ends, goes-on}
 use Rattle.grammar.proofs.Tests.{ready-at, step-fits, shallow, factor-not, factor-reads, closed-reads, closed-not, unread-not, test-not, whole-reads, bracket-reads, around-not, around-reads}
@@ -137,7 +138,8 @@ module _ (t : ℕ) where
   read-operand-claims = (read-conjunction-below, read-conjunction.Post, read-factor-below, read-factor.Post)
 
   abbrev read-test-claims : read-test-lts.Claims
-  read-test-claims = (start-test-reads.Asked, start-test-reads.Learnt, note-part-reads.Asked, note-part-reads.Learnt, read-closed-below, read-closed.Post, note-truth-test-reads.Asked, note-truth-test-reads.Learnt)
+  read-test-claims =
+      (token-reads.Asked, token-reads.Learnt, read-closed-below, read-closed.Post, note-truth-test-reads.Asked, note-truth-test-reads.Learnt, start-test-reads.Asked, start-test-reads.Learnt, note-part-reads.Asked, note-part-reads.Learnt)
 
   read-closed-returns : read-closed-lts.Need-returns read-closed-claims read-closed-at read-closed.Post
   read-closed-returns c =
@@ -281,86 +283,88 @@ module _ (t : ℕ) where
   read-operand-returns-2 : read-operand-lts.Need-returns-2 read-operand-claims read-operand-at read-operand.Post
   read-operand-returns-2 c = rw (c .before .before .if1 .left) (c .read-factor .ensures)
 
-  read-test-note-part-requires : read-test-lts.Need-note-part-requires read-test-claims read-test-at read-test.Post
-  read-test-note-part-requires c κs = c .before .before .before .before .before .before .pre .1 .size
-
-  read-test-add-t18 : read-test-lts.Need-add-t18 read-test-claims read-test-at read-test.Post
-  read-test-add-t18 c =
-      let pre = c .before .before .before .before .before .before .before .pre .1 in
-      omega (arith, pre .few, pre .within, pre .short)
-
   read-test-read-closed-requires : read-test-lts.Need-read-closed-requires read-test-claims read-test-at read-test.Post
   read-test-read-closed-requires c κs =
-      let b = c .before .before .before .before in
-      let start = b .before .before in
-      let f = rw (c .before .before .next .given .1) at (b .start-test .ensures) in
-      (omega (arith, start .pre .0, f .moved .later, f .moved .within), ready-at (start .pre .1) (omega (arith, f .moved .later)) (f .moved .within))
+      let start = c .before .before .before .before in
+      let f = a-bracket (start .args .s .now) (start .args .at) (sym (c .before .before .token .ensures .0) ∙ c .before .if1 .taken) in
+      (omega (arith, start .pre .0, f .moved .within), ready-at (start .pre .1) (omega arith) (f .moved .within))
 
   read-test-note-truth-test-requires : read-test-lts.Need-note-truth-test-requires read-test-claims read-test-at read-test.Post
   read-test-note-truth-test-requires c κs =
       let r = c .before .read-closed in
-      let b = c .before .before .before .before .before .before in
-      let start = b .before .before in
-      let f = rw (c .before .before .before .before .next .given .1) at (b .start-test .ensures) in
-      (start .pre .1 .short, (r .ensures .1, step-fits (closedReading _) _ _ _ _ _ (r .result) (omega (arith, start .pre .1 .few, f .moved .later)) (r .ensures .0)))
+      let pre = c .before .before .before .before .before .before .pre .1 in
+      (pre .short, (r .ensures .1, step-fits (closedReading _) _ _ _ _ _ (r .result) (omega (arith, pre .few)) (r .ensures .0)))
+
+  read-test-returns : read-test-lts.Need-returns read-test-claims read-test-at read-test.Post
+  read-test-returns c =
+      let start = c .before .before .before .before .before .before .before in
+      let a = start .args in
+      let f = a-bracket (a .s .now) (a .at) (sym (c .before .before .before .before .before .token .ensures .0) ∙ c .before .before .before .before .if1 .taken) in
+      let r = c .note-truth-test in
+      let tested = r .ensures .0 (closedReading _) _ (a .w) (a .out .now) (c .before .before .read-closed .ensures .0) in
+      (bracket-reads (a .s .now) (a .at) f (a .w) (a .out .now) (r .last .1 .0) (r .result) tested, r .ensures .1)
+
+  read-test-start-test-requires : read-test-lts.Need-start-test-requires read-test-claims read-test-at read-test.Post
+  read-test-start-test-requires c κs =
+      let pre = c .before .before .before .pre .1 in
+      (pre .short, (pre .within, λ e. c .if1 .left (c .before .token .ensures .0 ∙ e)))
+
+  read-test-note-part-requires : read-test-lts.Need-note-part-requires read-test-claims read-test-at read-test.Post
+  read-test-note-part-requires c κs = c .before .before .before .before .before .before .before .before .pre .1 .size
+
+  read-test-add-t22 : read-test-lts.Need-add-t22 read-test-claims read-test-at read-test.Post
+  read-test-add-t22 c =
+      let pre = c .before .before .before .before .before .before .before .before .before .pre .1 in
+      omega (arith, pre .few, pre .within, pre .short)
 
   read-test-read-closed-requires-2 : read-test-lts.Need-read-closed-requires-2 read-test-claims read-test-at read-test.Post
   read-test-read-closed-requires-2 c κs =
       let b = c .before .before .before .before in
-      let start = b .before .before in
+      let start = b .before .before .before .before in
       let f = rw (c .before .before .note2 .given .1) at (b .start-test .ensures) in
       (omega (arith, start .pre .0, f .moved .later, f .moved .within), ready-at (start .pre .1) (omega (arith, f .moved .later)) (f .moved .within))
 
-  read-test-returns : read-test-lts.Need-returns read-test-claims read-test-at read-test.Post
-  read-test-returns c =
+  read-test-returns-2 : read-test-lts.Need-returns-2 read-test-claims read-test-at read-test.Post
+  read-test-returns-2 c =
       let r = c .before .before in
       let b = r .before .before .before .before .before in
-      let a = b .before .before .args in
+      let a = b .before .before .before .before .args in
       let f = rw (r .before .before .before .note2 .given .1) at (b .start-test .ensures) in
       (around-not (a .s .now) (a .at) f (rw (c .enum-told .given .1) at (r .read-closed2 .ensures .0)), r .read-closed2 .ensures .1)
 
   read-test-note-part-requires-2 : read-test-lts.Need-note-part-requires-2 read-test-claims read-test-at read-test.Post
   read-test-note-part-requires-2 c κs = c .before .before .before .before .read-closed2 .ensures .1
 
-  read-test-add-t25 : read-test-lts.Need-add-t25 read-test-claims read-test-at read-test.Post
-  read-test-add-t25 c =
+  read-test-add-t27 : read-test-lts.Need-add-t27 read-test-claims read-test-at read-test.Post
+  read-test-add-t27 c =
       let q = c .before .before .before .before .before in
       let b = q .before .before .before .before .before in
       let f = rw (q .before .before .before .note2 .given .1) at (b .start-test .ensures) in
       let r = rw (c .before .before .before .behind .given .1) at (q .read-closed2 .ensures .0) in
-      let pre = b .before .before .pre .1 in
+      let pre = b .before .before .before .before .pre .1 in
       omega (arith, f .moved .later, r .used, r .moved .within, pre .few, pre .short)
 
-  read-test-add-t26 : read-test-lts.Need-add-t26 read-test-claims read-test-at read-test.Post
-  read-test-add-t26 c =
+  read-test-add-t28 : read-test-lts.Need-add-t28 read-test-claims read-test-at read-test.Post
+  read-test-add-t28 c =
       let q = c .before .before .before .before .before in
       let b = q .before .before .before .before .before in
       let f = rw (q .before .before .before .note2 .given .1) at (b .start-test .ensures) in
       let r = rw (c .before .before .before .behind .given .1) at (q .read-closed2 .ensures .0) in
-      let pre = b .before .before .pre .1 in
+      let pre = b .before .before .before .before .pre .1 in
       omega (arith, f .moved .later, r .used, r .moved .within, shallow r, pre .few, pre .short)
-
-  read-test-returns-2 : read-test-lts.Need-returns-2 read-test-claims read-test-at read-test.Post
-  read-test-returns-2 c =
-      let b = c .before .before .before .before .before in
-      let a = b .before .before .args in
-      let f = rw (c .before .before .before .note .given .1) at (b .start-test .ensures) in
-      (whole-reads (a .s .now) (a .at) f (c .note-part .ensures .0), c .note-part .ensures .1)
 
   read-test-returns-3 : read-test-lts.Need-returns-3 read-test-claims read-test-at read-test.Post
   read-test-returns-3 c =
-      let b = c .before .before .before .before .before .before .before in
-      let a = b .before .before .args in
-      let f = rw (c .before .before .before .before .before .next .given .1) at (b .start-test .ensures) in
-      let r = c .note-truth-test in
-      let tested = r .ensures .0 (closedReading _) _ (a .w) (a .out .now) (c .before .before .read-closed .ensures .0) in
-      (bracket-reads (a .s .now) (a .at) f (a .w) (a .out .now) (r .last .1 .0) (r .result) tested, r .ensures .1)
+      let b = c .before .before .before .before .before in
+      let a = b .before .before .before .before .args in
+      let f = rw (c .before .before .before .note .given .1) at (b .start-test .ensures) in
+      (whole-reads (a .s .now) (a .at) f (c .note-part .ensures .0), c .note-part .ensures .1)
 
   read-test-returns-4 : read-test-lts.Need-returns-4 read-test-claims read-test-at read-test.Post
   read-test-returns-4 c =
       let q = c .before .before .before .before .before in
       let b = q .before .before .before .before .before in
-      let a = b .before .before .args in
+      let a = b .before .before .before .before .args in
       let f = rw (q .before .before .before .note2 .given .1) at (b .start-test .ensures) in
       let r = rw (c .before .before .before .behind .given .1) at (q .read-closed2 .ensures .0) in
       (around-reads (a .s .now) (a .at) f r (c .note-part2 .ensures .0), c .note-part2 .ensures .1)
@@ -368,8 +372,9 @@ module _ (t : ℕ) where
   read-test-returns-5 : read-test-lts.Need-returns-5 read-test-claims read-test-at read-test.Post
   read-test-returns-5 c =
       let b = c .before .before in
-      let a = b .before .before .args in
-      (test-not (a .s .now) (a .at) (rw (c .enum-told2 .given .1) at (b .start-test .ensures)), b .before .before .pre .1 .size)
+      let start = b .before .before .before .before in
+      let a = start .args in
+      (test-not (a .s .now) (a .at) (rw (c .enum-told2 .given .1) at (b .start-test .ensures)), start .pre .1 .size)
 
 pub +read-closed+read-condition+read-conjunction+read-factor+read-joined+read-operand+read-test-spec : {M : Type 1} → statement M
 +read-closed+read-condition+read-conjunction+read-factor+read-joined+read-operand+read-test-spec =
@@ -431,21 +436,22 @@ pub +read-closed+read-condition+read-conjunction+read-factor+read-joined+read-op
     λ t. read-test-lts.spec (read-test-claims t) (read-test-at t) read-test.Post
     (λ c κs. search needs)
     (λ c. search needs)
-    (read-test-note-part-requires t)
-    (read-test-add-t18 t)
-    (λ c. search needs)
     (read-test-read-closed-requires t)
     (read-test-note-truth-test-requires t)
+    (read-test-returns t)
+    (read-test-start-test-requires t)
+    (λ c. search needs)
+    (read-test-note-part-requires t)
+    (read-test-add-t22 t)
     (λ c. search needs)
     (read-test-read-closed-requires-2 t)
     (λ c. search needs)
     (λ c. search needs)
-    (read-test-returns t)
-    (read-test-note-part-requires-2 t)
-    (read-test-add-t25 t)
-    (read-test-add-t26 t)
-    (λ c. search needs)
     (read-test-returns-2 t)
+    (read-test-note-part-requires-2 t)
+    (read-test-add-t27 t)
+    (read-test-add-t28 t)
+    (λ c. search needs)
     (read-test-returns-3 t)
     (read-test-returns-4 t)
     (read-test-returns-5 t)

@@ -8,7 +8,10 @@ returns : tie.Need-returns
 returns c = sign-at _ _ _ (c .before .before .before .before .before .pre .0) (c .before .before .before .byte .ensures .0) _ (λ p q. omega arith) (λ p q. omega arith) (λ p q. omega arith) (λ z. omega arith) (c .sign .ensures)
 
 returns-2 : tie.Need-returns-2
-returns-2 c = minus-at _ _ _ (c .before .before .before .before .before .before .pre .0) (c .before .before .before .before .byte .ensures .0) (c .negative .result) (c .before .if3 .taken) (c .negative .ensures)
+returns-2 c =
+    let found = c .before .negative-at in
+    minus-at _ _ _ (c .before .before .before .before .before .before .before .pre .0) (c .before .before .before .before .before .byte .ensures .0) (c .number-token .result) (found .result) (c .before .before .if3 .taken) (c .number-token .ensures)
+    (found .ensures .0)
 
 returns-3 : tie.Need-returns-3
 returns-3 c = sign-at _ _ _ (c .before .before .before .before .before .before .pre .0) (c .before .before .before .before .byte .ensures .0) _ (λ p q. omega arith) (λ p q. omega arith) (λ p q. omega arith) (c .before .if3 .left) (c .sign2 .ensures)
@@ -32,7 +35,10 @@ returns-7 c =
     small-at (start .args .text .now) _ _ (start .pre .0) (c .before .before .before .before .before .byte .ensures .0) (omega arith) (omega arith)
 
 returns-8 : tie.Need-returns-8
-returns-8 c = digit-at _ _ _ (c .before .before .before .before .before .before .pre .0) (c .before .before .before .before .byte .ensures .0) _ (omega arith) (omega arith) (c .number .ensures)
+returns-8 c =
+    let found = c .before .unsigned-at in
+    digit-at _ _ _ (c .before .before .before .before .before .before .before .pre .0) (c .before .before .before .before .before .byte .ensures .0) (c .number-token2 .result) (found .result) (omega arith) (omega arith) (c .number-token2 .ensures)
+    (found .ensures .0)
 
 returns-9 : tie.Need-returns-9
 returns-9 c = sign-at _ _ _ (c .before .before .before .before .before .before .pre .0) (c .before .before .before .before .byte .ensures .0) _ (λ p q. omega arith) (λ p q. omega arith) (λ p q. omega arith) (λ z. omega arith) (c .sign3 .ensures)
@@ -46,6 +52,7 @@ first-token-spec =
     returns
     (λ c. search needs)
     (λ c κs. search needs)
+    (λ c κs. c .negative-at .ensures .1)
     returns-2
     (λ c κs. search needs)
     returns-3
@@ -56,6 +63,7 @@ first-token-spec =
     (λ c. search needs)
     returns-7
     (λ c κs. search needs)
+    (λ c κs. c .unsigned-at .ensures .1)
     returns-8
     (λ c κs. search needs)
     returns-9)

@@ -1,6 +1,7 @@
 -- Each word is told by its number; no other word is so short.
 use native.Mathlib.Omega.{arith}
-use Rattle.rule.specs.Tokens.{bytes, words}
+use Rattle.numerals.specs.Texts.{bytes}
+use Rattle.rule.specs.Tokens.{words}
 use Rattle.lexer.specs.Code.{wordCode}
 use Rattle.lexer.proofs.Coded.{no-word}
 use Rattle.lexer.proofs.short_word.Statement.{statement}

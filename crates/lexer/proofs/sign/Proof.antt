@@ -1,6 +1,7 @@
 use mathlib.Core.Path.{refl}
 use Rattle.tables.specs.Values.{Eq}
-use Rattle.rule.specs.Tokens.{Compares, Open, Close, Point, bytes, signs, signIn}
+use Rattle.numerals.specs.Texts.{bytes}
+use Rattle.rule.specs.Tokens.{Compares, Open, Close, Point, signs, signIn}
 use Rattle.lexer.specs.Code.{codeOf, tokenOf}
 use Rattle.lexer.proofs.Signs.{one-byte, less-sign, greater-sign, no-sign}
 use borrow.Author.Needs.{needs}

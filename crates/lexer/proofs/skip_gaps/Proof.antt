@@ -6,7 +6,7 @@ use native.Mathlib.Omega.{arith}
 use borrow.Author.Tests.{eq-eqb, ne-eqb}
 use lib.ListN.{length}
 use Rattle.rule.specs.Tokens.{isGap}
-use Rattle.lexer.proofs.Runs.{Passed, passed-none, passed-more, passed-stop, passed-all}
+use Rattle.numerals.proofs.Runs.{Passed, passed-none, passed-more, passed-stop, passed-all}
 use Rattle.lexer.proofs.skip_gaps.Statement.{statement}
 use Rattle.lexer.proofs.skip_gaps.Tie as tie
 

@@ -1,5 +1,4 @@
 -- EXISTS ( FROM number letter WHERE, or no test.
-use mathlib.Core.Path.{refl}
 use native.Mathlib.Omega.{arith}
 use Prim.Native.Nat.{_+_}
 use Rattle.phrases.proofs.Begun.{from-is, from-missing}
@@ -21,8 +20,10 @@ returns-2 c =
 
 returns-3 : tie.Need-returns-3
 returns-3 c =
-    let a = c .before .before .before .before .before .before .before .args in
-    an-exists (a .s .now) (a .at) (c .before .before .before .before .before .before .before .pre .1 .1) (omega arith) _ _ _ (from-is (a .s .now) (a .at + 2) (c .before .table .given .1) (c .before .before .before .read-from .ensures)) _ refl
+    let a = c .before .before .before .before .before .before .before .before .before .args in
+    let f = from-is (a .s .now) (a .at + 2) (c .before .before .before .table .given .1) (c .before .before .before .before .before .read-from .ensures) in
+    an-exists (a .s .now) (a .at) (c .before .before .before .before .before .before .before .before .before .pre .1 .1) (omega arith) _ _ _ f _
+    (rw (c .before .unused-noted .ensures, c .unused-noted2 .ensures))
 
 pub start-exists-spec : {M : Type 1} → statement M
 start-exists-spec =
@@ -36,4 +37,6 @@ start-exists-spec =
     (λ c. search needs)
     (λ c. search needs)
     returns-2
+    (λ c κs. search needs)
+    (λ c κs. search needs)
     returns-3)

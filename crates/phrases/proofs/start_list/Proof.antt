@@ -24,21 +24,21 @@ returns-3 c = λ q k.
 read-from-requires : tie.Need-read-from-requires
 read-from-requires c κs =
     let a = c .before .before .before .before .before .before .before .before .before .args in
-    (c .before .before .before .before .before .before .before .before .before .pre .0, value-is (a .s .now) (a .at + 2) (c .before .right-letter .given .1) (c .before .before .before .read-value .ensures) .moved .within)
+    (c .before .before .before .before .before .before .before .before .before .pre .0, value-is (a .s .now) (a .at + 2) (c .before .right .given .1) (c .before .before .before .read-value .ensures) .moved .within)
 
 returns-4 : tie.Need-returns-4
 returns-4 c = λ q k.
     let a = c .before .before .before .before .before .before .before .before .before .before .before .before .args in
-    let v = value-is (a .s .now) (a .at + 2) (c .before .before .before .before .right-letter .given .1) (c .before .before .before .before .before .before .read-value .ensures) in
-    no-source (a .s .now) (a .at) q _ _ (omega arith) (omega arith) _ _ _ v
-    (from-missing (a .s .now) (c .before .before .before .before .right-letter .given .0 .1 .1 .0) (c .enum-told2 .given .1) (c .before .before .read-from .ensures))
+    let v = value-is (a .s .now) (a .at + 2) (c .before .before .before .before .right .given .1) (c .before .before .before .before .before .before .read-value .ensures) in
+    no-source (a .s .now) (a .at) q _ _ (omega arith) (omega arith) _ _ v
+    (from-missing (a .s .now) (c .before .before .before .before .right .given .0 .1 .0) (c .enum-told2 .given .1) (c .before .before .read-from .ensures))
 
 returns-5 : tie.Need-returns-5
 returns-5 c = λ q k.
     let a = c .before .before .before .before .before .before .before .before .before .before .before .before .before .args in
-    let v = value-is (a .s .now) (a .at + 2) (c .before .before .before .before .before .right-letter .given .1) (c .before .before .before .before .before .before .before .read-value .ensures) in
-    let f = from-is (a .s .now) (c .before .before .before .before .before .right-letter .given .0 .1 .1 .0) (c .before .table .given .1) (c .before .before .before .read-from .ensures) in
-    a-list (a .s .now) (a .at) q _ _ _ _ (c .before .before .before .before .before .before .before .before .before .before .before .before .before .pre .1 .1 .0) (c .before .before .before .before .before .before .before .before .before .before .before .before .before .pre .1 .1 .1) k (omega arith) (omega arith) _ _ _ v _ _ _ f _ refl
+    let v = value-is (a .s .now) (a .at + 2) (c .before .before .before .before .before .right .given .1) (c .before .before .before .before .before .before .before .read-value .ensures) in
+    let f = from-is (a .s .now) (c .before .before .before .before .before .right .given .0 .1 .0) (c .before .table .given .1) (c .before .before .before .read-from .ensures) in
+    a-list (a .s .now) (a .at) q _ _ _ (c .before .before .before .before .before .before .before .before .before .before .before .before .before .pre .1 .1) k (omega arith) (omega arith) _ _ v _ _ _ f _ refl
 
 pub start-list-spec : {M : Type 1} → statement M
 start-list-spec =

@@ -8,7 +8,7 @@ use Rattle.phrases.proofs.start_null.Tie as tie
 returns : tie.Need-returns
 returns c =
     let a = c .before .before .before .before .args in
-    a-null (a .letter) (a .number) (a .s .now) (a .at) (c .before .before .before .before .pre .1 .1) _ (omega arith) (c .left-note .ensures)
+    a-null (a .left) (a .s .now) (a .at) (c .before .before .before .before .pre .1 .1) _ (omega arith) (c .left-note .ensures)
 
 returns-2 : tie.Need-returns-2
 returns-2 c =
@@ -23,7 +23,7 @@ returns-3 c =
 returns-4 : tie.Need-returns-4
 returns-4 c =
     let a = c .before .before .before .before .before .before .before .args in
-    a-not-null (a .letter) (a .number) (a .s .now) (a .at) (c .before .before .before .before .before .before .before .pre .1 .1) _ (omega arith) (omega arith) (c .left-note2 .ensures)
+    a-not-null (a .left) (a .s .now) (a .at) (c .before .before .before .before .before .before .before .pre .1 .1) _ (omega arith) (omega arith) (c .left-note2 .ensures)
 
 pub start-null-spec : {M : Type 1} → statement M
 start-null-spec =

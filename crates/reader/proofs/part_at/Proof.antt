@@ -1,19 +1,8 @@
 -- `reader::part_at` meets its contract: each field is where it is looked for.
-use native.Mathlib.Omega.{arith}
 use borrow.Author.Needs.{needs}
 use Rattle.reader.proofs.Signs.{part-is}
 use Rattle.reader.proofs.part_at.Statement.{statement}
 use Rattle.reader.proofs.part_at.Tie as tie
-
-value-field-requires : tie.Need-value-field-requires
-value-field-requires c κs =
-    let small = c .before .before .before .before .before .pre .1 in
-    (omega arith, (omega arith, (search needs, search needs)))
-
-value-field-requires-2 : tie.Need-value-field-requires-2
-value-field-requires-2 c κs =
-    let small = c .before .before .before .before .before .before .pre .1 in
-    (omega arith, (omega arith, (search needs, search needs)))
 
 returns : tie.Need-returns
 returns c =
@@ -35,6 +24,6 @@ part-at-spec =
     (λ c κs. search needs)
     (λ c κs. search needs)
     (λ c κs. search needs)
-    value-field-requires
-    value-field-requires-2
+    (λ c κs. search needs)
+    (λ c κs. search needs)
     returns)

@@ -5,7 +5,6 @@ use lib.ListN.{length-set}
 use Rattle.card.specs.Layout.{recordSize, tablePlace}
 use Rattle.tables.proofs.Placed.{placed-one}
 use Rattle.records.proofs.Putting.{end-length, fields-length, left-length, record-length, record-put}
-use Rattle.records.specs.Code.{byteNumber}
 use borrow.Author.Needs.{needs}
 use Rattle.records.proofs.put_entry.Statement.{statement}
 use Rattle.records.proofs.put_entry.Tie as tie
@@ -22,22 +21,22 @@ put-value-requires c κs =
     let o = c .before .before .before .before .before .before .before .before in
     let l = fields-length (o .args .records .now) (recordSize * o .args .k) (o .args .end) (o .args .table) (o .args .leaf .comparison) (o .pre .0 .room) _
     (c .before .before .before .before .put16 .ensures) in
-    (o .pre .0 .left-tag-small, (o .pre .0 .left-small, omega (arith, o .pre .0 .room, l)))
+    (o .pre .0 .left-small, omega (arith, o .pre .0 .room, l))
 
 put-value-requires-2 : tie.Need-put-value-requires-2
 put-value-requires-2 c κs =
     let o = c .before .before .before .before .before .before .before .before .before .before .before .before in
     let l = left-length (o .args .records .now) (recordSize * o .args .k) (o .args .end) (o .args .table) (o .args .leaf .comparison) (o .pre .0 .room) _
-    (c .before .before .before .before .before .before .before .before .put16 .ensures) (o .args .leaf .«left_tag») (byteNumber (o .args .leaf .«left_tag») (o .args .leaf .«left_number»)) _
+    (c .before .before .before .before .before .before .before .before .put16 .ensures) (o .args .leaf .left) _
     (c .before .before .before .put-value .ensures) in
-    (o .pre .0 .right-tag-small, (o .pre .0 .right-small, omega (arith, o .pre .0 .room, l)))
+    (o .pre .0 .right-small, omega (arith, o .pre .0 .room, l))
 
 same-length : tie.Need-same-length
 same-length c =
     let o = c .before .before .before .before .before .before .before .before .before .before .before .before .before .before .before in
     record-length (o .args .records .now) (recordSize * o .args .k) (o .args .end) (o .args .table) (o .args .leaf .comparison) (o .pre .0 .room) _
-    (c .before .before .before .before .before .before .before .before .before .before .before .put16 .ensures) (o .args .leaf .«left_tag») (byteNumber (o .args .leaf .«left_tag») (o .args .leaf .«left_number»)) _
-    (c .before .before .before .before .before .before .put-value .ensures) (o .args .leaf .«right_tag») (byteNumber (o .args .leaf .«right_tag») (o .args .leaf .«right_number»)) _
+    (c .before .before .before .before .before .before .before .before .before .before .before .put16 .ensures) (o .args .leaf .left) _
+    (c .before .before .before .before .before .before .put-value .ensures) (o .args .leaf .right) _
     (c .before .before .put-value2 .ensures)
 
 returns : tie.Need-returns
@@ -47,8 +46,8 @@ returns c =
       kinds-are = placed-one (o .args .kinds .now) (o .args .k) (o .args .leaf .kind) (omega (arith, o .pre .0 .kinds-size, o .pre .0 .few));
       records-are =
           record-put (o .args .records .now) (recordSize * o .args .k) (o .args .end) (o .args .table) (o .args .leaf .comparison) (o .pre .0 .room) _
-          (c .before .before .before .before .before .before .before .before .before .before .before .put16 .ensures) (o .args .leaf .«left_tag») (byteNumber (o .args .leaf .«left_tag») (o .args .leaf .«left_number»)) _
-          (c .before .before .before .before .before .before .put-value .ensures) (o .args .leaf .«right_tag») (byteNumber (o .args .leaf .«right_tag») (o .args .leaf .«right_number»)) _
+          (c .before .before .before .before .before .before .before .before .before .before .before .put16 .ensures) (o .args .leaf .left) _
+          (c .before .before .before .before .before .before .put-value .ensures) (o .args .leaf .right) _
           (c .before .before .put-value2 .ensures);
     }
 

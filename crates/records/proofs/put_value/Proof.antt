@@ -1,44 +1,36 @@
 -- The tag, then four bytes of the number.
 use native.Mathlib.Omega.{arith}
 use lib.ListN.{length-set}
-use Rattle.records.proofs.Putting.{value-length, put-constant, put-column}
+use Rattle.records.proofs.Putting.{put-constant, put-column, value-length}
 use borrow.Author.Needs.{needs}
 use Rattle.records.proofs.put_value.Statement.{statement}
 use Rattle.records.proofs.put_value.Tie as tie
 
 put32-requires : tie.Need-put32-requires
-put32-requires c κs =
-    let o = c .before .before .before in
-    (omega arith, omega (arith, o .pre .1 .1, length-set (o .args .bytes .now) (o .args .i) (o .args .tag)))
-
-same-length : tie.Need-same-length
-same-length c =
-    let o = c .before .before .before .before .before .before in
-    value-length (o .args .bytes .now) _ (o .args .i) (o .args .tag) _ (o .pre .1 .1) (c .before .before .put32 .ensures)
+put32-requires c κs = (omega arith, simp length-set (omega arith))
 
 returns : tie.Need-returns
 returns c =
-    let o = c .before .before .before .before .before .before in
-    put-constant (o .args .bytes .now) _ (o .args .i) (o .args .tag) (o .args .n) (o .pre .1 .1)
-    (c .before .before .before .before .if1 .taken)
-    (c .before .before .put32 .ensures)
+    let o = c .before .before .before .before .before .before .before .before .before in
+    put-constant (o .args .bytes .now) (o .args .i) (o .pre .1) (o .args .v) _ (c .before .before .before .before .before .if1 .taken) (c .before .before .put32 .ensures)
+
+same-length : tie.Need-same-length
+same-length c =
+    let o = c .before .before .before .before .before .before .before .before .before in
+    value-length (o .args .bytes .now) (o .args .i) (o .pre .1) (o .args .v) _ (returns c)
 
 put32-requires-2 : tie.Need-put32-requires-2
-put32-requires-2 c κs =
-    let o = c .before .before .before in
-    (o .pre .1 .0, omega (arith, o .pre .1 .1, length-set (o .args .bytes .now) (o .args .i) (o .args .tag)))
-
-same-length-2 : tie.Need-same-length-2
-same-length-2 c =
-    let o = c .before .before .before .before .before .before in
-    value-length (o .args .bytes .now) _ (o .args .i) (o .args .tag) _ (o .pre .1 .1) (c .before .before .put322 .ensures)
+put32-requires-2 c κs = (omega arith, simp length-set (omega arith))
 
 returns-2 : tie.Need-returns-2
 returns-2 c =
-    let o = c .before .before .before .before .before .before in
-    put-column (o .args .bytes .now) _ (o .args .i) (o .args .tag) (o .args .n) (o .pre .1 .1)
-    (c .before .before .before .before .if1 .left)
-    (c .before .before .put322 .ensures)
+    let o = c .before .before .before .before .before .before .before .before in
+    put-column (o .args .bytes .now) (o .args .i) (o .pre .1) (o .args .v) _ (c .before .before .before .before .if1 .left) (c .before .before .put322 .ensures)
+
+same-length-2 : tie.Need-same-length-2
+same-length-2 c =
+    let o = c .before .before .before .before .before .before .before .before in
+    value-length (o .args .bytes .now) (o .args .i) (o .pre .1) (o .args .v) _ (returns-2 c)
 
 pub put-value-spec : {M : Type 1} → statement M
 put-value-spec =

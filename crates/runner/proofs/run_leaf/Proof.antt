@@ -5,28 +5,36 @@ use Rattle.runner.proofs.run_leaf.Statement.{statement}
 use Rattle.runner.proofs.run_leaf.Tie as tie
 
 look-requires : tie.Need-look-requires
-look-requires c κs = left-ready (c .before .before .before .before .before .pre)
+look-requires c κs = rw (c .held-at .ensures) (left-ready (c .before .before .before .before .pre))
 
 look-requires-2 : tie.Need-look-requires-2
-look-requires-2 c κs = let p = c .before .before .before .before .before .before .before .before .before .before .pre in right-ready p (comparison-here p (c .before .before .before .is-comparison .ensures) (c .before .before .if1 .taken))
+look-requires-2 c κs =
+    let p = c .before .before .before .before .before .before .before .before .pre in
+    rw (c .held-at2 .ensures) (right-ready p (comparison-here p (c .before .before .is-comparison .ensures) (c .before .if1 .taken)))
 
 unknown-says-requires : tie.Need-unknown-says-requires
-unknown-says-requires c κs = comparison-here (c .before .before .before .before .before .before .before .before .before .before .before .pre) (c .before .before .before .before .is-comparison .ensures) (c .before .before .before .if1 .taken)
+unknown-says-requires c κs =
+    let p = c .before .before .before .before .before .before .before .before .before .pre in
+    comparison-here p (c .before .before .before .is-comparison .ensures) (c .before .before .if1 .taken)
 
 returns : tie.Need-returns
 returns c = λ h.
-    let l = c .before .before .before .before .before .before .before .before .look in
-    let k = comparison-here h (c .before .before .before .before .before .before .before .is-comparison .ensures) (c .before .before .before .before .before .before .if1 .taken) in
-    let r = c .before .before .before .look2 in
-    compare-answer h (l .result) (l .ensures (left-ready h)) k (r .result) _ _ (r .ensures (right-ready h k)) (c .before .before .unknown-says .ensures) (c .cells-hold .ensures)
+    let right = c .before .before .before in
+    let left = right .before .before .before .before in
+    let k = comparison-here h (right .before .before .before .is-comparison .ensures) (right .before .before .if1 .taken) in
+    let x = rw (left .before .held-at .ensures) at (left .look .ensures) in
+    let y = rw (right .before .held-at2 .ensures) at (right .look2 .ensures) in
+    compare-answer h (left .look .result) (x (left-ready h)) k (right .look2 .result) _ _ (y (right-ready h k)) (c .before .before .unknown-says .ensures) (c .cells-hold .ensures)
 
 asks-blank-requires : tie.Need-asks-blank-requires
-asks-blank-requires c κs = mark-here (c .before .before .before .before .before .before .before .before .pre) (c .before .is-comparison .ensures) (c .if1 .left)
+asks-blank-requires c κs = mark-here (c .before .before .before .before .before .before .before .pre) (c .before .is-comparison .ensures) (c .if1 .left)
 
 returns-2 : tie.Need-returns-2
 returns-2 c = λ h.
-    let l = c .before .before .before .before .look in
-    mark-answer h (l .result) (l .ensures (left-ready h)) (mark-here h (c .before .before .before .is-comparison .ensures) (c .before .before .if1 .left)) _ (c .before .asks-blank .ensures)
+    let left = c .before .before .before .before in
+    let k = mark-here h (c .before .before .before .is-comparison .ensures) (c .before .before .if1 .left) in
+    let x = rw (left .before .held-at .ensures) at (left .look .ensures) in
+    mark-answer h (left .look .result) (x (left-ready h)) k _ (c .before .asks-blank .ensures)
 
 pub run-leaf-spec : {M : Type 1} → statement M
 run-leaf-spec =
@@ -37,22 +45,12 @@ run-leaf-spec =
     (λ c. search needs)
     (λ c. search needs)
     (λ c. search needs)
-    (λ c. search needs)
-    (λ c. search needs)
-    (λ c. search needs)
-    (λ c. search needs)
-    (λ c. search needs)
-    (λ c. search needs)
+    (λ c κs. search needs)
     look-requires
     (λ c κs. search needs)
     (λ c. search needs)
     (λ c. search needs)
-    (λ c. search needs)
-    (λ c. search needs)
-    (λ c. search needs)
-    (λ c. search needs)
-    (λ c. search needs)
-    (λ c. search needs)
+    (λ c κs. search needs)
     look-requires-2
     unknown-says-requires
     (λ c. search needs)

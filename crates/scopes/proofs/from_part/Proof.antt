@@ -25,7 +25,7 @@ never-requires c κs =
     ⊎-elim (λ w. omega (arith, w .taken)) (λ w. omega (arith, w .1 .left)) (c .if1 .came)
 
 returns : tie.Need-returns
-returns c = sym (own-exists _ _ _ _ _ _ (c .match .keys1))
+returns c = rw (c .before .unused-held .ensures, c .unused-held2 .ensures) (sym (own-exists _ _ _ _ _ _ (c .before .before .match .keys1)))
 
 returns-2 : tie.Need-returns-2
 returns-2 c =
@@ -43,4 +43,13 @@ returns-3 c = search needs
 pub from-part-spec : {M : Type 1} → statement M
 from-part-spec =
     tie.close
-    (tie.spec mul-kind shared-slice-read-kind compared-part-requires never-requires returns returns-2 returns-3)
+    (tie.spec
+    mul-kind
+    shared-slice-read-kind
+    (λ c κs. search needs)
+    (λ c κs. search needs)
+    compared-part-requires
+    never-requires
+    returns
+    returns-2
+    returns-3)

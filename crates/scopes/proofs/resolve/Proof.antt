@@ -10,66 +10,49 @@ use Rattle.scopes.proofs.resolve.Statement.{statement}
 use Rattle.scopes.proofs.resolve.Tie as tie
 
 returns : tie.Need-returns
-returns c = plain-value _ _ _ (c .before .before .args .letter) (c .before .before .args .number) (c .if1 .taken)
-
-find-letter-requires : tie.Need-find-letter-requires
-find-letter-requires c κs = search needs
+returns c = plain-value _ _ _ (c .before .before .before .args .v) (c .if1 .taken)
 
 returns-2 : tie.Need-returns-2
-returns-2 c = letter-unknown _ _ _ (c .before .before .before .before .args .letter) (c .before .before .before .before .args .number) (c .before .before .if1 .left) (c .before .find-letter .result) (c .before .find-letter .ensures) (c .if2 .taken)
-
-mul-table : tie.Need-mul-table
-mul-table c = search needs
-
-add-table : tie.Need-add-table
-add-table c = search needs
-
-mul-table-2 : tie.Need-mul-table-2
-mul-table-2 c = search needs
-
-element-copy-out-table : tie.Need-element-copy-out-table
-element-copy-out-table c = search needs
+returns-2 c =
+    letter-unknown _ _ _ (c .before .before .before .before .before .args .v) (c .before .before .if1 .left) (c .before .find-letter .result) (c .before .find-letter .ensures) (c .if2 .taken)
 
 sub-table-columns : tie.Need-sub-table-columns
 sub-table-columns c =
-    let o = c .before .before .before .before .before in
+    let o = c .before .before .before .before .before .before in
     let near = c .before .before .find-letter .ensures in
     o .pre .1 .table-low (c .before .before .find-letter .result) (below near (c .before .if2 .left))
 
 table-columns-requires : tie.Need-table-columns-requires
 table-columns-requires c κs =
-    let o = c .before .before .before .before .before in
+    let o = c .before .before .before .before .before .before in
     let l = c .before .before .find-letter .result in
     let less = below (c .before .before .find-letter .ensures) (c .before .if2 .left) in
     omega (arith, o .pre .1 .table-low l less, o .pre .1 .table-high l less, o .pre .0 .long)
 
-find-numbered-requires : tie.Need-find-numbered-requires
-find-numbered-requires c κs = search needs
-
 returns-3 : tie.Need-returns-3
 returns-3 c =
-    let o = c .before .before .before .before .before .before .before .before in
+    let o = c .before .before .before .before .before .before .before .before .before in
     let l = c .before .before .before .before .before .find-letter .result in
     let near = c .before .before .before .before .before .find-letter .ensures in
     let less = below near (c .before .before .before .before .if2 .left) in
-    column-unknown _ _ _ (o .args .letter) (o .args .number) (c .before .before .before .before .before .before .if1 .left) l near (o .pre .1 .few) (c .before .before .before .before .if2 .left)
+    column-unknown _ _ _ (o .args .v) (c .before .before .before .before .before .before .if1 .left) l near (o .pre .1 .few) (c .before .before .before .before .if2 .left)
     (o .pre .1 .table-low l less)
     (o .pre .1 .table-high l less)
     (c .before .find-numbered .result)
-    (c .before .find-numbered .ensures .0 ∙ ap (λ (m : ℕ). existing m (fromExcess (o .args .number))) (c .before .before .table-columns .ensures .0))
+    (c .before .find-numbered .ensures .0 ∙ ap (λ (m : ℕ). existing m (fromExcess (o .args .v .number))) (c .before .before .table-columns .ensures .0))
     (c .if3 .taken)
 
 returns-4 : tie.Need-returns-4
 returns-4 c =
-    let o = c .before .before .before .before .before .before .before .before in
+    let o = c .before .before .before .before .before .before .before .before .before in
     let l = c .before .before .before .before .before .find-letter .result in
     let near = c .before .before .before .before .before .find-letter .ensures in
     let less = below near (c .before .before .before .before .if2 .left) in
-    column-known _ _ _ (o .args .letter) (o .args .number) (c .before .before .before .before .before .before .if1 .left) l near (o .pre .1 .few) (c .before .before .before .before .if2 .left)
+    column-known _ _ _ (o .args .v) (c .before .before .before .before .before .before .if1 .left) l near (o .pre .1 .few) (c .before .before .before .before .if2 .left)
     (o .pre .1 .table-low l less)
     (o .pre .1 .table-high l less)
     (c .before .find-numbered .result)
-    (c .before .find-numbered .ensures .0 ∙ ap (λ (m : ℕ). existing m (fromExcess (o .args .number))) (c .before .before .table-columns .ensures .0))
+    (c .before .find-numbered .ensures .0 ∙ ap (λ (m : ℕ). existing m (fromExcess (o .args .v .number))) (c .before .before .table-columns .ensures .0))
     (c .if3 .left)
 
 pub resolve-spec : {M : Type 1} → statement M
@@ -77,14 +60,14 @@ resolve-spec =
     tie.close
     (tie.spec
     returns
-    find-letter-requires
+    (λ c κs. search needs)
     returns-2
-    mul-table
-    add-table
-    mul-table-2
-    element-copy-out-table
+    (λ c. search needs)
+    (λ c. search needs)
+    (λ c. search needs)
+    (λ c. search needs)
     sub-table-columns
     table-columns-requires
-    find-numbered-requires
+    (λ c κs. search needs)
     returns-3
     returns-4)

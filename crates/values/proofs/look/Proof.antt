@@ -8,7 +8,7 @@ use Rattle.values.proofs.look.Statement.{statement}
 use Rattle.values.proofs.look.Tie as tie
 
 returns : tie.Need-returns
-returns c = λ h. value-constant (h .env) _ _ (c .if1 .taken)
+returns c = λ h. value-constant _ (h .env) (c .if1 .taken)
 
 mul-first : tie.Need-mul-first
 mul-first c = let z = level-low (c .before .before .pre) (c .if1 .left) in omega arith
@@ -17,18 +17,18 @@ element-copy-out-first : tie.Need-element-copy-out-first
 element-copy-out-first c = let z = level-low (c .before .before .pre) (c .if1 .left) in omega arith
 
 sub-first : tie.Need-sub-first
-sub-first c = let z = level-low (c .before .before .before .pre) (c .before .if1 .left) in omega arith
+sub-first c = let z = level-low (c .before .before .before .before .pre) (c .before .before .if1 .left) in omega arith
 
 add-first : tie.Need-add-first
-add-first c = let z = cell-there (c .before .before .before .pre) (c .before .if1 .left) in omega arith
+add-first c = let z = cell-there (c .before .before .before .before .pre) (c .before .before .if1 .left) in omega arith
 
 cell-requires : tie.Need-cell-requires
 cell-requires c κs =
-    let z = cell-there (c .before .before .before .before .before .pre) (c .before .before .before .if1 .left) in
+    let z = cell-there (c .before .before .before .before .before .before .pre) (c .before .before .before .before .if1 .left) in
     (omega arith, (omega arith, (omega arith, omega arith)))
 
 returns-2 : tie.Need-returns-2
-returns-2 c = λ h. ap seenCell (c .cell .ensures) ∙ window-shows h (c .before .before .before .before .if1 .left)
+returns-2 c = λ h. ap seenCell (c .cell .ensures) ∙ window-shows h (c .before .before .before .before .before .if1 .left)
 
 pub look-spec : {M : Type 1} → statement M
 look-spec =

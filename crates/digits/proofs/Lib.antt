@@ -1,0 +1,3 @@
+pub mod Spells
+pub mod Numbers
+pub mod Written

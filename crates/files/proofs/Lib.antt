@@ -1,0 +1,10 @@
+pub mod Pieces
+pub mod Bytes
+pub mod Back
+pub mod Valid
+pub mod Cut
+pub mod Remade
+pub mod Placing
+pub mod Stored
+pub mod Opened
+pub mod Computed
