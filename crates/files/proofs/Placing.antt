@@ -88,9 +88,9 @@ front-placed file rest values marks j ds h l =
 
 pub placing-claim : PlacingClaim
 placing-claim = record {
-  placing = cells-placed;
+  placing = λ ss cs j ds within. run-placed ss cs j ds within _ _ refl refl;
   placing-file = file-placed;
   placing-storable = placed-storable;
   placing-size = size-placed;
-  placing-front = front-placed;
+  placing-front = placed-within;
 }

@@ -66,20 +66,19 @@ pub record RemadeClaim : Type 0 where
   pub by-length : (file : List ℕ) → ((i : ℕ) → byteAt file i < 256) → length file ≡ marksAt file + cellCount file → Remade file
   pub unrefused : (file : List ℕ) → ((i : ℕ) → byteAt file i < 256) → sizesFit file ≡ true → Remade file
 
--- a run of cells that is placed in a file, its values among the values and its marks among the marks, is placed in the list of its cells; so also by a file's
--- own sizes and cells; and what comes of it can be stored where the run can. A table's sizes that are placed in a file are placed in the list of its sizes. What
--- stands behind a file in a longer buffer stays as it is
+-- a run of cells that is placed in a file, its values among the values and its marks among the marks, is placed in the list of its cells, whatever its sizes; so
+-- also by a file's own sizes and cells; and what comes of it can be stored where the run can. A table's sizes that are placed in a file are placed in the list of
+-- its sizes. Whatever is placed in a file at the front of a longer buffer, what stands behind the file stays as it is
 pub record PlacingClaim : Type 0 where
-  pub placing : (ss : List Size) (cs : List RawCell) (j : ℕ) (ds : List RawCell) → Storable ss cs → j + length ds ≤ length cs
-      → cellsPlaced (fileBytes ss cs) (valuesAt (fileBytes ss cs)) (marksAt (fileBytes ss cs)) j ds ≡ fileBytes ss (placed cs j ds)
+  pub placing : (ss : List Size) (cs : List RawCell) (j : ℕ) (ds : List RawCell) → j + length ds ≤ length cs
+      → cellsPlaced (fileBytes ss cs) (valuesStart ss) (marksStart ss cs) j ds ≡ fileBytes ss (placed cs j ds)
   pub placing-file : (file : List ℕ) (j : ℕ) (ds : List RawCell) → Remade file → j + length ds ≤ cellCount file
       → cellsPlaced file (valuesAt file) (marksAt file) j ds ≡ fileBytes (sizes file) (placed (rawCells file) j ds)
   pub placing-storable : (ss : List Size) (cs : List RawCell) (j : ℕ) (ds : List RawCell) → Storable ss cs → j + length ds ≤ length cs
       → all cellStorable ds ≡ true → Storable ss (placed cs j ds)
   pub placing-size : (ss : List Size) (cs : List RawCell) (j : ℕ) (s : Size) → j < length ss
       → placed (fileBytes ss cs) (1 + 3 * j) (sizeBytes s) ≡ fileBytes (placed ss j (s ∷ [])) cs
-  pub placing-front : (file rest : List ℕ) (values marks j : ℕ) (ds : List RawCell) → values + 4 * (j + length ds) ≤ length file → marks + (j + length ds) ≤ length file
-      → cellsPlaced (file ++ rest) values marks j ds ≡ cellsPlaced file values marks j ds ++ rest
+  pub placing-front : (file rest : List ℕ) (i : ℕ) (new : List ℕ) → i + length new ≤ length file → placed (file ++ rest) i new ≡ placed file i new ++ rest
 
 -- the sample file of the crate tables is made from its sizes and cells
 abbrev pub SampleFileClaim : Type 0

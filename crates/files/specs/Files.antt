@@ -23,7 +23,7 @@ sizeOf c r = record { columns = c; rows = r }
 
 -- ---- the bytes
 
--- 'Per table: columns (1 byte), rows (2 bytes)'
+-- per table its columns, in a byte, and its rows, in two
 abbrev pub sizeBytes : Size → List ℕ
 sizeBytes s = s .columns ∷ bytes16 (s .rows)
 
