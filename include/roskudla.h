@@ -1,22 +1,22 @@
 /* Roskudla: entry rules with blanks, turned into cards that answer yes or no.
  *
- * Six calls. Each returns 0, or the number of a refusal (1 to 13, below). Where several refusals apply, it is the first in the order that stands
- * at the call. The answer comes through pointers, and a refusal leaves everything that they point to as it was; after a success what lies past the
- * answer is untouched. docs/RULES.md says how rules are written and what they mean, docs/FORMATS.md what the bytes of tables and cards are; the
- * definitions that the calls are proved against are in crates/rule/specs, crates/tables/specs, crates/card/specs and crates/translation/specs,
- * with an index in docs/ARCHITECTURE.md.
+ * Eight calls. Each returns 0, or the number of a refusal (1 to 15, below). Where several refusals apply, it is the first in the order that
+ * stands at the call. The answer comes through pointers, and a refusal leaves everything that they point to as it was; after a success what
+ * lies past the answer is untouched. docs/RULES.md says how rules are written and what they mean, docs/FORMATS.md what the bytes of tables,
+ * cards and comma lines are; the definitions that the calls are proved against are in crates/rule/specs, crates/tables/specs,
+ * crates/card/specs, crates/translation/specs and crates/lines/specs, with an index in docs/ARCHITECTURE.md.
  *
  * A slice is a pointer and its length, in elements. Where the length is 0 the pointer is not looked at and may be NULL. All other pointers
  * point to as many elements as their length says, or to one where they have no length; they are never NULL, and are aligned as C aligns what
  * they point to. What a call writes must not overlap anything else that it was given; what it only reads may overlap.
  *
  * The calls have no state: they may run in several threads at a time, as long as nobody writes what another call is given. They use the
- * caller's stack alone, up to 80 KB in roskudla_read, roskudla_judge and roskudla_card, and up to 40 KB in the others, and call nothing but
- * memcpy and memset. The time of roskudla_run, roskudla_judge and roskudla_list grows with the product of the row counts of tables whose
+ * caller's stack alone, up to 80 KB in roskudla_read, roskudla_judge, roskudla_card and roskudla_import, and up to 40 KB in the others, and
+ * call nothing but memcpy and memset. The time of roskudla_run, roskudla_judge and roskudla_list grows with the product of the row counts of tables whose
  * FROMs stand around one another, and for roskudla_list with the rows of table 1 besides; docs/BENCHMARK.md has how long three FROMs over
  * the largest tables take.
  *
- * libroskudla.a (rt staticlib roskudla) has all six calls. libroskudla_gate.a (rt staticlib roskudla_gate) has roskudla_check, roskudla_run
+ * libroskudla.a (rt staticlib roskudla) has all eight calls. libroskudla_gate.a (rt staticlib roskudla_gate) has roskudla_check, roskudla_run
  * and roskudla_list alone, for a gate that runs cards and reads no rules. Link one of the two. They are for x86-64.
  */
 #ifndef ROSKUDLA_H
@@ -44,13 +44,17 @@ enum roskudla_status {
     ROSKUDLA_COLUMNS = 10,  /* the card was made for another number of tables or columns */
     ROSKUDLA_ROW = 11,      /* the row is not in table 1 */
     ROSKUDLA_ROOM = 12,     /* what was lent is shorter than the whole answer */
-    ROSKUDLA_ENTRIES = 13   /* the card would have over 192 entries */
+    ROSKUDLA_ENTRIES = 13,  /* the card would have over 192 entries */
+    ROSKUDLA_FIELDS = 14,   /* comma lines: a bad field, a wrong field count, or columns not 1 to 16 */
+    ROSKUDLA_TOO_MANY = 15  /* comma lines: over 1,000 rows or 8,192 cells */
 };
 
 /* With so much room no call returns ROSKUDLA_ROOM. */
-#define ROSKUDLA_MOST_PARTS 64         /* parts of a rule, for roskudla_read */
-#define ROSKUDLA_MOST_CARD_BYTES 2891  /* bytes of any sound card, for roskudla_card */
-#define ROSKUDLA_MOST_ROWS 1000        /* rows of a table, for roskudla_list */
+#define ROSKUDLA_MOST_PARTS 64           /* parts of a rule, for roskudla_read */
+#define ROSKUDLA_MOST_CARD_BYTES 2891    /* bytes of any sound card, for roskudla_card */
+#define ROSKUDLA_MOST_ROWS 1000          /* rows of a table, for roskudla_list */
+#define ROSKUDLA_MOST_TABLE_BYTES 40964  /* bytes of a tables file with one table, for roskudla_import */
+#define ROSKUDLA_MOST_LINES_BYTES 98304  /* bytes of the comma lines of a table, for roskudla_export */
 
 /* A value in a part: the tag is 255 for a constant, else the level of a column, 0 to 3; the number is the constant, or the column's. */
 struct roskudla_value {
@@ -92,6 +96,16 @@ uint32_t roskudla_run(const uint8_t *card, size_t card_len, const uint8_t *table
  * Refusals, in this order: 1, 2, 9, 10, 12. */
 uint32_t roskudla_list(const uint8_t *card, size_t card_len, const uint8_t *tables, size_t tables_len,
                        uint32_t *rows, size_t rows_len, size_t *count);
+
+/* IMPORT: comma lines as a tables file with one table, of so many columns, from the start of tables on; *length becomes how many bytes it has.
+ * Refusals, in this order: 14, 15, 12. */
+uint32_t roskudla_import(const uint8_t *lines, size_t lines_len, size_t columns,
+                         uint8_t *tables, size_t tables_len, size_t *length);
+
+/* EXPORT: table 1 of a tables file as comma lines, from the start of lines on; *length becomes how many bytes they have. Refusals, in this
+ * order: 1, 2, 12. */
+uint32_t roskudla_export(const uint8_t *tables, size_t tables_len,
+                         uint8_t *lines, size_t lines_len, size_t *length);
 
 #ifdef __cplusplus
 }

@@ -1,15 +1,17 @@
-//! The six calls (section "What the product holds"). Each gives the first refusal of its order that applies to its whole input, because
-//! its steps stand in that order; the numbers rise in it, so this is the lowest that applies. Only 13 (document 02, Point 1) stands
-//! elsewhere: it belongs to reading and comes after 8. A lent buffer is written last, and no further than the answer goes.
+//! The eight calls (section "What the product holds"; document 02, Point 2, for IMPORT and EXPORT). Each gives the first refusal of its
+//! order that applies to its whole input, because its steps stand in that order; the numbers rise in it, so this is the lowest that
+//! applies. Only those of document 02 stand elsewhere: 13 (Point 1) belongs to reading and comes after 8, and 14 and 15 (Point 2) come
+//! before 12. A lent buffer is written last, and no further than the answer goes.
 
 use crate::card::{self, Card};
 use crate::grammar;
+use crate::lines;
 use crate::meaning::{self, Truth};
 use crate::part::Part;
 use crate::refusal::{self, Refusal};
 use crate::rule;
 use crate::runner::Runner;
-use crate::tables::Tables;
+use crate::tables::{self, Tables};
 use crate::text;
 use crate::translate;
 
@@ -57,6 +59,19 @@ pub fn list(card: &[u8], tables: &[u8], rows: &mut [u32]) -> Result<usize, Refus
     let mut admitted = Vec::with_capacity(tables.judged().rows());
     admitted.extend((0..tables.judged().rows()).filter(|&row| runner.admits(row)).map(|row| row as u32));
     lend(&admitted, rows)
+}
+
+/// IMPORT: comma lines with this many columns to a tables file with that single table, whose number of bytes is given. Refusals, in
+/// this order: 14, 15, 12.
+pub fn import(lines: &[u8], columns: usize, tables: &mut [u8]) -> Result<usize, Refusal> {
+    let cells = lines::cells(lines, columns)?;
+    lend(&tables::single(columns, &cells), tables)
+}
+
+/// EXPORT: table 1 of a tables file to comma lines, whose number of bytes is given. Refusals, in this order: 1, 2, 12.
+pub fn export(tables: &[u8], lines: &mut [u8]) -> Result<usize, Refusal> {
+    let tables = Tables::read(tables)?;
+    lend(&lines::bytes(&tables, tables.judged()), lines)
 }
 
 /// Reading: the parts of a rule that is accepted with these tables, else a refusal from 3 to 8, or 13 for the sum. Where no inner

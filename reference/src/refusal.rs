@@ -1,6 +1,6 @@
-//! The refusals: 1 to 12 (section "Gate says why not"), and 13 (document 02, Point 1).
+//! The refusals: 1 to 12 (section "Gate says why not"), 13 (document 02, Point 1), 14 and 15 (document 02, Point 2).
 
-/// The number of a refusal, 1 to 13. Of those that apply to the whole input the first in the call's order is given.
+/// The number of a refusal, 1 to 15. Of those that apply to the whole input the first in the call's order is given.
 pub type Refusal = u32;
 
 /// Tables: sizes or length wrong.
@@ -29,3 +29,7 @@ pub const ROW: Refusal = 11;
 pub const BUFFER: Refusal = 12;
 /// The sum of entries is over 192. It belongs to reading and comes after 8, so before 11 and 12.
 pub const SUM: Refusal = 13;
+/// Comma lines: a bad field, a wrong field count, or columns not 1 to 16. It comes first in IMPORT.
+pub const FIELDS: Refusal = 14;
+/// Comma lines: over 1,000 rows or 8,192 cells. It comes after 14 and before 12.
+pub const SIZES: Refusal = 15;

@@ -10,14 +10,16 @@ pub const MOST_TABLES: usize = 8;
 /// At most this many columns in a table.
 pub const MOST_COLUMNS: usize = 16;
 /// At most this many rows in a table.
-const MOST_ROWS: usize = 1_000;
+pub const MOST_ROWS: usize = 1_000;
 /// At most this many cells over all tables.
-const MOST_CELLS: usize = 8_192;
+pub const MOST_CELLS: usize = 8_192;
 /// Bytes of the sizes of one table: columns, then rows in two bytes.
 const SIZE_BYTES: usize = 3;
 /// Bytes of the value of one cell.
 const VALUE_BYTES: usize = 4;
-/// The highest mark: 0 is present, 1 is blank.
+/// The mark of a cell that has a number.
+const PRESENT: u8 = 0;
+/// The mark of a blank cell, the highest.
 const BLANK: u8 = 1;
 
 /// For each level the number of the first cell of the row that it stands at.
@@ -93,7 +95,7 @@ impl<'a> Tables<'a> {
 
     /// The number in a cell, or none where the cell is blank: then its value bytes affect no answer.
     #[inline]
-    fn cell(&self, cell: usize) -> Option<i32> {
+    pub fn cell(&self, cell: usize) -> Option<i32> {
         (self.marks[cell] != BLANK).then(|| i32::from_le_bytes(self.values[cell]))
     }
 
@@ -106,6 +108,23 @@ impl<'a> Tables<'a> {
             self.cell(levels[usize::from(value.tag)] + value.number as usize - 1)
         }
     }
+}
+
+/// The bytes of a tables file with a single table of this many columns, 1 to 16, and these cells, which are whole rows within the
+/// limits. The value under a blank is 0.
+pub fn single(columns: usize, cells: &[Option<i32>]) -> Vec<u8> {
+    let mut bytes = vec![0; 1 + SIZE_BYTES + cells.len() * (VALUE_BYTES + 1)];
+    let (sizes, cell_bytes) = bytes.split_at_mut(1 + SIZE_BYTES);
+    let [low, high] = ((cells.len() / columns) as u16).to_le_bytes();
+    sizes.copy_from_slice(&[1, columns as u8, low, high]);
+    let (values, marks) = cell_bytes.split_at_mut(cells.len() * VALUE_BYTES);
+    for (value, cell) in values.as_chunks_mut().0.iter_mut().zip(cells) {
+        *value = cell.unwrap_or(0).to_le_bytes();
+    }
+    for (mark, cell) in marks.iter_mut().zip(cells) {
+        *mark = if cell.is_none() { BLANK } else { PRESENT };
+    }
+    bytes
 }
 
 /// Decodes the sizes and parts them from the bytes of the cells; none if a size or the length is wrong.

@@ -1,12 +1,11 @@
 //! Tokens of the rule text (section "Rule text", the first paragraph; document 02, Point 1, for three of the words).
 
 use crate::comparison::{AT_LEAST, AT_MOST, EQUAL, LESS, MORE, NOT_EQUAL};
+use crate::number;
 use crate::refusal::{self, Refusal};
 
 /// A text has at most this many bytes.
 const MOST_TEXT_BYTES: usize = 4_096;
-/// A number has at most this many digits, leading zeros counted.
-const MOST_DIGITS: usize = 10;
 /// At most this many more `(` than `)` up to any token.
 const MOST_OPEN: i32 = 32;
 
@@ -83,7 +82,7 @@ pub fn tokens(text: &[u8]) -> Result<Vec<Token>, Refusal> {
 fn token(bytes: &[u8]) -> Option<(Token, usize)> {
     let found = match bytes {
         [b'A'..=b'Z', ..] => return word(bytes),
-        [b'-' | b'0'..=b'9', ..] => return number(bytes),
+        [b'-' | b'0'..=b'9', ..] => return number::read(bytes).map(|(number, length)| (Token::Number(number), length)),
         [letter @ b'a'..=b'z', ..] => (Token::Letter(*letter), 1),
         [b'(', ..] => (Token::Open, 1),
         [b')', ..] => (Token::Close, 1),
@@ -101,7 +100,7 @@ fn token(bytes: &[u8]) -> Option<(Token, usize)> {
 
 /// The whole run of capitals, which must be one of the words.
 fn word(bytes: &[u8]) -> Option<(Token, usize)> {
-    let length = run(bytes, u8::is_ascii_uppercase);
+    let length = bytes.iter().take_while(|byte| byte.is_ascii_uppercase()).count();
     let word = match &bytes[..length] {
         b"AND" => Word::And,
         b"OR" => Word::Or,
@@ -121,24 +120,4 @@ fn word(bytes: &[u8]) -> Option<(Token, usize)> {
         _ => return None,
     };
     Some((Token::Word(word), length))
-}
-
-/// A minus or none, then the whole run of one to ten digits, in the range of 32 bits.
-fn number(bytes: &[u8]) -> Option<(Token, usize)> {
-    let (sign, unsigned) = match bytes {
-        [b'-', unsigned @ ..] => (-1, unsigned),
-        _ => (1, bytes),
-    };
-    let digits = run(unsigned, u8::is_ascii_digit);
-    if !(1..=MOST_DIGITS).contains(&digits) {
-        return None;
-    }
-    let size = unsigned[..digits].iter().fold(0, |size, digit| 10 * size + i64::from(digit - b'0'));
-    let number = i32::try_from(sign * size).ok()?;
-    Some((Token::Number(number), bytes.len() - unsigned.len() + digits))
-}
-
-/// How many bytes of this sort stand at the start.
-fn run(bytes: &[u8], sort: fn(&u8) -> bool) -> usize {
-    bytes.iter().take_while(|byte| sort(byte)).count()
 }

@@ -1,6 +1,6 @@
 //! The paper's cases, its worked card, its refusals, and places where a reading goes wrong easily.
 
-use reference::{card, check, judge, list, read, run, Part, Refusal, Truth, Value};
+use reference::{card, check, export, import, judge, list, read, run, Part, Refusal, Truth, Value};
 
 const T: Truth = Truth::True;
 const U: Truth = Truth::Unknown;
@@ -11,13 +11,18 @@ type Table = (u8, Vec<Vec<Option<i32>>>);
 
 /// A tables file. Blank cells get value bytes that would be seen if they were read.
 fn tables_file(tables: &[Table]) -> Vec<u8> {
+    tables_file_with(tables, 1)
+}
+
+/// A tables file with this value under each blank.
+fn tables_file_with(tables: &[Table], under_blank: i32) -> Vec<u8> {
     let mut bytes = vec![tables.len() as u8];
     for (columns, rows) in tables {
         bytes.push(*columns);
         bytes.extend((rows.len() as u16).to_le_bytes());
     }
     let cells = || tables.iter().flat_map(|(_, rows)| rows.iter().flatten());
-    bytes.extend(cells().flat_map(|cell| cell.unwrap_or(1).to_le_bytes()));
+    bytes.extend(cells().flat_map(|cell| cell.unwrap_or(under_blank).to_le_bytes()));
     bytes.extend(cells().map(|cell| u8::from(cell.is_none())));
     bytes
 }
@@ -687,5 +692,450 @@ fn any_bytes_give_an_answer() {
         let at = dice.below(file.len() as u64) as usize;
         file[at] = dice.below(256) as u8;
         let _ = (run(&WORKED, &file, 0), judge(b"m.1 = 1", &file, 0), list(&bytes, &file, &mut [0; 2]));
+    }
+}
+
+/// What IMPORT gives for these lines, with what holds of its buffer: as it was on a refusal and past the answer, just long enough with
+/// the answer's length, too short with one byte less.
+fn imported(lines: &[u8], columns: usize) -> Result<Vec<u8>, Refusal> {
+    let most = 4 + 5 * lines.len().saturating_add(1).min(8_192);
+    let mut buffer = vec![7; most + 3];
+    let answer = import(lines, columns, &mut buffer);
+    let length = answer.unwrap_or(0);
+    assert!(buffer[length..].iter().all(|&byte| byte == 7), "{lines:?}");
+    if answer.is_ok() {
+        let mut exact = vec![7; length];
+        assert_eq!(import(lines, columns, &mut exact), Ok(length), "{lines:?}");
+        assert_eq!(exact, buffer[..length], "{lines:?}");
+        let mut short = vec![7; length - 1];
+        assert_eq!(import(lines, columns, &mut short), Err(12), "{lines:?}");
+        assert!(short.iter().all(|&byte| byte == 7), "{lines:?}");
+    } else {
+        assert_eq!(import(lines, columns, &mut []), answer, "{lines:?}");
+    }
+    answer.map(|length| buffer[..length].to_vec())
+}
+
+/// What EXPORT gives for this file, with the same of its buffer.
+fn exported(file: &[u8]) -> Result<Vec<u8>, Refusal> {
+    let mut buffer = vec![7; 8_192 * 12 + 3];
+    let answer = export(file, &mut buffer);
+    let length = answer.unwrap_or(0);
+    assert!(buffer[length..].iter().all(|&byte| byte == 7));
+    if answer.is_ok() {
+        let mut exact = vec![7; length];
+        assert_eq!((export(file, &mut exact), &exact[..]), (Ok(length), &buffer[..length]));
+        if length > 0 {
+            let mut short = vec![7; length - 1];
+            assert_eq!(export(file, &mut short), Err(12));
+            assert!(short.iter().all(|&byte| byte == 7));
+        }
+    } else {
+        assert_eq!(export(file, &mut []), answer);
+    }
+    answer.map(|length| buffer[..length].to_vec())
+}
+
+/// The file that IMPORT gives for a table: that single table, 0 under each blank.
+fn single(columns: usize, rows: &[&[Option<i32>]]) -> Result<Vec<u8>, Refusal> {
+    Ok(tables_file_with(&[(columns as u8, rows.iter().map(|row| row.to_vec()).collect())], 0))
+}
+
+/// IMPORT's answer by splitting the text, without a limit on the rows.
+fn split_import(lines: &str, columns: usize) -> Result<Vec<u8>, Refusal> {
+    let number = |field: &str| {
+        let digits = field.strip_prefix('-').unwrap_or(field);
+        let written = (1..=10).contains(&digits.len()) && digits.bytes().all(|byte| byte.is_ascii_digit());
+        written.then(|| field.parse::<i64>().unwrap()).and_then(|number| i32::try_from(number).ok())
+    };
+    let mut rows = vec![];
+    for line in lines.split_inclusive('\n') {
+        let line = line.strip_suffix("\r\n").or(line.strip_suffix('\n')).unwrap_or(line);
+        let cells: Vec<_> =
+            line.split(',').map(|field| if field.is_empty() { Ok(None) } else { number(field).map(Some).ok_or(14) }).collect();
+        let row = cells.into_iter().collect::<Result<Vec<_>, Refusal>>()?;
+        if row.len() != columns {
+            return Err(14);
+        }
+        rows.push(row);
+    }
+    Ok(tables_file_with(&[(columns as u8, rows)], 0))
+}
+
+#[test]
+fn comma_lines_and_their_bytes() {
+    let bytes = [1, 2, 2, 0, 1, 0, 0, 0, 0, 0, 0, 0, 0xFE, 0xFF, 0xFF, 0xFF, 0x2C, 1, 0, 0, 0, 1, 0, 0];
+    assert_eq!(imported(b"1,\n-2,300\n", 2), Ok(bytes.to_vec()));
+    // values of all cells first, then the marks, by row and column
+    let bytes = [1, 3, 1, 0, 0, 0, 0, 0, 5, 0, 0, 0, 0, 0, 0, 0, 1, 0, 1];
+    assert_eq!(imported(b",5,", 3), Ok(bytes.to_vec()));
+    assert_eq!(imported(b"7", 1), Ok(vec![1, 1, 1, 0, 7, 0, 0, 0, 0]));
+    assert_eq!(imported(b"\n", 1), Ok(vec![1, 1, 1, 0, 0, 0, 0, 0, 1]));
+    // rows in two bytes, the lower first
+    let many = imported("9\n".repeat(259).as_bytes(), 1).unwrap();
+    assert_eq!((&many[..8], many.len()), (&[1, 1, 3, 1, 9, 0, 0, 0][..], 4 + 5 * 259));
+}
+
+#[test]
+fn an_empty_file_has_no_rows() {
+    for columns in 1..=16 {
+        assert_eq!(imported(b"", columns), Ok(vec![1, columns as u8, 0, 0]));
+        assert_eq!(exported(&[1, columns as u8, 0, 0]), Ok(vec![]));
+    }
+}
+
+#[test]
+fn lines_end_in_lf_or_crlf() {
+    let two = single(2, &[&[Some(1), Some(2)], &[Some(3), None]]);
+    let accepted = ["1,2\n3,\n", "1,2\n3,", "1,2\r\n3,\r\n", "1,2\r\n3,", "1,2\n3,\r\n", "1,2\r\n3,\n"];
+    accepted.iter().for_each(|lines| assert_eq!(imported(lines.as_bytes(), 2), two, "{lines:?}"));
+    // a CR by itself, twice, before or within a line, or at the end of the file
+    let returns =
+        ["1,2\r3,\n", "1,2\r\r\n", "\r1,2\n", "1\r,2\n", "1,\r2\n", "1,2\r", "1,2\n\r", "1,\r", "1,2\n\r3,4", "1,2\n\r\n", "\r", "\r\r"];
+    returns.iter().for_each(|lines| assert_eq!(imported(lines.as_bytes(), 2), Err(14), "{lines:?}"));
+    ["\r", "1\r", "\r\r\n", "1\n\r", "\n\r", "\r\n\r", "1\r1"].iter().for_each(|lines| {
+        assert_eq!(imported(lines.as_bytes(), 1), Err(14), "{lines:?}");
+    });
+    // LF and then CR is an LF with a line after it
+    assert_eq!(imported(b"1\n\r\n", 1), single(1, &[&[Some(1)], &[None]]));
+}
+
+#[test]
+fn no_line_begins_after_the_last_line_end() {
+    assert_eq!(imported(b"1\n", 1), single(1, &[&[Some(1)]]));
+    assert_eq!(imported(b"1\r\n", 1), single(1, &[&[Some(1)]]));
+    assert_eq!(imported(b"1\n\n", 1), single(1, &[&[Some(1)], &[None]]));
+    // an empty line is one empty field
+    ["\n", "\r\n"].iter().for_each(|lines| {
+        assert_eq!(imported(lines.as_bytes(), 1), single(1, &[&[None]]), "{lines:?}");
+        assert_eq!(imported(lines.repeat(2).as_bytes(), 1), single(1, &[&[None], &[None]]), "{lines:?}");
+        (2..=16).for_each(|columns| assert_eq!(imported(lines.as_bytes(), columns), Err(14), "{lines:?}"));
+    });
+    assert_eq!(imported(b"\n1\n", 1), single(1, &[&[None], &[Some(1)]]));
+    assert_eq!(imported(b"\r\n\n1", 1), single(1, &[&[None], &[None], &[Some(1)]]));
+    assert_eq!(imported(b"1,2\n\n", 2), Err(14));
+    assert_eq!(imported(b"1,2\n\r\n", 2), Err(14));
+    assert_eq!(imported(b"\n1,2\n", 2), Err(14));
+}
+
+#[test]
+fn an_empty_field_is_blank() {
+    assert_eq!(imported(b",", 2), single(2, &[&[None, None]]));
+    assert_eq!(imported(b",\n,", 2), single(2, &[&[None, None], &[None, None]]));
+    assert_eq!(imported(b",1\r\n2,\r\n", 2), single(2, &[&[None, Some(1)], &[Some(2), None]]));
+    assert_eq!(imported(",".repeat(15).as_bytes(), 16), single(16, &[&[None; 16]]));
+    // a blank and a 0 differ in the mark alone
+    let (blank, zero) = (imported(b",1\n", 2).unwrap(), imported(b"0,1\n", 2).unwrap());
+    assert_eq!((&blank[..12], &blank[12..], &zero[12..]), (&zero[..12], &[1, 0][..], &[0, 0][..]));
+}
+
+#[test]
+fn a_field_is_a_number_as_in_a_rule() {
+    let numbers = [
+        ("0", 0),
+        ("-0", 0),
+        ("00", 0),
+        ("-0000000000", 0),
+        ("0000000001", 1),
+        ("-0000000001", -1),
+        ("0000000100", 100),
+        ("2147483647", 2_147_483_647),
+        ("-2147483648", -2_147_483_648),
+        ("-2147483647", -2_147_483_647),
+        ("999999999", 999_999_999),
+        ("1999999999", 1_999_999_999),
+    ];
+    for (text, number) in numbers {
+        assert_eq!(imported(text.as_bytes(), 1), single(1, &[&[Some(number)]]), "{text}");
+        assert_eq!(imported(format!(",{text},{text}\r\n").as_bytes(), 3), single(3, &[&[None, Some(number), Some(number)]]), "{text}");
+        assert_eq!(judge(format!("{text} = {number}").as_bytes(), &paper_tables(), 0), Ok(T), "{text}");
+    }
+}
+
+#[test]
+fn bad_fields() {
+    let range = ["2147483648", "-2147483649", "4294967296", "4294967297", "-4294967296", "9999999999", "-9999999999"];
+    let digits = ["00000000000", "00000000001", "-00000000001", "02147483647", "10000000000", "99999999999", "18446744073709551617"];
+    let signs = ["-", "--1", "1-", "1-1", "-,", "+1", "+", "\u{2212}1", "- 1"];
+    let others =
+        [" ", " 1", "1 ", "1\t", "\t", "1.0", "1e3", "0x1", "a", "NULL", "\"1\"", "\"\"", "\"", "1;1", "'1'", "1_0", "\0", "\u{FEFF}1"];
+    for text in [&range[..], &digits, &signs, &others].concat() {
+        for lines in [text.to_string(), format!("{text}\n"), format!("1\n{text}\r\n1\n"), format!("\n{text}")] {
+            assert_eq!(imported(lines.as_bytes(), 1), Err(14), "{lines:?}");
+        }
+        for lines in [format!("{text},1"), format!("1,{text}"), format!("1,1\n1,{text}\n")] {
+            assert_eq!(imported(lines.as_bytes(), 2), Err(14), "{lines:?}");
+        }
+    }
+    assert_eq!(imported("1".repeat(100_000).as_bytes(), 1), Err(14));
+    assert_eq!(imported("0".repeat(100_000).as_bytes(), 1), Err(14));
+}
+
+#[test]
+fn each_byte_as_a_field_and_between_fields() {
+    for byte in 0..=255_u8 {
+        let alone = match byte {
+            b'0'..=b'9' => single(1, &[&[Some(i32::from(byte - b'0'))]]),
+            b'\n' => single(1, &[&[None]]),
+            _ => Err(14),
+        };
+        assert_eq!(imported(&[byte], 1), alone, "{byte}");
+        let between = match byte {
+            b'0'..=b'9' => single(1, &[&[Some(104 + 10 * i32::from(byte - b'0'))]]),
+            b'\n' => single(1, &[&[Some(1)], &[Some(4)]]),
+            _ => Err(14),
+        };
+        assert_eq!(imported(&[b'1', byte, b'4'], 1), between, "{byte}");
+        let two = if byte == b',' { single(2, &[&[Some(1), Some(4)]]) } else { Err(14) };
+        assert_eq!(imported(&[b'1', byte, b'4'], 2), two, "{byte}");
+    }
+}
+
+#[test]
+fn every_line_has_a_field_for_each_column() {
+    for columns in 1..=16 {
+        let line = |fields: usize| vec!["1"; fields].join(",");
+        let row = vec![Some(1); columns];
+        assert_eq!(imported(line(columns).as_bytes(), columns), single(columns, &[&row]));
+        for wrong in (1..=20).filter(|&fields| fields != columns) {
+            for end in ["", "\n", "\r\n"] {
+                assert_eq!(imported(format!("{}{end}", line(wrong)).as_bytes(), columns), Err(14));
+                assert_eq!(imported(format!("{}\n{}{end}", line(columns), line(wrong)).as_bytes(), columns), Err(14));
+                assert_eq!(imported(format!("{}{end}\n{}", line(wrong), line(columns)).as_bytes(), columns), Err(14));
+            }
+        }
+        // a comma after the last field begins one more
+        assert_eq!(imported(format!("{},", line(columns)).as_bytes(), columns), Err(14));
+        assert_eq!(imported(",".repeat(columns).as_bytes(), columns), Err(14));
+    }
+    // two lines that have the right number of fields together
+    assert_eq!(imported(b"1\n2,3,4\n", 2), Err(14));
+    assert_eq!(imported(b"1,2,3\n4\n", 2), Err(14));
+}
+
+#[test]
+fn columns_are_1_to_16() {
+    let line = |columns: usize| vec!["5"; columns].join(",");
+    assert!((1..=16).all(|columns| imported(line(columns).as_bytes(), columns).is_ok()));
+    let high = [17, 18, 255, 256, 257, 258, 272, 65_537, 1 << 31, (1 << 31) + 1, usize::MAX / 2, usize::MAX - 1, usize::MAX];
+    for columns in high {
+        ["", "\n", "5", "5,5", &line(16), &line(17), &"5\n".repeat(1_001)].iter().for_each(|lines| {
+            assert_eq!(imported(lines.as_bytes(), columns), Err(14), "{columns}");
+        });
+    }
+    ["", "\n", "5", ",", "?"].iter().for_each(|lines| assert_eq!(imported(lines.as_bytes(), 0), Err(14), "{lines:?}"));
+}
+
+#[test]
+fn rows_and_cells_at_their_limits() {
+    let file = |columns: usize, rows: usize, end: &str| (vec!["-2147483648"; columns].join(",") + end).repeat(rows);
+    let most_rows = |columns: usize| (8_192 / columns).min(1_000);
+    for columns in 1..=16 {
+        let most = most_rows(columns);
+        for end in ["\n", "\r\n"] {
+            let row = vec![Some(i32::MIN); columns];
+            let answer = imported(file(columns, most, end).as_bytes(), columns);
+            assert_eq!(answer, single(columns, &vec![&row[..]; most]), "{columns}");
+            assert_eq!(answer, imported(file(columns, most, end).trim_end().as_bytes(), columns), "{columns}");
+            [most + 1, 2 * most, 9_000].iter().for_each(|&rows| {
+                assert_eq!(imported(file(columns, rows, end).as_bytes(), columns), Err(15), "{columns}");
+                assert_eq!(imported(file(columns, rows, end).trim_end().as_bytes(), columns), Err(15), "{columns}");
+            });
+        }
+    }
+    assert_eq!([1, 8, 9, 15, 16].map(most_rows), [1_000, 1_000, 910, 546, 512]);
+    // empty lines are rows
+    assert_eq!(imported("\n".repeat(1_000).as_bytes(), 1).map(|bytes| bytes.len()), Ok(5_004));
+    assert_eq!(imported("\n".repeat(1_001).as_bytes(), 1), Err(15));
+    // counts in 16 bits would be small again here
+    [65_536, 65_537, 131_072, 1_000_000].iter().for_each(|&rows| {
+        assert_eq!(imported("\n".repeat(rows).as_bytes(), 1), Err(15), "{rows}");
+        assert_eq!(imported(format!("{}\n", ",".repeat(15)).repeat(rows / 16).as_bytes(), 16), Err(15), "{rows}");
+    });
+}
+
+#[test]
+fn fields_then_rows_then_the_buffer() {
+    let long = "1,2\n".repeat(5_000);
+    // a bad field or count behind too many rows and cells
+    ["?", "1", "1,2,3", "1,2\r\r", "1,2147483648\n", "\n", "1,00000000001", "-,1"].iter().for_each(|bad| {
+        assert_eq!(import(format!("{long}{bad}").as_bytes(), 2, &mut []), Err(14), "{bad:?}");
+        assert_eq!(import(format!("{bad}\n{long}").as_bytes(), 2, &mut []), Err(14), "{bad:?}");
+    });
+    assert_eq!(import(long.as_bytes(), 17, &mut []), Err(14));
+    assert_eq!(import(long.as_bytes(), 0, &mut []), Err(14));
+    assert_eq!(import(long.as_bytes(), 2, &mut []), Err(15));
+    assert_eq!(import(long.as_bytes(), 2, &mut vec![7; 100_000]), Err(15));
+    // then 12, by the length of the whole answer
+    assert_eq!(import(b"1,2\n", 2, &mut []), Err(12));
+    assert_eq!(import(b"1,2\n", 2, &mut [0; 13]), Err(12));
+    assert_eq!(import(b"1,2\n", 2, &mut [0; 14]), Ok(14));
+    assert_eq!((import(b"", 16, &mut [0; 3]), import(b"", 16, &mut [0; 4])), (Err(12), Ok(4)));
+    let full = (",".repeat(15) + "\n").repeat(512);
+    assert_eq!(import(full.as_bytes(), 16, &mut vec![0; 40_963]), Err(12));
+    assert_eq!(import(full.as_bytes(), 16, &mut vec![0; 40_964]), Ok(40_964));
+}
+
+#[test]
+fn the_lent_buffers_of_comma_files() {
+    let mut buffer = [9; 16];
+    [(&b"1,2\n1"[..], 2, 14), (b"1,2\n1,", 2, 12), (b"1\n2\n3", 1, 12), (b"", 17, 14)].iter().for_each(|&(lines, columns, number)| {
+        assert_eq!((import(lines, columns, &mut buffer), buffer), (Err(number), [9; 16]));
+    });
+    assert_eq!((import("\n".repeat(1_001).as_bytes(), 1, &mut buffer), buffer), (Err(15), [9; 16]));
+    assert_eq!(import(b"1,", 2, &mut buffer), Ok(14));
+    assert_eq!(buffer, [1, 2, 1, 0, 1, 0, 0, 0, 0, 0, 0, 0, 0, 1, 9, 9]);
+    let mut lines = [9; 10];
+    assert_eq!((export(&[0], &mut lines), lines), (Err(1), [9; 10]));
+    assert_eq!((export(&[1, 1, 1, 0, 0, 0, 0, 0, 2], &mut lines), lines), (Err(2), [9; 10]));
+    assert_eq!((export(&paper_tables(), &mut lines), lines), (Err(12), [9; 10]));
+    assert_eq!((export(&buffer[..14], &mut lines), &lines), (Ok(3), b"1,\n\x09\x09\x09\x09\x09\x09\x09"));
+}
+
+#[test]
+fn table_1_as_comma_lines() {
+    assert_eq!(exported(&paper_tables()), Ok(b"1,5\n2,\n3,0\n".to_vec()));
+    let ends = vec![vec![Some(i32::MIN), Some(i32::MAX), Some(0)], vec![Some(-1), None, Some(10)], vec![None, Some(-1_000), Some(100)]];
+    assert_eq!(exported(&tables_file(&[(3, ends)])), Ok(b"-2147483648,2147483647,0\n-1,,10\n,-1000,100\n".to_vec()));
+    assert_eq!(exported(&tables_file(&[(1, vec![vec![None], vec![Some(7)], vec![None]])])), Ok(b"\n7\n\n".to_vec()));
+    assert_eq!(exported(&tables_file(&[(4, vec![vec![None; 4]])])), Ok(b",,,\n".to_vec()));
+    // what lies under a blank is not seen
+    let blank = (1, vec![vec![None]]);
+    [0, 1, -1, i32::MIN, i32::MAX].iter().for_each(|&under| {
+        assert_eq!(exported(&tables_file_with(std::slice::from_ref(&blank), under)), Ok(b"\n".to_vec()), "{under}");
+    });
+    // the cells of table 1 among those of others
+    let tables = [(2, vec![vec![Some(1), None]]), (1, vec![vec![Some(8)], vec![None]]), (3, vec![vec![None, Some(9), Some(9)]])];
+    assert_eq!(exported(&tables_file(&tables)), Ok(b"1,\n".to_vec()));
+    let empty_first = [(2, vec![]), (1, vec![vec![Some(8)]])];
+    assert_eq!(exported(&tables_file(&empty_first)), Ok(vec![]));
+    // the longest there is
+    let longest = tables_file(&[(16, vec![vec![Some(i32::MIN); 16]; 512])]);
+    assert_eq!(exported(&longest).map(|lines| lines.len()), Ok(8_192 * 12));
+}
+
+#[test]
+fn numbers_without_spare_zeros() {
+    let powers = (0..31).map(|power| 1 << power).chain((0..10).map(|power| 10_i32.pow(power)));
+    let near = powers.flat_map(|number| [number - 1, number, number + 1]);
+    let numbers: Vec<i32> = near.flat_map(|number| [number, -number]).chain([i32::MIN, i32::MIN + 1, i32::MAX - 1, i32::MAX]).collect();
+    let rows = numbers.iter().map(|&number| vec![Some(number)]).collect();
+    let lines: String = numbers.iter().map(|number| format!("{number}\n")).collect();
+    let file = tables_file(&[(1, rows)]);
+    assert_eq!(exported(&file), Ok(lines.clone().into_bytes()));
+    assert_eq!(imported(lines.as_bytes(), 1), Ok(file));
+    // zeros and minuses that lines may have, and that none gets
+    let spare = imported(b"-0,007\r\n0000000000,-0070", 2).unwrap();
+    assert_eq!(exported(&spare), Ok(b"0,7\n0,-70\n".to_vec()));
+}
+
+#[test]
+fn refusals_of_writing_lines() {
+    let file = paper_tables();
+    assert_eq!(exported(&[]), Err(1));
+    assert_eq!(exported(&[0]), Err(1));
+    assert_eq!(exported(&[1, 17, 0, 0]), Err(1));
+    assert_eq!(exported(&[1, 1, 1, 0, 0, 0, 0, 0, 2]), Err(2));
+    (0..file.len()).for_each(|length| assert_eq!(exported(&file[..length]), Err(1), "{length}"));
+    // the last mark is that of table 2, and a byte too many comes before it
+    let mut spoilt = file.clone();
+    *spoilt.last_mut().unwrap() = 2;
+    assert_eq!(exported(&spoilt), Err(2));
+    spoilt.push(0);
+    assert_eq!(exported(&spoilt), Err(1));
+    assert_eq!((export(&file, &mut [0; 10]), export(&file, &mut [0; 11])), (Err(12), Ok(11)));
+    assert_eq!(export(&[1, 1, 0, 0], &mut []), Ok(0));
+    assert_eq!(export(&[1, 1, 1, 0, 0, 0, 0, 0, 1], &mut []), Err(12));
+}
+
+#[test]
+fn every_short_text_as_comma_lines() {
+    let letters = *b"10-,\n\r ";
+    for length in 0..=6 {
+        for number in 0..letters.len().pow(length) {
+            let text: Vec<u8> = (0..length).map(|place| letters[number / letters.len().pow(place) % letters.len()]).collect();
+            let text = String::from_utf8(text).unwrap();
+            (1..=3).for_each(|columns| assert_eq!(imported(text.as_bytes(), columns), split_import(&text, columns), "{text:?}, {columns}"));
+        }
+    }
+}
+
+#[test]
+fn any_comma_lines_give_an_answer() {
+    let mut dice = Dice(0x94D0_49BB_1331_11EB);
+    let fields = ["", "0", "-0", "1", "-1", "0012", "2147483647", "-2147483648", "999999999"];
+    let bad = ["2147483648", "-2147483649", "00000000001", "-", "1 ", "\r", "\"1\"", "1,2"];
+    let (mut accepted, mut refused) = (0, 0);
+    for _ in 0..20_000 {
+        let columns = 1 + dice.below(4) as usize;
+        let spoilt = dice.below(2) == 0;
+        let mut text = String::new();
+        let rows = dice.below(6);
+        for row in 0..rows {
+            let mut line: Vec<&str> = (0..columns).map(|_| dice.pick(&fields)).collect();
+            if spoilt && dice.below(4) == 0 {
+                let at = dice.below(columns as u64) as usize;
+                line[at] = dice.pick(&bad);
+            }
+            let last = row + 1 == rows && dice.below(2) == 0;
+            text += &line.join(",");
+            text += if last { "" } else { dice.pick(&["\n", "\r\n"]) };
+        }
+        let answer = imported(text.as_bytes(), columns);
+        assert_eq!(answer, split_import(&text, columns), "{text:?}");
+        *(if answer.is_ok() { &mut accepted } else { &mut refused }) += 1;
+        assert_eq!(imported(text.as_bytes(), 17 + dice.below(1 << 50) as usize), Err(14));
+        let mut bytes = text.into_bytes();
+        (0..bytes.len().min(3)).for_each(|at| bytes[at] = dice.below(256) as u8);
+        let _ = imported(&bytes, columns);
+    }
+    assert!(accepted > 8_000 && refused > 2_000, "{accepted} accepted, {refused} refused");
+}
+
+#[test]
+fn writing_and_importing_again() {
+    let mut dice = Dice(0xBF58_476D_1CE4_E5B9);
+    let cell = |dice: &mut Dice| match dice.below(4) {
+        0 => None,
+        1 => Some(dice.below(20) as i32 - 10),
+        2 => Some(dice.below(1 << 32) as u32 as i32),
+        _ => Some((dice.below(1 << 32) as u32 as i32) >> dice.below(32)),
+    };
+    for turn in 0..600 {
+        let columns = 1 + dice.below(16) as usize;
+        let most = (8_192 / columns).min(1_000);
+        let rows = if turn % 40 == 0 { most } else { dice.below(30) as usize };
+        let first: Vec<Vec<_>> = (0..rows).map(|_| (0..columns).map(|_| cell(&mut dice)).collect()).collect();
+        let mut tables = vec![(columns as u8, first)];
+        if rows < most {
+            (0..dice.below(3)).for_each(|_| tables.push(dice.table()));
+        }
+        let file = tables_file_with(&tables, dice.below(1 << 32) as u32 as i32);
+        let lines = exported(&file).unwrap();
+        let written =
+            |row: &Vec<Option<i32>>| row.iter().map(|cell| cell.map_or(String::new(), |number| number.to_string())).collect::<Vec<_>>();
+        let expected: String = tables[0].1.iter().map(|row| written(row).join(",") + "\n").collect();
+        assert_eq!(lines, expected.as_bytes());
+        // the same cells and marks, with 0 under each blank; then nothing changes any more
+        let again = imported(&lines, columns);
+        assert_eq!(again, Ok(tables_file_with(&tables[..1], 0)));
+        let again = again.unwrap();
+        assert_eq!(exported(&again), Ok(lines.clone()));
+        // CRLF instead, and no end of the last line unless it is empty
+        let others = expected.replace('\n', "\r\n");
+        assert_eq!(imported(others.as_bytes(), columns), Ok(again.clone()));
+        let open = if expected.ends_with("\n\n") || expected == "\n" { &expected[..] } else { expected.trim_end_matches('\n') };
+        assert_eq!(imported(open.as_bytes(), columns), Ok(again));
+    }
+}
+
+#[test]
+fn rules_on_an_imported_table() {
+    // the tables of the proved cases, table 1 alone
+    let file = imported(b"1,5\r\n2,\r\n3,0", 2).unwrap();
+    let truths = [("m.2 > 0", [T, U, F]), ("NOT m.2 > 0", [F, U, T]), ("m.2 IS NULL", [F, T, F]), ("(m.2 = 0) IS UNKNOWN", [F, T, F])];
+    for (text, truths) in truths {
+        (0..3).for_each(|row| assert_eq!(judge(text.as_bytes(), &file, row), Ok(truths[row]), "{text}, row {row}"));
+        assert_eq!(judge(text.as_bytes(), &file, 3), Err(11));
     }
 }

@@ -1,32 +1,38 @@
-"""Cases of the six calls, with the model's answers: random draws, and targeted cases at the limits of document 01.
+"""Cases of the eight calls, with the model's answers: random draws, and targeted cases at the limits of documents 01 and 02.
 
-The truth tests of document 02's Point 1 are among them.
+The truth tests of document 02's Point 1 and the comma lines of its Point 2 are among them.
 """
+import functools
 import itertools
 from dataclasses import dataclass
 
 import generate
 import model
 
-CALLS = ("READ", "JUDGE", "CARD", "CHECK", "RUN", "LIST")
+CALLS = ("READ", "JUDGE", "CARD", "CHECK", "RUN", "LIST", "IMPORT", "EXPORT")
 READING_CALLS = ("READ", "JUDGE", "CARD")
-LENDING_CALLS = ("READ", "CARD", "LIST")
+COMMA_CALLS = ("IMPORT", "EXPORT")
+LENDING_CALLS = ("READ", "CARD", "LIST") + COMMA_CALLS
 AMPLE_ROOM = 10000
+# More than the longest answer of IMPORT and EXPORT: 8,192 cells take up to 12 bytes each
+AMPLE_COMMA_ROOM = 100000
 UNTOUCHED_PART = model.Part(77, 66, 55, 44, model.TaggedValue(33, -5), model.TaggedValue(22, 11))
 UNTOUCHED_NUMBER = 99
 
 
 @dataclass(frozen=True)
 class Case:
-    """One call. `source` is the text of READ, JUDGE and CARD, and the card of CHECK, RUN and LIST.
+    """One call. `source` is the text of READ, JUDGE and CARD, the card of CHECK, RUN and LIST, and the comma lines of IMPORT.
 
-    JUDGE and RUN have a row; READ, CARD and LIST have a lent buffer, as it is before the call.
+    JUDGE and RUN have a row; READ, CARD, LIST, IMPORT and EXPORT have a lent buffer, as it is before the call. IMPORT has
+    columns, and no file; EXPORT has a file, and an empty source.
     """
     call: str
     source: bytes
     file: bytes = b""
     row: int = 0
     buffer: tuple = ()
+    columns: int = 0
 
 
 @dataclass(frozen=True)
@@ -49,6 +55,10 @@ def answer_of(case):
         return model.check(case.source)
     if case.call == "RUN":
         return model.run(case.source, case.file, case.row)
+    if case.call == "IMPORT":
+        return model.import_lines(case.source, case.columns, room)
+    if case.call == "EXPORT":
+        return model.export_lines(case.file, room)
     return model.list_rows(case.source, case.file, room)
 
 
@@ -95,25 +105,37 @@ def parts_from(numbers):
 
 # ---- building cases
 
+@functools.lru_cache(maxsize=64)
 def lent(call, room):
-    """A buffer of a call, with content that no answer has."""
+    """A buffer of a call, with content that no answer has. The ample ones are asked for again and again, and take long to make."""
     return (UNTOUCHED_PART if call == "READ" else UNTOUCHED_NUMBER,) * room
 
 
-def answer_length(call, source, file):
+def answer_length(call, source, file, columns=0):
     """The elements that a lending call's answer has; 0 for a refusal."""
-    answer = answer_of(Case(call, source, file, buffer=lent(call, AMPLE_ROOM)))
+    ample = AMPLE_COMMA_ROOM if call in COMMA_CALLS else AMPLE_ROOM
+    answer = answer_of(Case(call, source, file, buffer=lent(call, ample), columns=columns))
     return 0 if isinstance(answer, model.Refused) else len(answer)
 
 
-def fitting(call, source, file, more=0):
+def fitting(call, source, file, more=0, columns=0):
     """A case of a lending call whose buffer has as many elements as the answer, and `more` (or fewer, below 0).
 
     A refusal and an empty answer get a buffer too, which has to stay as it is.
     """
-    length = answer_length(call, source, file)
+    length = answer_length(call, source, file, columns)
     room = max(0, length + more) if length > 0 else 2
-    return Case(call, source, file, buffer=lent(call, room))
+    return Case(call, source, file, buffer=lent(call, room), columns=columns)
+
+
+def importing(lines, columns, more=0):
+    """The fitting case of IMPORT."""
+    return fitting("IMPORT", lines, b"", more, columns)
+
+
+def exporting(file, more=0):
+    """The fitting case of EXPORT."""
+    return fitting("EXPORT", b"", file, more)
 
 
 def row_count(file):
@@ -135,11 +157,11 @@ def drawn_text(random, call, columns):
     return generate.damaged_text(random, columns)
 
 
-def drawn_room(random, call, source, file):
+def drawn_room(random, call, source, file, columns=0):
     """The change to the fitting number of elements."""
     if random.random() < .88:
         return random.choice([0, 0, 1, 3])
-    return -random.randint(1, max(1, answer_length(call, source, file)))
+    return -random.randint(1, max(1, answer_length(call, source, file, columns)))
 
 
 def drawn_row(random, file, inside, beyond):
@@ -201,8 +223,53 @@ def drawn_running(random, call):
     return fitting(call, sheet, file, drawn_room(random, call, sheet, file))
 
 
+def drawn_lines(random):
+    """Comma lines and a number of columns: right ones, damaged ones, any bytes, and now and then many lines."""
+    columns = generate.column_count(random)
+    draw = random.random()
+    if draw < .01:
+        return drawn_many_lines(random, columns)
+    if draw < .12:
+        return generate.random_line_bytes(random), random.choice([1, 1, 2, 2, 3])
+    lines = generate.comma_lines(random, generate.drawn_rows(random, columns))
+    if draw < .5:
+        lines = generate.damaged_lines(random, lines)
+    return lines, generate.other_columns(random, columns) if random.random() < .08 else columns
+
+
+def drawn_many_lines(random, columns):
+    """Comma lines around 1,000 rows or 8,192 cells, mostly blank, sometimes damaged, and a number of columns."""
+    most = min(model.MOST_ROWS, model.MOST_CELLS // columns)
+    lines = [b"," * (columns - 1) + random.choice([b"\n", b"\r\n"]) for _ in range(most + random.choice([-1, 0, 1, 1, 24]))]
+    place = random.randrange(len(lines))
+    lines[place] = generate.spelled(random, generate.field_number(random)) + lines[place]
+    text = b"".join(lines)
+    return generate.damaged_lines(random, text) if random.random() < .2 else text, columns
+
+
+def drawn_import(random):
+    """A case of IMPORT."""
+    lines, columns = drawn_lines(random)
+    return importing(lines, columns, drawn_room(random, "IMPORT", lines, b"", columns))
+
+
+def drawn_export(random):
+    """A case of EXPORT: any tables, or a single one whose cells are those of drawn comma lines."""
+    file = generate.random_tables(random)
+    if random.random() < .4:
+        columns = generate.column_count(random)
+        file = generate.tables_file([(columns, generate.drawn_rows(random, columns))])
+    if random.random() < .15:
+        file = generate.damaged_tables(random, file)
+    return exporting(file, drawn_room(random, "EXPORT", b"", file))
+
+
 def drawn(random, call):
     """A random case of a call."""
+    if call == "IMPORT":
+        return drawn_import(random)
+    if call == "EXPORT":
+        return drawn_export(random)
     if call == "CHECK":
         return drawn_check(random)
     return drawn_reading(random, call) if call in READING_CALLS else drawn_running(random, call)
@@ -587,6 +654,143 @@ def columns_cases():
     return cases
 
 
+# ---- targeted cases: comma lines
+
+LONGEST_FIELD = b"-2147483648"
+# Comma lines with the number of columns
+TRAP_LINES = (
+    # lines and line ends
+    (b"", 1), (b"", 2), (b"", 16), (b"\n", 1), (b"\r\n", 1), (b"\n", 2), (b"\r\n", 2), (b"\n\n", 1), (b"\n\r\n", 1),
+    (b"\r\n\n", 1), (b"1", 1), (b"1\n", 1), (b"1\r\n", 1), (b"1\n\n", 1), (b"\n1", 1), (b"\n1\n", 1), (b"1\r\n\r\n", 1),
+    (b"1\n2", 1), (b"1\r\n2\n3", 1), (b"1,2\n3,4", 2), (b"1,2\r\n3,4\r\n", 2), (b"1,2\n3,4\r\n5,6", 2), (b"1,2\n\n", 2),
+    (b"\n1,2\n", 2), (b"1,2\n\n3,4\n", 2),
+    # CR elsewhere
+    (b"\r", 1), (b"1\r", 1), (b"\r1", 1), (b"1\r2", 1), (b"1\r2\n", 1), (b"1\r\r\n", 1), (b"\r\r\n", 1), (b"1\n\r", 1),
+    (b"1\n\r\n", 1), (b"1\r\n\r", 1), (b"1,\r", 2), (b"1,\r\n", 2), (b"1,2\r", 2), (b"\r,1\n", 2), (b"1\r,2\n", 2),
+    (b"1,\r2\n", 2), (b",\r\r\n", 2), (b"1\n\r2\n", 1), (b"\n\r", 1),
+    # blanks and field counts
+    (b",", 2), (b",\n", 2), (b",,\n", 3), (b",", 1), (b",", 3), (b"1,", 2), (b",1", 2), (b"1,", 1), (b",1", 1), (b"1,\n", 1),
+    (b"1,2", 1), (b"1,2", 3), (b"1,2,3", 2), (b"1,2\n3\n", 2), (b"1,2\n3,4,5\n", 2), (b"1\n2,3\n", 2), (b"1\n2\n", 2),
+    (b"1,2,3,4", 2), (b",\n,", 2), (b",\n,\n\n", 2), (b"," * 15, 16), (b"," * 14, 16), (b"," * 16, 16), (b"," * 16, 17),
+    (b"," * 255, 256), (b"1" + b",1" * 15 + b"\n", 16),
+    # numbers
+    (b"0", 1), (b"-0", 1), (b"00", 1), (b"-00", 1), (b"0000000000", 1), (b"-0000000000", 1), (b"00000000000", 1),
+    (b"-00000000000", 1), (b"0000000001", 1), (b"00000000001", 1), (b"-0000000001", 1), (b"-00000000001", 1), (b"007", 1),
+    (b"-007,7", 2), (b"2147483647", 1), (b"2147483648", 1), (b"-2147483648", 1), (b"-2147483649", 1), (b"02147483647", 1),
+    (b"-02147483648", 1), (b"4294967295", 1), (b"4294967296", 1), (b"4294967297", 1), (b"-4294967295", 1), (b"9999999999", 1),
+    (b"-9999999999", 1), (b"12345678901", 1), (b"18446744073709551616", 1), (b"18446744073709551617", 1), (b"9" * 400, 1),
+    (b"0" * 400, 1), (b"-" + b"0" * 400, 1), (b"-", 1), (b"--1", 1), (b"1-", 1), (b"-,1", 2), (b"1,-\n", 2), (b"-\n1", 1),
+    (b"-\r\n", 1), (b"1-2", 1), (b"- 1", 1), (b"255,256,65536,-256", 4),
+    # the ends of the digits, and what other readers of numbers and of comma lines take
+    (b"/", 1), (b":", 1), (b"1/", 1), (b"1:", 1), (b"+1", 1), (b"+", 1), (b" ", 1), (b" 1", 1), (b"1 ", 1), (b"1, 2", 2),
+    (b"1 ,2", 2), (b"1\n \n", 1), (b"1\t", 1), (b"1;2", 2), (b"1\t2", 2), (b"1.0", 1), (b"1e1", 1), (b"1_0", 1), (b"0x1", 1),
+    (b"a", 1), (b"NULL", 1), (b"1\x00", 1), (b"\x00", 1), (b"\xff", 1), (b"1\x0b2", 1), (b"1\x0c", 1), (b"1\x1c2", 1),
+    (b"1\x852", 1), (b"\xef\xbb\xbf1", 1), (b"\xc2\xb2", 1), (b"\xd9\xa1", 1), (b"\xb1", 1), (b"\xb0", 1), (b"\x8a", 1),
+    (b"\x8d\n", 1), (b"1\xac2", 2), (b'"1"', 1), (b'""', 1), (b'"1,2"', 1), (b'"1\n2"', 1), (b'"1",2\n', 2), (b"#1\n", 1),
+    (b"1\n\x1a", 1), (b"a,b\n1,2\n", 2),
+)
+WRONG_COLUMNS = (0, 17, 18, 255, 256, 257, 272, 65535, 65536, 65537, 2**32 - 1, 2**32, 2**32 + 1, 2**63, 2**64 - 1)
+
+
+def trap_line_cases():
+    """Comma lines that a reader easily takes wrongly, and where they are right, with a byte less and a byte more of room."""
+    cases = []
+    for lines, columns in TRAP_LINES:
+        case = importing(lines, columns)
+        cases.append(case)
+        if outcome(case) == "given":
+            cases += [importing(lines, columns, more) for more in (-1, 1)]
+    return cases
+
+
+def column_limit_cases():
+    """Columns around 1 and 16 and far over, with no lines, with an empty line, and with as many fields as the columns, and with 1, 16 and 17."""
+    cases = []
+    for columns in (1, 2, 15, 16) + WRONG_COLUMNS:
+        texts = [b"", b"\n", b"1", b"," * 15 + b"\n", b"," * 16]
+        if columns <= 300:
+            texts.append(b"," * (columns - 1) + b"7\n")
+        cases += [importing(text, columns) for text in texts]
+        cases += [Case("IMPORT", text, buffer=lent("IMPORT", room), columns=columns) for text in (b"", b"\n") for room in (0, 3, 4)]
+    return cases
+
+
+def row_limit_cases():
+    """Comma lines around 1,000 rows and 8,192 cells. Where they are right, the room is just enough or a byte short."""
+    cases = []
+    for columns, rows in ((1, 1000), (2, 1000), (8, 1000), (9, 910), (11, 744), (16, 512)):
+        line = b"," * (columns - 1)
+        cases += [importing((line + b"\n") * rows, columns, more) for more in (-1, 0)]
+        cases += [importing((line + b"\r\n") * (rows + 1), columns), importing((line + b"\n") * rows + line + b"1", columns)]
+    full = b",".join([LONGEST_FIELD] * 16) + b"\r\n"
+    cases += [importing(full * 512, 16), importing(full * 513, 16), importing(b"-0\n" * 1000 + b"1", 1), importing(b"1\n" * 999 + b"2", 1)]
+    # counts of rows and cells of which 8 and 16 bits leave little or nothing
+    cases += [importing(b"\n" * rows, 1) for rows in (255, 256, 257, 1024, 65535, 65536, 65537)]
+    cases += [importing((b"," * 15 + b"\n") * rows, 16) for rows in (4096, 4097)]
+    return cases
+
+
+def comma_order_cases():
+    """One or more of 14, 15 and 12 at once: 14 by each of its reasons and at either end of the lines, and no room, a byte too few, or enough."""
+    cases = []
+    for columns, rows in ((1, 3), (1, 1001), (16, 513)):
+        line = b"," * (columns - 1) + b"\n"
+        texts = [(line * rows, columns)]
+        for bad in (b"x" + line, b"2147483648" + line, b"," + line, b"\r" + line[:-1] + b"1\n"):
+            texts += [(bad + line * rows, columns), (line * rows + bad, columns), (line * rows + bad[:-1], columns)]
+        texts += [(line * rows, other) for other in (0, 3, 17, 2**32 + columns)]
+        enough = 4 + 5 * columns * rows
+        for (text, named), room in itertools.product(texts, (0, enough - 1, enough) if columns == 1 else (0, enough)):
+            cases.append(Case("IMPORT", text, buffer=lent("IMPORT", room), columns=named))
+    return cases
+
+
+EXPORTED_TABLES = (
+    [(1, [])],
+    [(16, [])],
+    [(1, [[None]])],
+    [(1, [[0]])],
+    [(1, [[None], [None], [7]])],
+    [(2, [[None, None]])],
+    [(3, [[None, 1, None], [1, None, 1]])],
+    # table 1 among others
+    [(2, [[1, 5], [2, None], [3, 0]]), (1, [[1], [None]]), (1, [])],
+    [(1, []), (2, [[1, 2]])],
+    [(2, [[1, 2]])] + [(1, [[9]])] * 7,
+    # numbers of each length, and the ends of the range
+    [(1, [[number] for number in (9, 10, 99, 100, -1, -9, -10, 10**9 - 1, 10**9, -10**9 + 1, -10**9)])],
+    [(4, [[255, 256, 65535, 65536], [2**24, -256, -65536, -2**24]])],
+    [(1, [[-2**31 + 1], [2**31 - 2]])],
+    [(16, [[-2**31] * 16, [2**31 - 1] * 16, [None] * 16])],
+)
+
+
+def export_cases():
+    """Small tables, one cell with each sort of mark and several values under it, and large tables."""
+    cases = []
+    for tables in EXPORTED_TABLES:
+        cases += [exporting(generate.tables_file(tables), more) for more in (-1, 0, 1)]
+    for value in (0, 1, -1, -2**31, 2**31 - 1, 0x0A0D2C31):
+        file = bytes([1, 1, 1, 0]) + value.to_bytes(4, "little", signed=True)
+        cases += [Case("EXPORT", b"", file + bytes([mark]), buffer=lent("EXPORT", room)) for mark in (0, 1, 2, 255) for room in (0, 1, 12)]
+    full = generate.tables_file([(16, [[-2**31] * 16] * 512)])
+    cases += [exporting(full, more) for more in (-1, 0)]
+    cases.append(exporting(zero_tables([(1, 1000)])))
+    cases += [exporting(numbered_tables(sizes)) for sizes in ([(8, 1000), (16, 12)], [(1, 1), (1, 1000), (16, 449)])]
+    return cases
+
+
+def export_refusal_cases():
+    """Sizes, lengths and marks that are wrong, in table 1 and in the last table."""
+    heads = (b"", b"\0", b"\1", b"\1\1\0", b"\1\1\0\0", b"\1\0\0\0", b"\1\x11\0\0", b"\1\1\1\0", b"\x09" + b"\1\0\0" * 9)
+    cases = [exporting(file) for file in heads]
+    for sizes in ([(1, 1)], [(2, 1), (1, 0), (1, 2)], [(1, 0), (3, 1)], [(1, 1)] * 8):
+        for more in (-1, 0, 1):
+            cases += [exporting(numbered_tables(sizes, place, more)) for place in (None, 0, -1)]
+    cases += [exporting(zero_tables(sizes)) for sizes in ([(1, 1001)], [(16, 513)], [(1, 1), (16, 512)], [(1, 0), (17, 1)], [(1, 0)] * 9)]
+    return cases
+
+
 # ---- targeted cases: several refusals at once
 
 def text_refused_with(refusals):
@@ -624,9 +828,20 @@ def card_refused_with(refusals):
     return sheet + b"\0" if 9 in refusals else sheet
 
 
+def import_refused_with(refusals):
+    """A case of IMPORT to which these of the refusals 14, 15 and 12 apply, the first by the last field."""
+    rows = 1001 if 15 in refusals else 2
+    lines = b"1\n" * (rows - 1) + (b"+1\n" if 14 in refusals else b"1\n")
+    return Case("IMPORT", lines, buffer=lent("IMPORT", 4 + 5 * rows - (12 in refusals)), columns=1)
+
+
 def refusal_set_case(call, refusals):
     """A case of a call to which exactly these refusals apply, as far as they can apply together."""
+    if call == "IMPORT":
+        return import_refused_with(refusals)
     file = file_refused_with(refusals)
+    if call == "EXPORT":
+        return Case(call, b"", file, buffer=lent(call, 4 - (12 in refusals)))
     source = text_refused_with(refusals) if call in READING_CALLS else card_refused_with(refusals)
     if call in ("JUDGE", "RUN"):
         return Case(call, source, file, row=2 if 11 in refusals else 1)
@@ -642,13 +857,15 @@ REFUSALS_OF = {
     "CHECK": (9,),
     "RUN": (1, 2, 9, 10, 11),
     "LIST": (1, 2, 9, 10, 12),
+    "IMPORT": (14, 15, 12),
+    "EXPORT": (1, 2, 12),
 }
 
 
 def refusal_set_cases(random):
     """For each call: no refusal, each alone, each with all that come after it, and a draw of other sets."""
     cases = []
-    for call in ("READ", "JUDGE", "CARD", "RUN", "LIST"):
+    for call in ("READ", "JUDGE", "CARD", "RUN", "LIST", "IMPORT", "EXPORT"):
         refusals = REFUSALS_OF[call]
         chosen = [()]
         chosen += [(refusal,) for refusal in refusals]
@@ -658,7 +875,13 @@ def refusal_set_cases(random):
     return cases
 
 
+def comma_cases():
+    """The targeted cases of IMPORT and EXPORT, but for the sets of refusals."""
+    return trap_line_cases() + column_limit_cases() + row_limit_cases() + comma_order_cases() + export_cases() + export_refusal_cases()
+
+
 def targeted(random):
     """All targeted cases."""
     return (trap_cases() + truth_test_cases() + truth_sum_cases() + bracket_cases() + part_limit_cases() + text_length_cases()
-            + table_limit_cases() + card_byte_cases() + card_limit_cases() + row_number_cases() + columns_cases() + refusal_set_cases(random))
+            + table_limit_cases() + card_byte_cases() + card_limit_cases() + row_number_cases() + columns_cases() + refusal_set_cases(random)
+            + comma_cases())

@@ -1,7 +1,7 @@
-"""Random rules, tables and cards, right and damaged, over the grammar and the layouts of document 01, with document 02's truth tests.
+"""Random rules, tables, cards and comma lines, right and damaged, over the grammar and the layouts of documents 01 and 02.
 
 Every function takes a random.Random first, so that a seed fixes what is drawn. Rules are drawn as lists of written tokens,
-and `spaced` makes a text of them.
+and `spaced` makes a text of them. Comma lines are drawn as rows of cells, and `comma_lines` writes them.
 """
 import model
 
@@ -17,6 +17,24 @@ NO_TOKENS = (
 TEXT_BYTES = b"ANDORTISEXULFMWK mv.12-0()<>=\n 19"
 # Sums of entries around the limit of 192, and some that eight bits would not hold
 NEAR_SUMS = (63, 127, 188, 189, 190, 191, 191, 192, 192, 192, 193, 193, 193, 194, 195, 196, 255, 257, 300, 511)
+# What no field of comma lines is
+BAD_FIELDS = (
+    # bytes that no number has
+    b" ", b"1 ", b" 1", b"\t1", b"1\t", b'"1"', b'""', b'"', b"'1'", b"1_0", b"1.0", b"1.", b"1e3", b"0x1", b"1;2", b"a", b"NULL", b"m.1",
+    b"\x00", b"1\x00", b"/", b":", b"0\x0b", b"1\x0c", b"\x1c1", b"\x85", b"\xa01", b"\xff", b"\xb9", b"\xef\xbb\xbf1", b"\xd9\xa1",
+    b"\xe2\x88\x921", b"(1)",
+    # signs
+    b"+1", b"+0", b"+", b"-", b"--1", b"-+1", b"+-1", b"1-", b"1-1", b"- 1", b"-\x00",
+    # eleven digits and more, and numbers beyond the range
+    b"00000000000", b"00000000001", b"-00000000001", b"12345678901", b"-12345678901", b"0" * 300, b"2147483648", b"-2147483649",
+    b"9999999999", b"-9999999999", b"4294967296", b"4294967297", b"-4294967295", b"02147483648", b"-02147483648", b"18446744073709551617",
+    # a CR, which belongs to a field wherever no LF follows it
+    b"\r", b"1\r", b"\r1", b"\r\r", b"-\r1", b"1\r2")
+# What no line end is, though some of them have one at their end
+BAD_LINE_ENDS = (b"\r", b"\r\r\n", b"\n\r", b"\r\n\r", b" \n", b" \r\n", b",\n", b"\x0b", b"\x0c", b"\x1e", b"\x85", b"\x00", b"\\n", b";")
+LINE_BYTES = b"0123456789-,\r\n"
+# Bytes that matter in comma lines, those of right ones more often
+LOOSE_LINE_BYTES = b"001129--,,,,\n\n\n\n\r\r" + b" \"+\t\x00.\xff"
 
 
 def chance(random, probability):
@@ -631,3 +649,117 @@ def damaged_card(random, sheet):
     else:
         return with_entry_more(random, sheet, entry_count, table_count)
     return bytes(changed)
+
+
+# ---- comma lines
+
+def spelled(random, number):
+    """A number as a field: as it is, or with spare zeros up to ten digits, and 0 also with a minus."""
+    sign = "-" if number < 0 or number == 0 and chance(random, .3) else ""
+    digits = str(abs(number))
+    if chance(random, .3):
+        digits = digits.zfill(random.choice([2, 3, 9, 10, 10]))
+    return (sign + digits).encode()
+
+
+def field_number(random):
+    """The number of a field that is not blank."""
+    draw = random.random()
+    if draw < .4:
+        return random.randint(-3, 12)
+    if draw < .7:
+        return random.choice([-2**31, 2**31 - 1, -2**31 + 1, 2**31 - 2, 0, 0, -1, 10, 100, -1000, 10**9, -10**9, 999999999])
+    return random.randint(-2**31, 2**31 - 1)
+
+
+def random_rows(random, columns, row_count):
+    """Rows of cells, numbers and None for a blank."""
+    blanks = random.choice([0, .2, .4, .6, 1])
+    return [[None if chance(random, blanks) else field_number(random) for _ in range(columns)] for _ in range(row_count)]
+
+
+def comma_lines(random, rows):
+    """The comma lines of rows. A line end is LF or CRLF, and the last line may have none, where the line is not empty."""
+    only_end = random.choice([b"\n", b"\r\n", None])
+    lines = [b",".join(b"" if cell is None else spelled(random, cell) for cell in row) for row in rows]
+    text = b"".join(line + (only_end or random.choice([b"\n", b"\r\n"])) for line in lines)
+    if lines and lines[-1] and chance(random, .4):
+        return text.removesuffix(b"\n").removesuffix(b"\r")
+    return text
+
+
+def column_count(random):
+    """A number of columns: one and many."""
+    return random.choice([1, 1, 1, 2, 2, 3, 4, 8, 15, 16])
+
+
+def drawn_rows(random, columns):
+    """A few rows of cells; more of them where there are few columns."""
+    return random_rows(random, columns, random.choice([0, 1, 1, 2, 2, 3, 4] + [7] * (columns < 4)))
+
+
+def byte_damaged_lines(random, lines):
+    """Comma lines with one byte changed, put in, left out, or swapped with the next one."""
+    changed = bytearray(lines)
+    draw = random.random()
+    put_in = random.choice(LOOSE_LINE_BYTES + LINE_BYTES) if chance(random, .8) else random.randrange(256)
+    if not changed or draw < .35:
+        changed.insert(random.randint(0, len(changed)), put_in)
+        return bytes(changed)
+    place = random.randrange(len(changed))
+    if draw < .65:
+        changed[place] = put_in
+    elif draw < .85:
+        del changed[place]
+    else:
+        changed[place:place + 2] = changed[place:place + 2][::-1]
+    return bytes(changed)
+
+
+def cut_lines(lines):
+    """Comma lines cut into fields, commas and line ends, each of them a piece."""
+    pieces = [b""]
+    place = 0
+    while place < len(lines):
+        width = 2 if lines[place:place + 2] == b"\r\n" else 1
+        if lines[place:place + width] in (b",", b"\n", b"\r\n"):
+            pieces += [lines[place:place + width], b""]
+        else:
+            pieces[-1] += lines[place:place + width]
+        place += width
+    return pieces
+
+
+def damaged_field(random, lines):
+    """Comma lines with a bad field in the place of one of theirs."""
+    pieces = cut_lines(lines)
+    pieces[random.randrange(0, len(pieces), 2)] = random.choice(BAD_FIELDS)
+    return b"".join(pieces)
+
+
+def damaged_separator(random, lines):
+    """Comma lines with a comma or a line end doubled, left out, or replaced by another or by what is no line end."""
+    pieces = cut_lines(lines)
+    if len(pieces) == 1:
+        return lines + random.choice(BAD_LINE_ENDS)
+    place = random.randrange(1, len(pieces), 2)
+    pieces[place] = random.choice([pieces[place] * 2, b"", b",", b"\n", b"\r\n", random.choice(BAD_LINE_ENDS), random.choice(BAD_LINE_ENDS)])
+    return b"".join(pieces)
+
+
+def damaged_lines(random, lines):
+    """Comma lines with one change, or two."""
+    damage = random.choice([byte_damaged_lines, byte_damaged_lines, damaged_field, damaged_separator])
+    changed = damage(random, lines)
+    return byte_damaged_lines(random, changed) if chance(random, .1) else changed
+
+
+def random_line_bytes(random):
+    """Any of the bytes that matter in comma lines."""
+    alphabet = random.choice([LOOSE_LINE_BYTES, LOOSE_LINE_BYTES, LINE_BYTES, b"1,\n", b"1\r\n", b"1-\r\n,", b"\r\n"])
+    return bytes(random.choice(alphabet) for _ in range(random.randint(0, 12)))
+
+
+def other_columns(random, columns):
+    """A number of columns that the lines may not have, or none may have."""
+    return random.choice([columns - 1, columns + 1, 0, 17, 255, 256 + columns, 2**16 + columns, 2**32 + columns, 2**64 - 1])

@@ -1,9 +1,10 @@
-"""Reference model of document 01, "Entry rules with blanks: text, tables, card", with Point 1 of document 02.
+"""Reference model of document 01, "Entry rules with blanks: text, tables, card", with Points 1 and 2 of document 02.
 
 It is written from these documents and shares nothing with the definitions and programs of crates/, so that each can be
-compared with the other. The six calls READ, JUDGE, CARD, CHECK, RUN and LIST are the functions read, judge, card, check, run
-and list_rows. Texts, tables files and cards are bytes; rows and rooms are numbers. A call returns Refused, with a number of
-the table "Gate says why not" or of Point 1, or its answer.
+compared with the other. The eight calls READ, JUDGE, CARD, CHECK, RUN, LIST, IMPORT and EXPORT are the functions read, judge,
+card, check, run, list_rows, import_lines and export_lines. Texts, tables files, cards and comma lines are bytes; rows, columns
+and rooms are numbers. A call returns Refused, with a number of the table "Gate says why not" or of Points 1 and 2, or its
+answer.
 """
 import functools
 from dataclasses import dataclass
@@ -166,14 +167,20 @@ def word_at(text, start):
     return Token("word", word), end
 
 
+def is_number(written):
+    """Whether bytes are a number: a minus or none, then one to ten digits, within the range."""
+    digits = written[1:] if written[:1] == b"-" else written
+    if not 1 <= len(digits) <= MOST_DIGITS or run_end(digits, 0, DIGITS) < len(digits):
+        return False
+    return -2**31 <= int(written) <= 2**31 - 1
+
+
 def number_at(text, start):
     """The number at a place: a minus or none, then the whole run of digits."""
     digits_at = start + 1 if text[start] == ord("-") else start
     end = run_end(text, digits_at, DIGITS)
-    require(1 <= end - digits_at <= MOST_DIGITS, 4)
-    number = int(text[start:end])
-    require(-2**31 <= number <= 2**31 - 1, 4)
-    return Token("number", number), end
+    require(is_number(text[start:end]), 4)
+    return Token("number", int(text[start:end])), end
 
 
 def token_at(text, start):
@@ -1002,3 +1009,66 @@ def list_rows(sheet, file, room):
             admitted.append(number)
     require(room >= len(admitted), 12)
     return admitted
+
+
+# ---- Comma lines
+
+def lines_of(text):
+    """The lines of a text, without their line ends. A CR belongs to a line end only right before its LF.
+
+    What stands behind the last LF is a line without a line end, or nothing.
+    """
+    *ended, rest = text.split(b"\n")
+    lines = [line.removesuffix(b"\r") for line in ended]
+    return lines + [rest] if rest else lines
+
+
+def cell_from(field):
+    """The cell of a field: a number, or None for a blank where the field is empty; refusal 14."""
+    if not field:
+        return None
+    require(is_number(field), 14)
+    return int(field)
+
+
+def comma_rows(text, columns):
+    """The rows of comma lines, a cell to each field; refusal 14."""
+    require(1 <= columns <= MOST_COLUMNS, 14)
+    rows = []
+    for line in lines_of(text):
+        fields = line.split(b",")
+        require(len(fields) == columns, 14)
+        rows.append([cell_from(field) for field in fields])
+    return rows
+
+
+def table_bytes(columns, rows):
+    """The tables file of a single table, with 0 as the value under each blank."""
+    cells = [cell for row in rows for cell in row]
+    sizes = bytes([1, columns]) + len(rows).to_bytes(2, "little")
+    values = b"".join((0 if cell is None else cell).to_bytes(4, "little", signed=True) for cell in cells)
+    return sizes + values + bytes(cell is None for cell in cells)
+
+
+@refusing
+def import_lines(lines, columns, room):
+    """IMPORT: the tables file of comma lines with so many columns, for a lent buffer of `room` bytes."""
+    rows = comma_rows(lines, columns)
+    require(len(rows) <= MOST_ROWS and columns * len(rows) <= MOST_CELLS, 15)
+    answer = table_bytes(columns, rows)
+    require(room >= len(answer), 12)
+    return answer
+
+
+def field_of(cell):
+    """The field of a cell: a number without spare zeros, or nothing for a blank."""
+    return b"" if cell is None else b"%d" % cell
+
+
+@refusing
+def export_lines(file, room):
+    """EXPORT: the comma lines of table 1, with LF after each line, for a lent buffer of `room` bytes."""
+    rows = tables_of(file).rows_of(1)
+    answer = b"".join(b",".join(field_of(cell) for cell in row) + b"\n" for row in rows)
+    require(room >= len(answer), 12)
+    return answer

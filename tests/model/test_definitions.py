@@ -8,6 +8,7 @@ Exit status 0 when all agree. What `rt ci` or `rt check` left in target/ is used
 """
 import collections
 import dataclasses
+import itertools
 import pathlib
 import random
 import re
@@ -22,7 +23,7 @@ import model
 
 SEED = 20250101
 REPOSITORY = pathlib.Path(__file__).resolve().parents[2]
-DRAWS = {"READ": 110, "JUDGE": 60, "CARD": 60, "CHECK": 80, "RUN": 60, "LIST": 50}
+DRAWS = {"READ": 110, "JUDGE": 60, "CARD": 60, "CHECK": 80, "RUN": 60, "LIST": 50, "IMPORT": 80, "EXPORT": 50}
 DRAWS_OF_EACH_TRUTH = 25
 DRAWS_OF_SUMS = 15
 DRAWS_OF_MISPLACED_TRUTHS = 40
@@ -31,7 +32,11 @@ WRONG_BUFFERS = 4
 LONGEST_PLAIN_LIST = 600
 LONGEST_SOURCE_STATED_WRONGLY = 100
 LONGEST_SHOWN = 600
-DEPENDENCIES = "tables card rule translation"
+# what facts of IMPORT and EXPORT may have, so that they are stated and computed in little time: runs of equal bytes, and bytes. The lengths beyond are those of
+# whole tables, which the crate's own cases have
+MOST_COMMA_RUNS = 500
+MOST_COMMA_BYTES = 8000
+DEPENDENCIES = "tables card rule translation lines"
 
 # every outcome that has to occur: the refusals of each call, and its answers
 GIVEN = {
@@ -41,6 +46,8 @@ GIVEN = {
     "CHECK": ["given sound"],
     "RUN": ["given True", "given False"],
     "LIST": ["given"],
+    "IMPORT": ["given"],
+    "EXPORT": ["given"],
 }
 
 HEAD = """\
@@ -60,6 +67,8 @@ use Rattle.rule.specs.Calls.{readCall, judgeCall}
 use Rattle.rule.proofs.Opened.{opened as rule-opened}
 use Rattle.translation.specs.Translation.{negated, cardOf}
 use Rattle.translation.specs.Calls.{ruleBytes, cardCall}
+use Rattle.lines.specs.Calls.{importCall, exportCall}
+use Rattle.lines.proofs.Opened.{opened as lines-opened}
 
 abbrev part : ℕ → ℕ → ℕ → ℕ → ℕ → ℤ → ℕ → ℤ → Part
 part k c t e lt ln rt rn = record { kind = k; comparison = c; table = t; end = e; left = record { tag = lt; number = ln }; right = record { tag = rt; number = rn } }
@@ -69,6 +78,7 @@ lent r b = record { result = r; buffer = b }
 
 """
 OPENED = "card-opened rule-opened negated cardOf ruleBytes cardCall"
+OPENED_FOR_LINES = "lines-opened"
 
 
 class Failure(Exception):
@@ -103,18 +113,17 @@ def run_source(item, count):
     return "(" + f"{item} ∷ " * count + "[])"
 
 
+def runs_of(items):
+    """The runs of equal items: pairs of an item and how often it stands there."""
+    return [(item, sum(1 for _ in run)) for item, run in itertools.groupby(items)]
+
+
 def list_source(elements):
     """A list of numbers or parts. A long list is written by its runs."""
     items = [part_source(element) if isinstance(element, model.Part) else str(element) for element in elements]
     if len(items) <= LONGEST_PLAIN_LIST:
         return "(" + "".join(f"{item} ∷ " for item in items) + "[])"
-    runs = []
-    for item in items:
-        if runs and runs[-1][0] == item:
-            runs[-1][1] += 1
-        else:
-            runs.append([item, 1])
-    sources = [run_source(item, count) for item, count in runs]
+    sources = [run_source(item, count) for item, count in runs_of(items)]
     return "(" + " ++ (".join(sources) + ")" * len(sources)
 
 
@@ -122,6 +131,10 @@ def call_source(case):
     """The left side of a fact."""
     source = list_source(case.source)
     file = list_source(case.file)
+    if case.call == "IMPORT":
+        return f"importCall {source} {case.columns} {list_source(case.buffer)}"
+    if case.call == "EXPORT":
+        return f"exportCall {file} {list_source(case.buffer)}"
     if case.call == "CHECK":
         return f"checkCall {source}"
     if case.call in ("JUDGE", "RUN"):
@@ -149,7 +162,8 @@ def answer_source(call, stated):
 def fact_source(name, fact):
     """A whole fact, closed by computing it."""
     statement = f"{call_source(fact.case)} ≡ {answer_source(fact.case.call, fact.stated)}"
-    return f"pub {name} : {statement}\nunfolding {OPENED}\n{name} = refl\n\n"
+    opened = OPENED_FOR_LINES if fact.case.call in cases.COMMA_CALLS else OPENED
+    return f"pub {name} : {statement}\nunfolding {opened}\n{name} = refl\n\n"
 
 
 # ---- which facts
@@ -174,12 +188,21 @@ def drawn_misplaced_truths(draw):
     return chosen
 
 
+def is_stated(case):
+    """Whether a fact is made of a case: of every one, but for the largest of IMPORT and EXPORT."""
+    if case.call not in cases.COMMA_CALLS:
+        return True
+    lists = (case.source, case.file, cases.expected(case).buffer)
+    return sum(len(runs_of(some)) for some in lists) <= MOST_COMMA_RUNS and sum(len(some) for some in lists) <= MOST_COMMA_BYTES
+
+
 def all_cases():
     """The targeted and the drawn cases of the seed."""
     draw = random.Random(SEED)
     chosen = cases.targeted(draw)
     for call in cases.CALLS:
         chosen += [cases.drawn(draw, call) for _ in range(DRAWS[call])]
+    chosen = [case for case in chosen if is_stated(case)]
     return chosen + cases.drawn_truths(draw, DRAWS_OF_EACH_TRUTH) + drawn_sums(draw) + drawn_misplaced_truths(draw)
 
 
@@ -191,7 +214,7 @@ def right_facts():
 def other_results(call, result):
     """Results of a call that differ from one."""
     refused = isinstance(result, model.Refused)
-    others = [model.Refused(result.number % 13 + 1 if refused else 12)]
+    others = [model.Refused(result.number % 15 + 1 if refused else 12)]
     if call == "JUDGE":
         others += [truth for truth in (model.TRUE, model.FALSE, model.UNKNOWN) if truth != result]
     elif call == "CHECK":
@@ -244,18 +267,24 @@ def is_truth_tested(fact):
     return reading and not is_refused(fact) and any(word.encode() in fact.case.source for word in model.TRUTH_WORDS)
 
 
+def is_short(fact):
+    """Whether a fact is stated wrongly too: its source is short, or its lines are of few runs, as those of 1,001 empty lines."""
+    source = fact.case.source
+    return len(source) <= LONGEST_SOURCE_STATED_WRONGLY or fact.case.call == "IMPORT" and len(runs_of(source)) <= LONGEST_SOURCE_STATED_WRONGLY
+
+
 def mixed_facts(draw, right):
     """Right facts, of each outcome of each call, where rules are accepted with truth tests and without, and wrong ones of the same cases: pairs of a fact and
     whether it is wrong."""
     by_outcome = collections.defaultdict(list)
     for fact in right:
         lends = fact.case.call in cases.LENDING_CALLS
-        if len(fact.case.source) <= LONGEST_SOURCE_STATED_WRONGLY and (fact.stated.buffer or not lends):
+        if is_short(fact) and (fact.stated.buffer or not lends):
             by_outcome[fact.case.call, cases.outcome(fact.case), is_truth_tested(fact)].append(fact)
     mixed = []
     for (call, _, _), facts in by_outcome.items():
-        # CHECK has two outcomes only
-        kept = facts[-4:] if call == "CHECK" else facts[-1:]
+        # CHECK has two outcomes only, and IMPORT and EXPORT have four
+        kept = facts[-4:] if call == "CHECK" or call in cases.COMMA_CALLS else facts[-1:]
         for fact in kept:
             mixed.append((fact, False))
             mixed += [(wrong, True) for wrong in wrong_facts_of(draw, fact)]
@@ -355,7 +384,7 @@ def verdict_of(output, crate):
 def shown(fact):
     """A fact in words."""
     case = fact.case
-    words = f"{case.call} {case.source!r}\n  tables {case.file!r}\n  row {case.row}, buffer of {len(case.buffer)}"
+    words = f"{case.call} {case.source!r}\n  tables {case.file!r}\n  row {case.row}, columns {case.columns}, buffer of {len(case.buffer)}"
     return f"{words}\n  stated {fact.stated}"
 
 

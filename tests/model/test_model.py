@@ -1,12 +1,18 @@
-"""Tests of the reference model: document 01's own cases, hand-worked truth tests, and random rules against SQLite.
+"""Tests of the reference model: document 01's own cases, hand-worked truth tests and comma lines, random rules against SQLite,
+and random comma lines against the csv module and a regular expression.
 
 Exit status 0 when all agree. The rules without SOME and ALL are given to SQLite token by token, so that its own grammar,
 scopes and grouping are compared; those with all forms are given through the model's reading of them. SQLite has no IS UNKNOWN:
-IS NULL stands for it there.
+IS NULL stands for it there. The csv module judges right comma lines only; the regular expression judges any bytes.
 """
 import collections
+import csv
+import io
+import itertools
 import random
+import re
 import sqlite3
+import struct
 import sys
 
 import cases
@@ -17,7 +23,10 @@ SEED = 20250101
 RULES_OF_EACH_SORT = 1500
 SUMMED_RULES_OF_EACH_SORT = 250
 MISPLACED_TRUTHS = 400
+COMMA_FILES = 3000
+COMMA_CASES_OF_EACH_CALL = 2000
 AMPLE_ROOM = 10000
+AMPLE_COMMA_ROOM = 100000
 SQL_TRUTHS = {None: model.UNKNOWN, 0: model.FALSE, 1: model.TRUE}
 SIGN_OF = {number: sign for sign, number in model.COMPARISONS.items()}
 SQL_TRUTH_TESTS = {10: "IS TRUE", 11: "IS NOT TRUE", 12: "IS FALSE", 13: "IS NOT FALSE", 14: "IS NULL", 15: "IS NOT NULL"}
@@ -146,6 +155,102 @@ UNKNOWN_CARD = bytes.fromhex(
 WORKED_TEXT = b"NOT m.2 < 5"
 WORKED_TABLES = generate.tables_file([(3, [[1, 2, 3]])])
 WORKED_CARD = bytes.fromhex("01 00 01 03 05 01 00 00 06 00 02 00 00 00 FF 05 00 00 00")
+
+
+# Comma lines: the columns, and the rows or the refusal
+COMMA_TEXTS = [
+    # RFC 4180 without quotes: commas between the fields of a line; spaces belong to the fields; no header
+    (b"1,2\n3,4\n", 2, [[1, 2], [3, 4]]),
+    (b"5\n6\n7\n", 1, [[5], [6], [7]]),
+    (b'"1","2"\n', 2, 14),
+    (b'1,""\n', 2, 14),
+    (b"1, 2\n", 2, 14),
+    (b"1 ,2\n", 2, 14),
+    (b" \n", 1, 14),
+    (b"first,second\n1,2\n", 2, 14),
+    # a field is a number as in document 01
+    (b"0,-0,00,-000\n", 4, [[0, 0, 0, 0]]),
+    (b"007,-0000000007\n", 2, [[7, -7]]),
+    (b"-2147483648,2147483647\n", 2, [[-2**31, 2**31 - 1]]),
+    (b"2147483648\n", 1, 14),
+    (b"-2147483649\n", 1, 14),
+    (b"00000000001\n", 1, 14),
+    (b"+1\n", 1, 14),
+    (b"-\n", 1, 14),
+    (b"--1\n", 1, 14),
+    (b"1.5\n", 1, 14),
+    # or empty for blank
+    (b",\n", 2, [[None, None]]),
+    (b"1,\n,2\n", 2, [[1, None], [None, 2]]),
+    (b",,3", 3, [[None, None, 3]]),
+    (b"\n", 1, [[None]]),
+    (b"\n\n1\n\n", 1, [[None], [None], [1], [None]]),
+    # lines end in LF or CRLF
+    (b"1\r\n2\r\n", 1, [[1], [2]]),
+    (b"1\n2\r\n3\n", 1, [[1], [2], [3]]),
+    (b"1,\r\n,\n", 2, [[1, None], [None, None]]),
+    (b"\r\n\n\r\n", 1, [[None], [None], [None]]),
+    (b"1\r2\n", 1, 14),
+    (b"1\r\r\n", 1, 14),
+    (b"\r\r\n", 1, 14),
+    (b"1\n\r2\n", 1, 14),
+    # the last perhaps in neither
+    (b"1", 1, [[1]]),
+    (b"1\n2", 1, [[1], [2]]),
+    (b"1,2\r\n3,", 2, [[1, 2], [3, None]]),
+    (b",", 2, [[None, None]]),
+    (b"1\r", 1, 14),
+    (b"1\n\r", 1, 14),
+    (b"\r", 1, 14),
+    # no line begins after the last line end
+    (b"1,2\n", 2, [[1, 2]]),
+    (b"1\n", 1, [[1]]),
+    (b"1\n\n", 1, [[1], [None]]),
+    (b"1,2\n\n", 2, 14),
+    # an empty file has no rows
+    (b"", 1, []),
+    (b"", 2, []),
+    (b"", 16, []),
+    # the column count is named by the caller
+    (b"1,2,3\n", 3, [[1, 2, 3]]),
+    (b"1,2,3\n", 2, 14),
+    (b"1,2,3\n", 4, 14),
+    (b"1,2\n3\n", 2, 14),
+    (b"1,2\n3,4,5\n", 2, 14),
+    (b"1,2\n3,4\n5,6,", 2, 14),
+    (b"1,2,3,4\n", 2, 14),
+    (b"1\n2\n", 2, 14),
+    (b"," * 15, 16, [[None] * 16]),
+    (b"", 0, 14),
+    (b"", 17, 14),
+    (b"\n", 0, 14),
+    (b"," * 16, 17, 14),
+    (b"1", 257, 14),
+    (b"1", 2**64 + 1, 14),
+    (b"1", -1, 14),
+]
+
+# Comma lines with the columns and all the bytes of the tables file
+IMPORTED_BYTES = [
+    (b"", 3, "01 03 00 00"),
+    (b"\n", 1, "01 01 01 00 00 00 00 00 01"),
+    (b"-0", 1, "01 01 01 00 00 00 00 00 00"),
+    (b"1,\r\n5,-2\n", 2, "01 02 02 00 01 00 00 00 00 00 00 00 05 00 00 00 FE FF FF FF 00 01 00 00"),
+    (b"-2147483648,,0000065538", 3, "01 03 01 00 00 00 00 80 00 00 00 00 02 00 01 00 00 01 00"),
+]
+
+# Tables files, and the comma lines of their table 1
+EXPORTED_TEXTS = [
+    ("01 03 00 00", b""),
+    ("01 01 01 00 07 00 00 00 00", b"7\n"),
+    ("01 01 01 00 07 00 00 00 01", b"\n"),
+    ("01 02 01 00 00 00 00 00 FF FF FF FF 00 00", b"0,-1\n"),
+    ("01 01 02 00 00 00 00 80 FF FF FF 7F 00 00", b"-2147483648\n2147483647\n"),
+    ("01 02 02 00 0A 00 00 00 64 00 00 00 05 00 00 00 06 00 00 00 00 00 01 00", b"10,100\n,6\n"),
+    ("02 01 01 00 01 01 00 03 00 00 00 04 00 00 00 00 00", b"3\n"),
+    ("02 01 00 00 01 01 00 04 00 00 00 00", b""),
+    ("01 03 01 00 01 00 00 00 01 00 00 00 01 00 00 00 01 01 01", b",,\n"),
+]
 
 
 class Disagreement(Exception):
@@ -330,6 +435,299 @@ def test_refusal_sets():
             wanted = applying[0] if applying else None
             got = refusal_of(cases.answer_of(cases.refusal_set_case(call, applying)))
             same(f"{call} where {applying} apply", got, wanted)
+
+
+# ---- comma lines: worked by hand
+
+def single_table(columns, rows):
+    """The tables file of one table, with 0 under each blank."""
+    cells = [cell for row in rows for cell in row]
+    values = struct.pack(f"<{len(cells)}i", *(cell or 0 for cell in cells))
+    return struct.pack("<BBH", 1, columns, len(rows)) + values + bytes(cell is None for cell in cells)
+
+
+def test_comma_texts():
+    """Comma lines with their rows or their refusal, and the room exactly enough, a byte short, and none."""
+    for lines, columns, wanted in COMMA_TEXTS:
+        what = f"IMPORT of {lines!r} with {columns} columns"
+        if wanted == 14:
+            same(what, [model.import_lines(lines, columns, room) for room in (0, AMPLE_COMMA_ROOM)], [model.Refused(14)] * 2)
+            continue
+        answer = single_table(columns, wanted)
+        same(what, model.import_lines(lines, columns, len(answer)), answer)
+        same(f"{what}, a byte short", model.import_lines(lines, columns, len(answer) - 1), model.Refused(12))
+        same(f"{what}, no room", model.import_lines(lines, columns, 0), model.Refused(12))
+
+
+def test_comma_bytes():
+    """Tables files and comma lines byte by byte, both ways."""
+    for lines, columns, written in IMPORTED_BYTES:
+        same(f"IMPORT of {lines!r}", model.import_lines(lines, columns, AMPLE_COMMA_ROOM), bytes.fromhex(written))
+    for written, lines in EXPORTED_TEXTS:
+        file = bytes.fromhex(written)
+        same(f"EXPORT of {written}", model.export_lines(file, len(lines)), lines)
+        if lines:
+            same(f"EXPORT of {written}, a byte short", model.export_lines(file, len(lines) - 1), model.Refused(12))
+
+
+def test_comma_numbers():
+    """A field of each length: up to ten digits within the range, with and without a minus."""
+    for number in (0, 1, 9, 10, 2**31 - 1, 2**31, 2**31 + 1, 2**32, 2**32 + 1, 10**9, 10**10 - 1, 10**10, 2**64 + 1):
+        for sign, length in itertools.product((1, -1), range(1, 14)):
+            digits = str(number).zfill(length)
+            field = ("-" * (sign < 0) + digits).encode()
+            fits = len(digits) <= 10 and -2**31 <= sign * number <= 2**31 - 1
+            for lines, columns, rows in ((field, 1, [[sign * number]]), (b"1,%s,\r\n" % field, 3, [[1, sign * number, None]])):
+                wanted = single_table(columns, rows) if fits else model.Refused(14)
+                same(f"IMPORT of {lines!r}", model.import_lines(lines, columns, AMPLE_COMMA_ROOM), wanted)
+
+
+def test_comma_refusals():
+    """14, then 15, then 12, and for EXPORT 1, then 2, then 12: each over the whole input."""
+    many, much = b"\n" * 1001, (b"," * 15 + b"\n") * 513
+    over = bytes.fromhex("01 01 01 00 00 00 00 00 02")
+    examples = [
+        (None, model.import_lines(b"\n" * 1000, 1, 5004)),
+        (12, model.import_lines(b"\n" * 1000, 1, 5003)),
+        (15, model.import_lines(many, 1, 5009)),
+        (15, model.import_lines(many, 1, 0)),
+        (14, model.import_lines(many + b"x", 1, 0)),
+        (14, model.import_lines(b"x" + many, 1, 0)),
+        (14, model.import_lines(many + b",", 1, 5014)),
+        (14, model.import_lines(many, 2, 0)),
+        (14, model.import_lines(many, 0, 0)),
+        (14, model.import_lines(many, 17, 0)),
+        (15, model.import_lines(much, 16, 0)),
+        (14, model.import_lines(much + b"\n", 16, 0)),
+        (14, model.import_lines(much, 15, 0)),
+        (14, model.import_lines(b"x", 1, 0)),
+        (12, model.import_lines(b"", 16, 3)),
+        (None, model.import_lines(b"", 16, 4)),
+        (1, model.export_lines(b"", 0)),
+        (1, model.export_lines(over + b"\0", 0)),
+        (2, model.export_lines(over, 0)),
+        (2, model.export_lines(bytes.fromhex("02 01 00 00 01 01 00 00 00 00 00 02"), 0)),
+        (12, model.export_lines(over[:-1] + b"\0", 1)),
+        (12, model.export_lines(over[:-1] + b"\1", 0)),
+        (None, model.export_lines(over[:-1] + b"\1", 1)),
+        (None, model.export_lines(b"\1\1\0\0", 0)),
+    ]
+    for place, (wanted, got) in enumerate(examples):
+        same(f"example {place} of comma refusals", refusal_of(got), wanted)
+
+
+# ---- comma lines: judged by a regular expression and by struct
+
+def matched_rows(lines, columns):
+    """The rows of comma lines, by one regular expression for the whole of them; None where it does not match or a number is beyond the range."""
+    if columns not in range(1, 17):
+        return None
+    line = b",".join([rb"(?:-?[0-9]{1,10})?"] * columns)
+    if not re.fullmatch(rb"(?:%s\r?\n)*(?:(?!\Z)%s)?" % (line, line), lines):
+        return None
+    rows = [[int(field) if field else None for field in one.split(b",")] for one in lines.splitlines()]
+    in_range = all(cell is None or -2**31 <= cell < 2**31 for row in rows for cell in row)
+    return rows if in_range else None
+
+
+def judged_import(lines, columns, room):
+    """What IMPORT has to answer."""
+    rows = matched_rows(lines, columns)
+    if rows is None:
+        return model.Refused(14)
+    if len(rows) > 1000 or columns * len(rows) > 8192:
+        return model.Refused(15)
+    answer = single_table(columns, rows)
+    return answer if len(answer) <= room else model.Refused(12)
+
+
+def judged_export(file, room):
+    """What EXPORT has to answer."""
+    count = file[0] if file else 0
+    head = 1 + 3 * count
+    if not 1 <= count <= 8 or len(file) < head:
+        return model.Refused(1)
+    sizes = list(struct.iter_unpack("<BH", file[1:head]))
+    cells = sum(columns * rows for columns, rows in sizes)
+    fit = all(1 <= columns <= 16 and rows <= 1000 for columns, rows in sizes)
+    if not fit or cells > 8192 or len(file) != head + 5 * cells:
+        return model.Refused(1)
+    marks = file[head + 4 * cells:]
+    if set(marks) - {0, 1}:
+        return model.Refused(2)
+    columns, rows = sizes[0]
+    values = struct.unpack_from(f"<{columns * rows}i", file, head)
+    answer = b""
+    for place, value in enumerate(values):
+        answer += (b"" if marks[place] else str(value).encode()) + (b"," if (place + 1) % columns else b"\n")
+    return answer if len(answer) <= room else model.Refused(12)
+
+
+def with_every_byte(file):
+    """A file with each byte put in at each place, and with each byte in the place of each of its own."""
+    for place, byte in itertools.product(range(len(file) + 1), range(256)):
+        yield file[:place] + bytes([byte]) + file[place:]
+        if place < len(file):
+            yield file[:place] + bytes([byte]) + file[place + 1:]
+
+
+def test_every_byte():
+    """Each byte at each place of small comma lines and small tables files."""
+    count = 0
+    for lines in (b"", b"1", b"\n", b"\r\n", b"1,2", b"-7,\r\n,0\n", b"10\r\n\n-0", b",\n2147483647,", b"1\n\r\n3\r\n", b"000000001,-2147483648"):
+        for changed, columns in itertools.product(with_every_byte(lines), (1, 2, 3)):
+            same(f"IMPORT of {changed!r} with {columns} columns", model.import_lines(changed, columns, 64), judged_import(changed, columns, 64))
+            count += 1
+    for written, _ in EXPORTED_TEXTS:
+        for changed in with_every_byte(bytes.fromhex(written)):
+            same(f"EXPORT of {changed.hex(' ')}", model.export_lines(changed, 64), judged_export(changed, 64))
+            count += 1
+    print(f"model: {count} small comma lines and tables files with one byte put in or changed: as judged")
+
+
+def test_comma_sizes():
+    """Rows and cells around their limits with each number of columns, and the files at the limits for EXPORT."""
+    for columns in range(1, 17):
+        most = min(1000, 8192 // columns)
+        for cell, rows in itertools.product((b"", b"-1"), (most - 1, most, most + 1)):
+            lines = (b",".join([cell] * columns) + b"\n") * rows
+            length = 4 + 5 * columns * rows
+            given = single_table(columns, [[int(cell) if cell else None] * columns] * rows)
+            same(f"length of {columns} columns and {rows} rows", len(given), length)
+            wanted = [given, model.Refused(12)] if rows <= most else [model.Refused(15)] * 2
+            what = f"IMPORT of {columns} columns and {rows} rows of {cell!r}"
+            same(what, [model.import_lines(lines, columns, room) for room in (length, length - 1)], wanted)
+            same(f"{what}, and a bad one", model.import_lines(lines + b"-", columns, length), model.Refused(14))
+    for sizes, file, refusal in cases.limit_files():
+        answer = model.export_lines(file, AMPLE_COMMA_ROOM)
+        same(f"EXPORT of {sizes}", refusal_of(answer), refusal)
+        if refusal is None:
+            columns, rows = sizes[0]
+            cells = iter(range(columns * rows))
+            same(f"EXPORT of {sizes}", answer, b"".join(b",".join(b"%d" % next(cells) for _ in range(columns)) + b"\n" for _ in range(rows)))
+
+
+# ---- comma lines: drawn
+
+def csv_rows(lines):
+    """The rows of right comma lines, by the csv module; it gives an empty line as a row without fields."""
+    fields = csv.reader(io.StringIO(lines.decode("ascii"), newline=""), strict=True)
+    return [[int(field) if field else None for field in row] for row in fields]
+
+
+def csv_written(rows):
+    """The comma lines of rows, by the csv module; it writes a blank alone in its line as quotes."""
+    written = io.StringIO(newline="")
+    csv.writer(written, lineterminator="\n").writerows(["" if cell is None else cell for cell in row] for row in rows)
+    return written.getvalue().encode()
+
+
+def same_as_csv(lines, columns, rows):
+    """Compares rows with what the csv module reads from comma lines, but for the empty lines of one column."""
+    left_out = {"csv": [], "rows": [None]} if columns == 1 else {}
+    by_csv = [row for row in csv_rows(lines) if row != left_out.get("csv")]
+    same(f"csv of {lines!r}", [row for row in rows if row != left_out.get("rows")], by_csv)
+
+
+def note_lines(seen, lines, rows):
+    """Notes what occurs in right comma lines."""
+    fields = lines.replace(b"\r\n", b",").replace(b"\n", b",").split(b",")
+    occurring = {
+        "LF": re.search(rb"(?<!\r)\n", lines), "CRLF": b"\r\n" in lines, "both line ends": b"\r\n" in lines and re.search(rb"(?<!\r)\n", lines),
+        "no last line end": lines and not lines.endswith(b"\n"), "no rows": not rows, "blank": any(None in row for row in rows),
+        "one column": rows and len(rows[0]) == 1, "sixteen columns": rows and len(rows[0]) == 16, "empty line": [None] in rows,
+        "lowest": any(-2**31 in row for row in rows), "highest": any(2**31 - 1 in row for row in rows),
+        "-0": b"-0" in fields, "spare zeros": any(re.fullmatch(rb"-?0[0-9]+", field) for field in fields),
+        "ten digits": any(re.fullmatch(rb"-?0[0-9]{9}", field) for field in fields)}
+    for name, occurs in occurring.items():
+        seen.add("lines", [name] * bool(occurs))
+    return list(occurring)
+
+
+def test_right_lines():
+    """Drawn right comma lines: IMPORT gives their rows, so does the csv module, and EXPORT writes them plainly, which imports again."""
+    draw = random.Random(f"{SEED} right lines")
+    seen = Seen()
+    for _ in range(COMMA_FILES):
+        columns = generate.column_count(draw)
+        rows = generate.drawn_rows(draw, columns)
+        lines = generate.comma_lines(draw, rows)
+        names = note_lines(seen, lines, rows)
+        file = model.import_lines(lines, columns, AMPLE_COMMA_ROOM)
+        same(f"IMPORT of {lines!r}", file, single_table(columns, rows))
+        same_as_csv(lines, columns, model.tables_of(file).rows_of(1))
+        plain = model.export_lines(file, AMPLE_COMMA_ROOM)
+        same(f"EXPORT of the rows {rows}", plain, judged_export(file, AMPLE_COMMA_ROOM))
+        same_as_csv(plain, columns, rows)
+        same(f"{lines!r}, imported, exported and imported", model.import_lines(plain, columns, AMPLE_COMMA_ROOM), file)
+    seen.demand("lines", names)
+    print(f"model: {COMMA_FILES} right comma lines: the csv module agrees\n  {seen.report('lines')}")
+
+
+def test_round_trips():
+    """Drawn tables files of one table and more: EXPORT and IMPORT give the cells and marks of table 1, with 0 under each blank."""
+    draw = random.Random(f"{SEED} round trips")
+    for _ in range(COMMA_FILES):
+        file = generate.random_tables(draw)
+        columns, row_count = struct.unpack_from("<BH", file, 1)
+        lines = model.export_lines(file, AMPLE_COMMA_ROOM)
+        cells = columns * row_count
+        rows = model.tables_of(file).rows_of(1)
+        again = model.import_lines(lines, columns, AMPLE_COMMA_ROOM)
+        same(f"EXPORT and IMPORT of {file.hex(' ')}", again, single_table(columns, rows))
+        marks_at = len(file) - sum(size * count for size, count in struct.iter_unpack("<BH", file[1:1 + 3 * file[0]]))
+        same(f"marks of {file.hex(' ')}", again[len(again) - cells:], file[marks_at:marks_at + cells])
+        same(f"EXPORT again of {lines!r}", model.export_lines(again, AMPLE_COMMA_ROOM), lines)
+        same_as_csv(lines, columns, rows)
+        if columns > 1:
+            same(f"EXPORT of {rows}", lines, csv_written(rows))
+    print(f"model: {COMMA_FILES} tables files exported and imported: the same cells and marks, and the csv module agrees")
+
+
+def test_damaged_lines():
+    """Drawn damaged comma lines and bytes that matter, with their own number of columns and with others, against the regular expression."""
+    draw = random.Random(f"{SEED} damaged lines")
+    seen = Seen()
+    damages = (generate.byte_damaged_lines, generate.damaged_field, generate.damaged_separator, generate.damaged_lines)
+    for _ in range(COMMA_FILES):
+        columns = generate.column_count(draw)
+        lines = generate.comma_lines(draw, generate.drawn_rows(draw, columns))
+        texts = [(damage.__name__, damage(draw, lines), columns) for damage in damages]
+        texts += [("other_columns", lines, generate.other_columns(draw, columns))]
+        texts += [("random_line_bytes", generate.random_line_bytes(draw), draw.choice([1, 2, 3]))]
+        for name, damaged, named in texts:
+            room = draw.choice([0, 4, 9, 14, AMPLE_COMMA_ROOM])
+            wanted = judged_import(damaged, named, room)
+            same(f"IMPORT of {damaged!r} with {named} columns, room {room}", model.import_lines(damaged, named, room), wanted)
+            seen.add("damage", [f"{name} {refusal_of(wanted) or 'given'}"])
+    seen.demand("damage", [f"{name} {result}" for name, _, _ in texts for result in ("given", 12, 14)])
+    print(f"model: {len(texts) * COMMA_FILES} damaged comma lines: as judged\n  {seen.report('damage')}")
+
+
+def test_bad_fields():
+    """What no field is, between right fields; before a LF a CR at its end belongs to the line end."""
+    for field in generate.BAD_FIELDS:
+        for lines, columns in ((field, 1), (b"%s,1\n" % field, 2), (b"1,%s,2" % field, 3), (b"1\n%s" % field, 1), (b"%s\r\n1" % field, 1)):
+            same(f"IMPORT of {lines!r}", model.import_lines(lines, columns, AMPLE_COMMA_ROOM), model.Refused(14))
+
+
+def test_comma_cases():
+    """The targeted and the drawn cases of IMPORT and EXPORT: the answer and the whole buffer."""
+    draw = random.Random(f"{SEED} comma cases")
+    seen = Seen()
+    drawn = [cases.drawn(draw, call) for call in cases.COMMA_CALLS for _ in range(COMMA_CASES_OF_EACH_CALL)]
+    in_sets = [case for case in cases.refusal_set_cases(draw) if case.call in cases.COMMA_CALLS]
+    for sort, chosen in (("targeted", cases.comma_cases()), ("drawn", drawn), ("set", in_sets)):
+        for case in chosen:
+            room = len(case.buffer)
+            judged = judged_import(case.source, case.columns, room) if case.call == "IMPORT" else judged_export(case.file, room)
+            refused = isinstance(judged, model.Refused)
+            buffer = case.buffer if refused else tuple(judged) + (cases.UNTOUCHED_NUMBER,) * (room - len(judged))
+            same(f"{case}", cases.expected(case), cases.Expected(judged if refused else len(judged), buffer))
+            seen.add("case", [f"{sort} {case.call} {cases.outcome(case)}"])
+    for sort, call in itertools.product(("targeted", "drawn", "set"), cases.COMMA_CALLS):
+        seen.demand("case", [f"{sort} {call} {result}" for result in ["given"] + [f"refused {number}" for number in cases.REFUSALS_OF[call]]])
+    print(f"model: cases of IMPORT and EXPORT: as judged\n  {seen.report('case')}")
 
 
 # ---- SQLite
@@ -566,6 +964,17 @@ def main():
         test_truth_refusals()
         test_misplaced_truths()
         test_refusal_sets()
+        test_comma_texts()
+        test_comma_bytes()
+        test_comma_numbers()
+        test_comma_refusals()
+        test_bad_fields()
+        test_every_byte()
+        test_comma_sizes()
+        test_right_lines()
+        test_round_trips()
+        test_damaged_lines()
+        test_comma_cases()
         test_against_sqlite(False)
         test_against_sqlite(True)
         test_sums_against_sqlite(False)

@@ -23,10 +23,9 @@ use Rattle.parser.proofs.Known.{known}
 use Rattle.translation.specs.Calls.{ruleBytes, cardCall}
 use Rattle.translation.specs.Demand3.{Later, publishedLength, Demand3For}
 use Rattle.translation.proofs.Demand3.{card-bytes-few, demand-3-claim}
-use Rattle.cells.specs.Reasons.{reasonNumber}
+use Rattle.cells.specs.Reasons.{reasonNumber, madeAnswer}
 use Rattle.cells.specs.declared.Reason.{Reason}
-use Rattle.translator.specs.Answers.{madeAnswer}
-use Rattle.translator.specs.declared.Made.{Made}
+use Rattle.cells.specs.declared.Made.{Made}
 use Rattle.admission.specs.Claims.{AdmitClaim}
 use Rattle.admission.proofs.Lent.{lent-given, lent-refused}
 

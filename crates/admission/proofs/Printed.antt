@@ -15,7 +15,6 @@ use Rattle.tables.proofs.Sizes.{count-at}
 use Rattle.cells.specs.Code.{Sized}
 use Rattle.cells.specs.Reasons.{reasonNumber}
 use Rattle.cells.specs.declared.Reason.{Reason}
-use Rattle.cells.specs.declared.Reason.the-variants.{Sizes, Mark, TextLength, Token, Brackets, Grammar, Limits, Names, Unsound, Columns, Row, Short, Entries}
 use Rattle.cells.proofs.Cells.{sized-is}
 use Rattle.rule.specs.Condition.{Rule}
 use Rattle.rule.specs.Calls.{ruleOf, readingRefusals, Accepted, withRule, trueAt, trueRows, admitCall}
@@ -72,21 +71,6 @@ module _ (text file : List ℕ) (accepted : Accepted text file) where
     rows-room = rw (parts-claim text file accepted .is-rule) (omega (arith, rows-most))
 
 -- ---- in the code
-
-pub reason-small : (x : Reason) → reasonNumber x < 10000
-reason-small Sizes = omega arith
-reason-small Mark = omega arith
-reason-small TextLength = omega arith
-reason-small Token = omega arith
-reason-small Brackets = omega arith
-reason-small Grammar = omega arith
-reason-small Limits = omega arith
-reason-small Names = omega arith
-reason-small Unsound = omega arith
-reason-small Columns = omega arith
-reason-small Row = omega arith
-reason-small Short = omega arith
-reason-small Entries = omega arith
 
 module _ (text file room : List ℕ) (size : length room ≡ mostRows) (listed : Listed) (answer : listedAnswer listed ≡ admitCall text file room .result) where
   pub prints-refusal : (x : Reason) → listed ≡ Listed.NotListed x → refusalText (reasonNumber x) ≡ output text file

@@ -15,17 +15,17 @@ use Rattle.rule.specs.Calls.{trueAt, trueRows}
 use Rattle.translation.specs.Calls.{ruleBytes, cardCall}
 use Rattle.translation.specs.Demand3.{Later, publishedLength, Demand3For}
 use Rattle.translation.proofs.Demand3.{demand-3-claim}
+use Rattle.cells.specs.Reasons.{madeAnswer}
 use Rattle.cells.specs.declared.Reason.the-variants.{Short}
+use Rattle.cells.specs.declared.Made.{Made}
+use Rattle.cells.specs.declared.Made.the-variants.{Bytes, NotMade}
+use Rattle.cells.proofs.Told.{reasons-claim}
 use Rattle.gate.specs.Answers.{ranAnswer, listedAnswer}
 use Rattle.gate.specs.declared.Ran.{Ran}
 use Rattle.gate.specs.declared.Ran.the-variants.{Yes, No}
 use Rattle.gate.specs.declared.Listed.{Listed}
 use Rattle.gate.specs.declared.Listed.the-variants.{Rows, NotListed}
 use Rattle.gate.proofs.Told.{answers-claim}
-use Rattle.translator.specs.Answers.{madeAnswer}
-use Rattle.translator.specs.declared.Made.{Made}
-use Rattle.translator.specs.declared.Made.the-variants.{Bytes, NotMade}
-use Rattle.translator.proofs.Told.{made-claim}
 use Rattle.admission.specs.Promise.{CardKept, ListKept}
 use Rattle.admission.specs.Claims.{PromiseClaim}
 
@@ -45,9 +45,9 @@ module _ (text file : List ℕ) (d : Demand3For text file) where
   kept : (buffer : List ℕ) (made : Made) → madeAnswer made ≡ cardCall text file buffer .result → CardKept text file (d .rule) buffer made
   kept buffer made e =
       record {
-        fits = λ l. made-claim made (Bytes (publishedLength file (d .rule))) (e ∙ resultIs (d .cards buffer .long l));
+        fits = λ l. reasons-claim .written made (Bytes (publishedLength file (d .rule))) (e ∙ resultIs (d .cards buffer .long l));
         bytes = λ l. bufferIs (d .cards buffer .long l);
-        short = λ l. made-claim made (NotMade Short) (e ∙ resultIs (d .cards buffer .short l));
+        short = λ l. reasons-claim .written made (NotMade Short) (e ∙ resultIs (d .cards buffer .short l));
         untouched = λ l. bufferIs (d .cards buffer .short l);
       }
 

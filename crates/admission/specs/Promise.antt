@@ -13,15 +13,15 @@ use Rattle.rule.specs.Condition.{Rule}
 use Rattle.rule.specs.Calls.{ruleOf, trueAt, trueRows}
 use Rattle.translation.specs.Calls.{ruleBytes, cardCall}
 use Rattle.translation.specs.Demand3.{Later, publishedLength}
+use Rattle.cells.specs.Reasons.{madeAnswer}
 use Rattle.cells.specs.declared.Reason.the-variants.{Short}
+use Rattle.cells.specs.declared.Made.{Made}
+use Rattle.cells.specs.declared.Made.the-variants.{Bytes, NotMade}
 use Rattle.gate.specs.Answers.{ranAnswer, listedAnswer}
 use Rattle.gate.specs.declared.Ran.{Ran}
 use Rattle.gate.specs.declared.Ran.the-variants.{Yes, No}
 use Rattle.gate.specs.declared.Listed.{Listed}
 use Rattle.gate.specs.declared.Listed.the-variants.{Rows, NotListed}
-use Rattle.translator.specs.Answers.{madeAnswer}
-use Rattle.translator.specs.declared.Made.{Made}
-use Rattle.translator.specs.declared.Made.the-variants.{Bytes, NotMade}
 
 -- CARD with this buffer: the translation's bytes from its start and their published number, where the buffer holds them, else 12
 pub record CardKept (text file : List ℕ) (r : Rule) (buffer : List ℕ) (made : Made) : Type 0 where

@@ -17,10 +17,10 @@ use cells::EXCESS;
 use cells::MOST_CELLS;
 use cells::MOST_ROWS;
 use cells::MOST_TABLES;
+use cells::Made;
 use gate::Listed;
 use lexer::MOST_BYTES;
 use tables::MOST_ENTRIES;
-use translator::Made;
 
 // How much of its files the program reads: a byte more than any that is accepted has.
 pub const READ_OF_TEXT: usize = MOST_BYTES + 1;

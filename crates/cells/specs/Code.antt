@@ -1,5 +1,5 @@
--- What the functions of src/ promise one another, in the terms of the code: places in bytes and in arrays. None of the six calls' contracts
--- cites this file.
+-- What the functions of src/ promise one another, in the terms of the code: places in bytes and in arrays. No contract of a
+-- public call cites this file.
 use mathlib.Core.Path.{_≡_}
 use mathlib.Core.Bool.{cond}
 use mathlib.Core.List.{List, [], _∷_}

@@ -41,6 +41,8 @@ pub enum Reason {
     Row,
     Short,
     Entries,
+    Fields,
+    TooMany,
 }
 
 // For an arm that no input reaches: whoever calls this has proved so.
@@ -67,6 +69,8 @@ pub fn refusal_number(x: Reason) -> u32
         Reason::Row => 11,
         Reason::Short => 12,
         Reason::Entries => 13,
+        Reason::Fields => 14,
+        Reason::TooMany => 15,
     }
 }
 
@@ -234,6 +238,12 @@ pub fn check_tables(file: &[u8]) -> Validity
         return Validity::Invalid(Reason::Mark);
     }
     Validity::Valid
+}
+
+// How many bytes a call has written into a lent buffer, or why none.
+pub enum Made {
+    Bytes(usize),
+    NotMade(Reason),
 }
 
 // Where the tables of a file stand: where its values start, where its marks start, and all cells; then of each table its first cell, columns, rows, so

@@ -1,5 +1,5 @@
 -- What the functions of src/ promise one another and their callers, in the terms of the code: runs of bytes at places of a text, and numbers plus 2 ^ 31.
--- None of the six calls' contracts cites this file.
+-- No contract of a public call cites this file.
 use mathlib.Core.Path.{_≡_}
 use mathlib.Core.List.{List}
 use mathlib.Core.Option.{Option, none, some}

@@ -1,18 +1,19 @@
-// The six calls for C. Each returns 0, or the number of the refusal; a refusal leaves what the pointers point to as it was.
+// The eight calls for C. Each returns 0, or the number of the refusal; a refusal leaves what the pointers point to as it was.
 // A slice is a pointer and then a length, in elements; what is written through one argument must not be reachable through another.
 // CHECK, RUN and LIST are the gate's, under the names that they have in the archive of the gate alone.
 ghost use mathlib.Core.Path.{_≡_};
 ghost use Rattle.card.specs.Calls.{checkCall, runCall, listCall};
 ghost use Rattle.rule.specs.Calls.{readCall, judgeCall};
 ghost use Rattle.translation.specs.Calls.{cardCall};
+ghost use Rattle.lines.specs.Calls.{importCall, exportCall};
 ghost use Rattle.reader.specs.Answers.{readAnswer};
-ghost use Rattle.translator.specs.Answers.{madeAnswer};
+ghost use Rattle.cells.specs.Reasons.{madeAnswer};
 ghost use Rattle.rule.specs.Truth.{truthNumber};
 ghost use Rattle.tables.specs.Exports.{statusOf, yesNo, numberAfter};
+use cells::Made;
 use judge::Judged;
 use reader::Reading;
 use rule::Part;
-use translator::Made;
 
 // READ's answer for C: the number of parts behind a pointer, and the status.
 fn give_count(reading: Reading, count: &mut usize) -> u32
@@ -68,7 +69,7 @@ pub extern "C" fn roskudla_judge(text: &[u8], tables: &[u8], row: usize, value: 
     }
 }
 
-// CARD's answer for C: the number of bytes behind a pointer, and the status.
+// The answer of CARD, IMPORT and EXPORT for C: the number of bytes behind a pointer, and the status.
 fn give_length(made: Made, length: &mut usize) -> u32
     ensures status { λ r. ⌜ r ≡ statusOf (madeAnswer made) ⌝ }
     ensures counted { λ _. ⌜ now (length .exit) ≡ numberAfter (λ n. n) (madeAnswer made) (now (length .entry)) ⌝ }
@@ -95,6 +96,33 @@ pub extern "C" fn roskudla_card(
     ensures counted { λ r. ⌜ now (length .exit) ≡ numberAfter (λ n. n) (cardCall (now (text .entry)) (now (tables .entry)) (now (card .entry)) .result) (now (length .entry)) ⌝ }
 {
     let made = translator::make_card(text, tables, card);
+    give_length(made, length)
+}
+
+// IMPORT: comma lines as a tables file with one table of so many columns, from the start of tables on; length becomes how many bytes it has.
+#[no_mangle]
+pub extern "C" fn roskudla_import(
+    lines: &[u8],
+    columns: usize,
+    tables: &mut [u8],
+    length: &mut usize,
+) -> u32
+    ensures status { λ r. ⌜ r ≡ statusOf (importCall (now (lines .entry)) columns (now (tables .entry)) .result) ⌝ }
+    ensures written { λ r. ⌜ now (tables .exit) ≡ importCall (now (lines .entry)) columns (now (tables .entry)) .buffer ⌝ }
+    ensures counted { λ r. ⌜ now (length .exit) ≡ numberAfter (λ n. n) (importCall (now (lines .entry)) columns (now (tables .entry)) .result) (now (length .entry)) ⌝ }
+{
+    let made = importer::import_lines(lines, columns, tables);
+    give_length(made, length)
+}
+
+// EXPORT: table 1 as comma lines, from the start of lines on; length becomes how many bytes they have.
+#[no_mangle]
+pub extern "C" fn roskudla_export(tables: &[u8], lines: &mut [u8], length: &mut usize) -> u32
+    ensures status { λ r. ⌜ r ≡ statusOf (exportCall (now (tables .entry)) (now (lines .entry)) .result) ⌝ }
+    ensures written { λ r. ⌜ now (lines .exit) ≡ exportCall (now (tables .entry)) (now (lines .entry)) .buffer ⌝ }
+    ensures counted { λ r. ⌜ now (length .exit) ≡ numberAfter (λ n. n) (exportCall (now (tables .entry)) (now (lines .entry)) .result) (now (length .entry)) ⌝ }
+{
+    let made = exporter::export_lines(tables, lines);
     give_length(made, length)
 }
 

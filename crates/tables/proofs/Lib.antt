@@ -2,6 +2,9 @@ pub mod Values
 pub mod Opened
 pub mod Computed
 pub mod Refusals
+pub mod Lent
+pub mod Status
+pub mod Rising
 pub mod Tests
 pub mod Tabulated
 pub mod Sizes

@@ -103,3 +103,18 @@ module _ {A : Type 0} where
   pub tabulate-whole : (xs : List A) (d : A) → tabulate (length xs) (λ i. getD xs i d) ≡ xs
   tabulate-whole [] d = refl
   tabulate-whole (x ∷ xs) d = ap (λ (l : List A). x ∷ l) (tabulate-whole xs d)
+
+-- ---- from one test to another
+
+-- a test that follows from another, of every element
+pub all-weaker : {A : Type 0} (p q : A → Bool) → ((x : A) → p x ≡ true → q x ≡ true) → (xs : List A) → all p xs ≡ true → all q xs ≡ true
+all-weaker p q f [] e = refl
+all-weaker p q f (x ∷ xs) e =
+    let (here, rest) = and-parts (p x) (all p xs) e in and-yes (q x) (all q xs) (f x here) (all-weaker p q f xs rest)
+
+-- a test of what is made of each element
+pub all-map : {A B : Type 0} (p : A → Bool) (q : B → Bool) (f : A → B) → ((x : A) → p x ≡ true → q (f x) ≡ true) → (xs : List A) → all p xs ≡ true
+    → all q (map f xs) ≡ true
+all-map p q f h [] e = refl
+all-map p q f h (x ∷ xs) e =
+    let (here, rest) = and-parts (p x) (all p xs) e in and-yes (q (f x)) (all q (map f xs)) (h x here) (all-map p q f h xs rest)

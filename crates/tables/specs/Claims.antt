@@ -43,7 +43,7 @@ pub record BlanksDiffer (file other : List ℕ) : Type 0 where
   pub same-marks : (k : ℕ) → k < cellCount file → markOf file k ≡ markOf other k
   pub same-values : (k : ℕ) → k < cellCount file → markOf file k ≡ 0 → valueBits file k ≡ valueBits other k
 
--- all that an answer is made from; that the answers of all calls are the same is BlanksClaim of the crate translation
+-- all that an answer is made from; that the answers of the calls are the same is BlanksClaim of the crate translation, and of EXPORT in ExportClaim of lines
 pub record SameTables (file other : List ℕ) : Type 0 where
   pub refusals : tablesRefusals file ≡ tablesRefusals other
   pub columns : columnsOf file ≡ columnsOf other

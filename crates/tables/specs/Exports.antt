@@ -1,4 +1,5 @@
 -- What the C functions give back: a number that is 0 or a refusal's, and the answer through pointers; a refusal leaves what they point to as it was.
+use mathlib.Core.Path.{_≡_}
 use mathlib.Core.Bool.{Bool, true, false}
 use Prim.Native.Nat.{ℕ}
 use Rattle.tables.specs.Refusals.{Answer, Refused, Given}
@@ -22,3 +23,7 @@ numberAfter f (Refused n) before = before
 abbrev pub isGiven : {A : Type 0} → Answer A → Bool
 isGiven (Given x) = true
 isGiven (Refused n) = false
+
+-- what a C function returns of a call is 0 only where there is an answer: no refusal has that number
+abbrev pub ZeroIsSuccess : {A : Type 0} → Answer A → Type 0
+ZeroIsSuccess a = statusOf a ≡ 0 → isGiven a ≡ true

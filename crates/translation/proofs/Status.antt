@@ -1,37 +1,13 @@
 -- A status of 0 means that there is an answer.
-use mathlib.Core.Path.{_≡_, refl}
-use mathlib.Core.Bool.{Bool, true, false}
 use mathlib.Core.List.{List, [], _∷_, _++_}
-use mathlib.Core.Option.{Option, none, some}
-use Prim.Native.Nat.{ℕ, _<_}
+use Prim.Native.Nat.{ℕ}
 use native.Mathlib.Omega.{arith}
-use Rattle.tables.specs.Refusals.{Refusal, _if_, firstApplying, unless, lend, lendUnless, tablesRefusals, rowRefusal}
+use Rattle.tables.specs.Refusals.{Refusal, firstApplying, lend, tablesRefusals, rowRefusal}
+use Rattle.tables.proofs.Status.{Above, nothing-found, also-above, looked, lent, room-above}
 use Rattle.card.specs.Calls.{checkRefusals, gateRefusals, runRefusals, checkCall, runCall, listCall}
 use Rattle.rule.specs.Calls.{readingRefusals, judgeRefusals, readCall, judgeCall}
 use Rattle.translation.specs.Calls.{cardCall}
-use Rattle.translation.specs.Claims.{ZeroIsSuccess, StatusClaim}
-
--- a refusal that is found has a number above 0
-abbrev Above : Option ℕ → Type 0
-Above o = (n : ℕ) → o ≡ some n → 0 < n
-
-nothing-found : Above (firstApplying [])
-unfolding firstApplying
-nothing-found n e = let z : _≡_ {A = ℕ} 0 1 = cc in absurd (omega arith)
-
-also-above : (m : ℕ) (b : Bool) (rs : List Refusal) → 0 < m → Above (firstApplying rs) → Above (firstApplying ((m if b) ∷ rs))
-unfolding firstApplying
-also-above m true rs h k n e = let z : m ≡ n = cc in omega arith
-also-above m false rs h k n e = k n e
-
-looked : {A : Type 0} (o : Option ℕ) (answer : Unit {0} → A) → Above o → ZeroIsSuccess (unless o answer)
-unfolding unless
-looked none answer h e = refl
-looked (some n) answer h e = let z = h n refl in absurd (omega arith)
-
-lent : {A : Type 0} (o : Option ℕ) (answer buffer : List A) → Above o → ZeroIsSuccess (lendUnless o answer buffer .result)
-lent none answer buffer h e = refl
-lent (some n) answer buffer h e = let z = h n refl in absurd (omega arith)
+use Rattle.translation.specs.Claims.{StatusClaim}
 
 -- a list of refusals, numbered from 1 on, before others
 module _ (rs : List Refusal) (above : Above (firstApplying rs)) where
@@ -49,9 +25,6 @@ module _ (rs : List Refusal) (above : Above (firstApplying rs)) where
 row-above : (file : List ℕ) (row : ℕ) → Above (firstApplying (rowRefusal file row ∷ []))
 unfolding rowRefusal
 row-above file row = also-above 11 _ [] (omega arith) nothing-found
-
-room-above : (short : Bool) → Above (firstApplying ((12 if short) ∷ []))
-room-above short = also-above 12 short [] (omega arith) nothing-found
 
 pub status-claim : StatusClaim
 unfolding readCall judgeCall cardCall checkCall runCall listCall lend judgeRefusals checkRefusals runRefusals

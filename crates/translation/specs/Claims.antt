@@ -10,8 +10,8 @@ use Rattle.tables.specs.Lists.{keep}
 use Rattle.tables.specs.Tables.{Tables, mostRows}
 use Rattle.tables.specs.Claims.{BlanksDiffer}
 use Rattle.tables.specs.Values.{Env}
-use Rattle.tables.specs.Refusals.{Answer, Refused, Given, numbers, firstApplying, lendRefusals}
-use Rattle.tables.specs.Exports.{statusOf, isGiven}
+use Rattle.tables.specs.Refusals.{Refused, Given, numbers, firstApplying, lendRefusals}
+use Rattle.tables.specs.Exports.{isGiven, ZeroIsSuccess}
 use Rattle.card.specs.Card.{Interpretation, AsNo, AsYes, Card, answer, entries}
 use Rattle.card.specs.Sound.{mostCardBytes}
 use Rattle.card.specs.Calls.{gateRefusals, checkOrder, runOrder, listOrder, checkCall, runCall, listCall}
@@ -113,10 +113,6 @@ LaterCaseClaim = Later caseTables laterTables
 abbrev pub Demand3Claim : Type 0
 Demand3Claim = (text file : List ℕ) → Accepted text file → Demand3For text file
 
--- what a C function returns of a call is 0 only where there is an answer: no refusal has that number
-abbrev pub ZeroIsSuccess : {A : Type 0} → Answer A → Type 0
-ZeroIsSuccess a = statusOf a ≡ 0 → isGiven a ≡ true
-
 -- with so much room as include/roskudla.h names, a call that lends gives its answer where nothing else refuses it: 64 parts, 2,891 bytes of a card, 1,000 rows
 pub record RoomClaim : Type 0 where
   pub numbers : (mostParts ≡ 64) × (mostCardBytes ≡ 2891) × (mostRows ≡ 1000)
@@ -124,7 +120,7 @@ pub record RoomClaim : Type 0 where
   pub making : (text file card : List ℕ) → Accepted text file → mostCardBytes ≤ length card → isGiven (cardCall text file card .result) ≡ true
   pub listing : (card file rows : List ℕ) → firstApplying (gateRefusals card file) ≡ none → mostRows ≤ length rows → isGiven (listCall card file rows .result) ≡ true
 
--- each of the six calls: 0 is returned only where there is an answer
+-- each of the six calls of document 01: 0 is returned only where there is an answer
 pub record StatusClaim : Type 0 where
   pub reading : (text file : List ℕ) (parts : List Part) → ZeroIsSuccess (readCall text file parts .result)
   pub judging : (text file : List ℕ) (row : ℕ) → ZeroIsSuccess (judgeCall text file row)

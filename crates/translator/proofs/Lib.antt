@@ -1,4 +1,3 @@
 pub mod Sizes
 pub mod Writing
 pub mod Making
-pub mod Told

@@ -7,11 +7,12 @@ ghost use lib.ListN.{length};
 ghost use Rattle.tables.specs.Lists.{placed};
 ghost use Rattle.tables.specs.Bytes.{bytes16};
 ghost use Rattle.tables.specs.Tables.{tableCount, columnsOf};
+ghost use Rattle.cells.specs.Reasons.{madeAnswer};
 ghost use Rattle.cells.specs.Code.{Sized};
 ghost use Rattle.translation.specs.Calls.{cardCall};
-ghost use Rattle.translator.specs.Answers.{madeAnswer};
 ghost use Rattle.translator.specs.Code.{CardReady, CardWritten};
 use card::RECORD_SIZE;
+use cells::Made;
 use cells::Reason;
 use names::PART_NUMBERS;
 use parser::Parsed;
@@ -44,12 +45,6 @@ fn write_card(p: &[usize; PART_NUMBERS], file: &[u8], entries: usize, out: &mut 
     let mut kinds = [0u8; MOST_ENTRIES];
     entries::write_part(p, 0, false, false, &mut kinds, &mut out[records_at..end], 0);
     cells::put_bytes(out, kinds_at, &kinds[..entries]);
-}
-
-// How many bytes the card has, or why there is none.
-pub enum Made {
-    Bytes(usize),
-    NotMade(Reason),
 }
 
 // CARD: the card of the rule, at the start of out.

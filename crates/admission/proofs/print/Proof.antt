@@ -2,7 +2,8 @@
 use mathlib.Core.Path.{refl, ap, _∙_}
 use native.Mathlib.Omega.{arith}
 use Rattle.admission.specs.Output.{refusalText}
-use Rattle.admission.proofs.Printed.{reason-small, prints-refusal, prints-sized, prints-total, prints-few, prints-short, prints-rows}
+use Rattle.cells.proofs.Told.{reason-small}
+use Rattle.admission.proofs.Printed.{prints-refusal, prints-sized, prints-total, prints-few, prints-short, prints-rows}
 use Rattle.admission.proofs.Texts.{printed-as}
 use borrow.Author.Needs.{needs}
 use Rattle.admission.proofs.print.Statement.{statement}

@@ -1,32 +1,35 @@
--- Each turn passes a digit: those passed and those of the rest are the digits of the number.
-use mathlib.Core.Path.{_≡_, refl}
-use Prim.Native.Nat.{_+_, _≤_}
+-- The powers of ten that the number reaches, and the first that it does not.
+use Prim.Native.Nat.{_+_, _*_, _-_}
 use native.Mathlib.Omega.{arith}
-use lib.ListN.{length}
-use Rattle.numerals.specs.Numerals.{mostDigits, digitsOf}
+use Rattle.numerals.specs.Numerals.{mostDigits}
 use Rattle.numerals.proofs.Digits.{digits-few}
-use Rattle.digits.proofs.Written.{length-one, length-tenth}
+use Rattle.digits.proofs.Written.{power-some, Passed, passed-first, passed-next, passed-few, passed-all}
 use Rattle.digits.proofs.digit_count.Statement.{statement}
 use Rattle.digits.proofs.digit_count.Tie as tie
 
 abbrev Inv-loop : tie.InvT-loop
-Inv-loop n count₀ rest₀ count rest = (rest ≤ n) × (count + length (digitsOf mostDigits rest) ≡ 1 + length (digitsOf mostDigits n))
+Inv-loop n count₀ power₀ count power = Passed n count power
 
 abbrev μ-loop : tie.MeasureT-loop
-μ-loop n count₀ rest₀ count rest = rest
+μ-loop n count₀ power₀ count power = 10 * n + 10 - power
 
 loop-holds : tie.Need-loop-holds Inv-loop μ-loop
-loop-holds c = (omega arith, refl)
+loop-holds c = passed-first _
 
 add-count : tie.Need-add-count Inv-loop μ-loop
-add-count c = omega (arith, digits-few mostDigits (c .before .before .args .n))
+add-count c =
+    let start = c .before .before in
+    omega (arith, passed-few _ _ _ (start .pre) (c .before .loop .inv), digits-few mostDigits (start .args .n))
+
+loop-less : tie.Need-loop-less Inv-loop μ-loop
+loop-less c = let some = power-some (c .before .loop .inv .zeros) in let is = c .before .loop .inv .power-is in omega arith
 
 loop-again : tie.Need-loop-again Inv-loop μ-loop
-loop-again c = (omega arith, omega (arith, length-tenth (c .before .loop .rest) (omega arith) (omega arith)))
+loop-again c = passed-next _ _ _ (c .before .loop .inv) (c .loop-test .taken)
 
 returns : tie.Need-returns Inv-loop μ-loop
-returns c = omega (arith, length-one (c .before .loop .rest) (omega arith))
+returns c = passed-all _ _ _ (c .before .before .pre) (c .before .loop .inv) (omega arith)
 
 pub digit-count-spec : {M : Type 1} → statement M
 digit-count-spec =
-    tie.close (tie.spec Inv-loop μ-loop loop-holds add-count (λ c. omega arith) loop-again returns)
+    tie.close (tie.spec Inv-loop μ-loop loop-holds (λ c. omega arith) add-count loop-less loop-again returns)

@@ -1,0 +1,10 @@
+pub mod Split
+pub mod Grammar
+pub mod Orders
+pub mod Rows
+pub mod Written
+pub mod Importing
+pub mod Exporting
+pub mod Given
+pub mod Opened
+pub mod Computed

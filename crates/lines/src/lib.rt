@@ -1,0 +1,1 @@
+// What a comma file is, and what becomes of it. The definitions are in specs/.
