@@ -1,4 +1,5 @@
-"""What is measured: rules with tables and a judged row, texts, tables of growing size, and the rules that take longest. A fixed seed fills the tables."""
+"""What is measured: rules with tables and a judged row, texts, tables of growing size, comma lines, and the rules that take longest. A fixed seed fills the
+tables."""
 import random
 import typing
 
@@ -198,6 +199,41 @@ def long_texts():
 def texts():
     yield from short_texts()
     yield from long_texts()
+
+
+# ---- IMPORT and EXPORT
+
+class Lines(typing.NamedTuple):
+    """A table as (columns, rows), whose comma lines are imported with what stands behind them, and the number that IMPORT refuses them with, or None."""
+    title: str
+    table: tuple
+    behind: str
+    refusal: typing.Optional[int]
+
+    def text(self):
+        rows = self.table[1]
+        return "".join(",".join("" if cell is None else str(cell) for cell in row) + "\n" for row in rows) + self.behind
+
+
+def of_digits(draw, columns, rows, fewest, most, blanks=BLANKS):
+    """A table of numbers with so many digits, each count of digits as often, half of them below 0, with a share of blanks."""
+    def cell():
+        digits = draw.randint(fewest, most)
+        size = draw.randint(10 ** (digits - 1), min(10 ** digits, 2 ** 31) - 1)
+        return None if draw.random() < blanks else draw.choice((size, -size))
+    return columns, [[cell() for _ in range(columns)] for _ in range(rows)]
+
+
+def comma_lines():
+    """The cases of IMPORT; those that it does not refuse are exported as well."""
+    draw = random.Random(SEED)
+    yield Lines("one row of 2 columns, 1 to 4 digits, no blanks", of_digits(draw, 2, 1, 1, 4, 0), "", None)
+    yield Lines("10 rows of 4 columns, 1 to 4 digits", of_digits(draw, 4, 10, 1, 4), "", None)
+    long_table = of_digits(draw, 8, MOST_ROWS, 1, 4)
+    yield Lines("1,000 rows of 8 columns, 1 to 4 digits", long_table, "", None)
+    yield Lines("512 rows of 16 columns, ten digits, no blanks", of_digits(draw, 16, 512, 10, 10, 0), "", None)
+    yield Lines("1,000 rows of 8 blanks", (8, [[None] * 8] * MOST_ROWS), "", None)
+    yield Lines("1,001 rows of 8 columns, the last field bad", long_table, "1,2,3,4,5,6,7,x", 14)
 
 
 # ---- The longest RUN: three FROMs around one another over one table, of as many cells as fit with 1,000 rows

@@ -45,6 +45,17 @@ class Line:
                 self.times[side] = min(time, self.times.get(side, time))
 
 
+def demand_refusal(told, call, *given):
+    """An error unless the library refuses a text or lines with the number that is told of them, or not at all."""
+    try:
+        call(*given)
+        refusal = None
+    except roskudla.Refused as refused:
+        refusal = refused.number
+    if refusal != told.refusal:
+        raise programs.Different(f"the library refuses with {refusal} and not {told.refusal}: {told.title}")
+
+
 class Bench:
     """The sides: the library and the Rust implementation, by their programs, and the engines."""
 
@@ -63,14 +74,21 @@ class Bench:
     def text(self, call, text):
         """The times of READ or CARD by the same two. Another refusal than the one that is told of the text is an error."""
         source, file = text.text.encode(), generate.tables_file(cases.TEXT_TABLES)
-        try:
-            self.library.read(source, file)
-            refusal = None
-        except roskudla.Refused as refused:
-            refusal = refused.number
-        if refusal != text.refusal:
-            raise programs.Different(f"the library refuses with {refusal} and not {text.refusal}: {text.title}")
+        demand_refusal(text, self.library.read, source, file)
         return self.programs.times(call, source, file)
+
+    def imported(self, lines):
+        """The times of IMPORT by the same two. Another refusal than the one that is told of the lines is an error."""
+        source, columns = lines.text().encode(), lines.table[0]
+        demand_refusal(lines, self.library.import_lines, source, columns)
+        return self.programs.times("import", source, b"", columns)
+
+    def exported(self, lines, room):
+        """The times of EXPORT by the same two, with so much room. Other lines than those of the case are an error."""
+        file = generate.tables_file([lines.table])
+        if self.library.export_lines(file) != lines.text().encode():
+            raise programs.Different(f"the library exports other lines: {lines.title}")
+        return self.programs.times("export", b"", file, room)
 
     def wanted(self, call, case):
         """What an engine's query has to give, by the library's answer."""
@@ -99,7 +117,7 @@ class Sheet:
     """The lines of all tables. The longest RUNs are added when the rounds are over."""
 
     def __init__(self, bench):
-        self.cases, self.texts = cases.compared(), list(cases.texts())
+        self.cases, self.texts, self.lines = cases.compared(), list(cases.texts()), list(cases.comma_lines())
         self.list, self.run = (
             [Line(case.title, partial(bench.call, call, case), partial(bench.query, call, case)) for case in self.cases] for call in ("list", "run"))
         self.judge = [Line(case.title, partial(bench.call, "judge", case)) for case in self.cases]
@@ -108,17 +126,31 @@ class Sheet:
             growth: [Line(f"{growth.title}, {rows:,} rows", partial(bench.call, "list", growth.case(rows))) for rows in growth.row_counts]
             for growth in cases.GROWING}
         self.indexed = [Line(call.upper(), partial(bench.query, call, cases.exists(cases.MOST_ROWS), [(2, 1)])) for call in ("list", "run")]
+        self.imported = [Line(lines.title, partial(bench.imported, lines)) for lines in self.lines]
+        self.exported = [
+            Line(f"{lines.title}{what}", partial(bench.exported, lines, room or len(lines.text())))
+            for lines in self.written() for what, room in (("", roskudla.MOST_LINES_BYTES), ("; just enough room", None))]
         self.longest = []
+
+    def written(self):
+        """The cases of EXPORT. The text of one is what EXPORT writes: LF behind each line, and no spare zeros."""
+        return [lines for lines in self.lines if lines.refusal is None]
+
+    def of_lines(self):
+        """The lines of IMPORT and EXPORT."""
+        return {"IMPORT": self.imported, "EXPORT": self.exported}
 
     def named(self):
         """The lines that are compared with the Rust implementation, by the call that they are of."""
         grown = [line for lines in self.growth.values() for line in lines]
         return {
-            "LIST": self.list, "RUN": self.run, "READ": self.read, "CARD": self.card, "JUDGE": self.judge, "LIST, growth": grown, "RUN, longest": self.longest}
+            "LIST": self.list, "RUN": self.run, "READ": self.read, "CARD": self.card, "JUDGE": self.judge, "LIST, growth": grown,
+            **self.of_lines(), "RUN, longest": self.longest}
 
-    def take(self):
-        """Measures all lines once more, but for the longest RUNs."""
-        for line in [line for lines in self.named().values() for line in lines] + self.indexed:
+    def take(self, comma):
+        """Measures once more those of IMPORT and EXPORT alone, or all but the longest RUNs."""
+        named = self.of_lines() if comma else self.named()
+        for line in [line for lines in named.values() for line in lines] + ([] if comma else self.indexed):
             line.take()
 
 
@@ -139,12 +171,32 @@ def compared_table(lines, sides):
     return shown.table(headings, [[line.title, *with_ratios(line.times, sides)] for line in lines])
 
 
+def titled(told):
+    """The title of a text or of lines, with their refusal."""
+    return told.title if told.refusal is None else f"{told.title} (refusal {told.refusal})"
+
+
 def texts_table(sheet):
     rows = []
     for text, read, card in zip(sheet.texts, sheet.read, sheet.card):
-        title = text.title if text.refusal is None else f"{text.title} (refusal {text.refusal})"
-        rows.append([title, f"{len(text.text):,}", *with_ratios(read.times, ["Rust"]), *with_ratios(card.times, ["Rust"])])
+        rows.append([titled(text), f"{len(text.text):,}", *with_ratios(read.times, ["Rust"]), *with_ratios(card.times, ["Rust"])])
     return shown.table(["text", "bytes", "READ", "Rust", "READ / Rust", "CARD", "Rust", "CARD / Rust"], rows)
+
+
+def lines_table(heading, lines, titles, texts):
+    """Lines of IMPORT or EXPORT, with the bytes of their comma lines."""
+    rows = [[title, f"{len(text):,}", *with_ratios(line.times, ["Rust"])] for line, title, text in zip(lines, titles, texts)]
+    return shown.table([heading, "bytes", "library", "Rust", "library / Rust"], rows)
+
+
+def imported_table(sheet):
+    return lines_table("comma lines", sheet.imported, map(titled, sheet.lines), (lines.text() for lines in sheet.lines))
+
+
+def exported_table(sheet):
+    """Each table has two lines: with room for any lines, and with just enough."""
+    texts = (lines.text() for lines in sheet.written() for _ in range(2))
+    return lines_table("table", sheet.exported, (line.title for line in sheet.exported), texts)
 
 
 def growth_table(sheet):
@@ -209,6 +261,11 @@ def machine(sql_engines):
     return f"{os.cpu_count()} cores, {processor}, Linux; {', '.join(versions)}"
 
 
+def show_lines(sheet):
+    print("### IMPORT\n\n" + imported_table(sheet))
+    print("### EXPORT\n\n" + exported_table(sheet))
+
+
 def show(sheet):
     print("### LIST\n\n" + compared_table(sheet.list, programs.SIDES[1:] + ENGINES))
     print("### RUN of one row\n\n" + compared_table(sheet.run, programs.SIDES[1:] + ENGINES))
@@ -216,23 +273,27 @@ def show(sheet):
     print("### READ and CARD\n\n" + texts_table(sheet))
     print("### JUDGE of one row\n\n" + compared_table(sheet.judge, programs.SIDES[1:]))
     print("### Growth of LIST\n\n" + growth_table(sheet))
+    show_lines(sheet)
 
 
 def say(what):
     print(f"bench: {what}", file=sys.stderr, flush=True)
 
 
-def measure(quick, whole):
+def measure(quick, whole, comma):
     with contextlib.ExitStack() as afterwards:
         folder = pathlib.Path(afterwards.enter_context(tempfile.TemporaryDirectory()))
-        sql_engines = [engines.Sqlite(folder)] + ([] if quick else [afterwards.enter_context(engines.postgres())])
+        sql_engines = [] if comma else [engines.Sqlite(folder)] + ([] if quick else [afterwards.enter_context(engines.postgres())])
         bench = Bench(programs.Programs(folder, programs.PADDINGS[:1 if quick else None]), sql_engines)
         print(f"Machine: {machine(sql_engines)}. Load at the start: {os.getloadavg()[0]:.1f}.\n", flush=True)
         sheet = Sheet(bench)
         rounds = 1 if quick else ROUNDS
         for number in range(rounds):
             say(f"round {number + 1} of {rounds}, load {os.getloadavg()[0]:.1f}")
-            sheet.take()
+            sheet.take(comma)
+        if comma:
+            show_lines(sheet)
+            return
         show(sheet)
         if not quick:
             say("the longest RUNs")
@@ -244,11 +305,12 @@ def main():
     parser = argparse.ArgumentParser(prog="bench/run", description="Measures the calls and prints tables in Markdown.")
     parser.add_argument("--quick", action="store_true", help="one round, no PostgreSQL, not the longest RUNs")
     parser.add_argument("--worst", action="store_true", help="measure the longest RUN whole, which takes a quarter of an hour and more")
+    parser.add_argument("--lines", action="store_true", help="IMPORT and EXPORT alone, without the engines")
     words = parser.parse_args()
     for ending in (signal.SIGTERM, signal.SIGHUP):
         signal.signal(ending, lambda number, _: sys.exit(128 + number))  # so that PostgreSQL's server is stopped too
     try:
-        measure(words.quick, words.worst)
+        measure(words.quick, words.worst, words.lines)
     except (programs.Different, engines.EngineError, engines.ServerError) as error:
         say(error)
         return 1

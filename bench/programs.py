@@ -32,14 +32,17 @@ class Programs:
         self.folder = folder
         self.programs = list(built(folder, paddings))
 
-    def times(self, call, source, tables, row=0, most=None):
-        """The best time of a call in nanoseconds by each side, over the programs, or the first ones. Each of them compares the answers first."""
+    def times(self, call, source, tables, number=0, most=None):
+        """The best time of a call in nanoseconds by each side, over the programs, or the first ones. Each of them compares the answers first.
+
+        `number`: a row, the columns for IMPORT, or the room for EXPORT.
+        """
         source_path, tables_path = self.folder / "source", self.folder / "tables"
         source_path.write_bytes(source)
         tables_path.write_bytes(tables)
         pairs = []
         for program in self.programs[:most]:
-            done = subprocess.run([str(program), call, str(source_path), str(tables_path), str(row)], capture_output=True, text=True)
+            done = subprocess.run([str(program), call, str(source_path), str(tables_path), str(number)], capture_output=True, text=True)
             if done.returncode != 0:
                 raise Different(f"{call}: {done.stderr}")
             pairs.append([float(word) for word in done.stdout.split()])

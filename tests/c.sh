@@ -1,7 +1,7 @@
 #!/usr/bin/env bash
 # The C interface: include/roskudla.h with both archives, as C and as C++; that headers with another struct are told apart; how much stack the calls take;
 # that the archives have no state and call memcpy and memset alone; and that the gate's archive exports its three calls and has symbols of the gate's crates
-# alone, while the whole archive, looked at in the same way, has some of crates that read rules.
+# alone, while the whole archive, looked at in the same way, has some of crates that read rules and comma lines.
 set -u
 cd "$(dirname "$0")/.." || exit 1
 work=$(mktemp -d)
@@ -61,11 +61,11 @@ asked_by() { nm -u "target/staticlib/lib$1.a" | awk '$1 == "U" { print $2 }' | s
 of_the_gate="^($(sed -n 's/^gate: //p' crates.txt | tr ' ' '|')|gate|roskudla_gate)\$" # the gate's crate and all that it is made of
 
 [ "$(exported_by roskudla_gate)" = 'roskudla_check roskudla_list roskudla_run ' ] || complain "libroskudla_gate.a gives: $(exported_by roskudla_gate)"
-[ "$(exported_by roskudla)" = 'roskudla_card roskudla_check roskudla_judge roskudla_list roskudla_read roskudla_run ' ] \
-  || complain "libroskudla.a gives: $(exported_by roskudla)"
+all_calls='roskudla_card roskudla_check roskudla_export roskudla_import roskudla_judge roskudla_list roskudla_read roskudla_run '
+[ "$(exported_by roskudla)" = "$all_calls" ] || complain "libroskudla.a gives: $(exported_by roskudla)"
 crates_in roskudla_gate | grep -qx runner || complain 'libroskudla_gate.a: no symbol of the runner was found'
 crates_in roskudla_gate | grep -vE "$of_the_gate" && complain 'libroskudla_gate.a has symbols of these crates, which are not the gate'"'"'s'
-for crate in parser grammar; do
+for crate in parser grammar importer; do
   crates_in roskudla | grep -vE "$of_the_gate" | grep -qx "$crate" || complain "libroskudla.a: no symbol of $crate was found"
 done
 for crate in roskudla roskudla_gate; do

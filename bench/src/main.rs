@@ -1,8 +1,9 @@
-//! bench CALL SOURCE TABLES ROW: the best time of one call in nanoseconds, by the library and by the reference, taken by turns.
+//! bench CALL SOURCE TABLES NUMBER: the best time of one call in nanoseconds, by the library and by the reference, taken by turns.
 //!
-//! CALL is read, card or judge, with a rule's text as SOURCE, or run or list, with a card; ROW is what judge and run are asked for. A call is timed whole, with
-//! the checks of its input. Both sides have to give the same answer first.
-use roskudla::{MOST_CARD_BYTES, MOST_PARTS, MOST_ROWS};
+//! CALL is read, card or judge, with a rule's text as SOURCE, or run or list, with a card, or import, with comma lines; or export, which has none. NUMBER is the
+//! row that judge and run are asked for, the columns that import is told, or the bytes that export is lent. A call is timed whole, with the checks of its
+//! input. Both sides have to give the same answer first.
+use roskudla::{ffi, Refusal, MOST_CARD_BYTES, MOST_PARTS, MOST_ROWS, MOST_TABLE_BYTES};
 use std::fmt::Debug;
 use std::hint::black_box;
 use std::time::{Duration, Instant};
@@ -46,7 +47,7 @@ fn show_times<A, B>(mut library: impl FnMut() -> A, mut reference: impl FnMut() 
 }
 
 /// Ends the program unless both sides answer the same: the library's refusals and parts have types of their own, which are written like the reference's.
-fn demand_same<A: Debug, B: Debug>(library: Result<A, roskudla::Refusal>, reference: Result<B, reference::Refusal>) {
+fn demand_same<A: Debug, B: Debug>(library: Result<A, Refusal>, reference: Result<B, reference::Refusal>) {
     let (got, wanted) = (format!("{:?}", library.map_err(|refusal| refusal.0)), format!("{reference:?}"));
     if got != wanted {
         eprintln!("the library answers {got}, the reference {wanted}");
@@ -85,8 +86,35 @@ fn show_judge(text: &[u8], tables: &[u8], row: usize) {
     show_times(|| roskudla::judge(text, tables, row), || reference::judge(text, tables, row));
 }
 
+/// IMPORT or EXPORT of the library, with the buffer that it is lent: its wrapper makes one for each call, and the reference makes none.
+fn lent(call: impl Fn(*mut u8, usize, *mut usize) -> u32, buffer: &mut [u8]) -> Result<usize, Refusal> {
+    let mut length = 0;
+    match call(buffer.as_mut_ptr(), buffer.len(), &mut length) {
+        0 => Ok(length),
+        number => Err(Refusal(number)),
+    }
+}
+
+fn show_import(lines: &[u8], columns: usize) {
+    let (mut tables, mut others) = ([0; MOST_TABLE_BYTES], [0; MOST_TABLE_BYTES]);
+    // sound: `lent` hands on a buffer and a number that nothing else reaches, and the lines have the length beside them
+    let call = |buffer, room, length| unsafe { ffi::roskudla_import(lines.as_ptr(), lines.len(), columns, buffer, room, length) };
+    let (length, wanted) = (lent(call, &mut tables), reference::import(lines, columns, &mut others));
+    demand_same(length.map(|length| &tables[..length]), wanted.map(|length| &others[..length]));
+    show_times(|| lent(call, &mut tables), || reference::import(lines, columns, &mut others));
+}
+
+fn show_export(tables: &[u8], room: usize) {
+    let (mut lines, mut others) = (vec![0; room], vec![0; room]);
+    // sound: as above
+    let call = |buffer, room, length| unsafe { ffi::roskudla_export(tables.as_ptr(), tables.len(), buffer, room, length) };
+    let (length, wanted) = (lent(call, &mut lines), reference::export(tables, &mut others));
+    demand_same(length.map(|length| &lines[..length]), wanted.map(|length| &others[..length]));
+    show_times(|| lent(call, &mut lines), || reference::export(tables, &mut others));
+}
+
 fn usage() -> ! {
-    eprintln!("bench CALL SOURCE TABLES ROW");
+    eprintln!("bench CALL SOURCE TABLES NUMBER");
     process::exit(2)
 }
 
@@ -95,16 +123,18 @@ fn main() {
     if words.is_empty() {
         padding();
     }
-    let [_, name, source, tables, row] = &words[..] else { usage() };
-    let source = fs::read(source).expect("the file of a text or a card");
+    let [_, name, source, tables, number] = &words[..] else { usage() };
+    let source = fs::read(source).expect("the file of a text, a card or comma lines");
     let tables = fs::read(tables).expect("a tables file");
-    let row = row.parse().expect("the number of a row");
+    let number = number.parse().expect("a row, a number of columns or a length");
     match &name[..] {
         "read" => show_read(&source, &tables),
         "card" => show_card(&source, &tables),
-        "judge" => show_judge(&source, &tables, row),
-        "run" => show_run(&source, &tables, row),
+        "judge" => show_judge(&source, &tables, number),
+        "run" => show_run(&source, &tables, number),
         "list" => show_list(&source, &tables),
+        "import" => show_import(&source, number),
+        "export" => show_export(&tables, number),
         _ => usage(),
     }
 }

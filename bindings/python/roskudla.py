@@ -1,12 +1,17 @@
-"""The six calls of Roskudla: entry rules with blanks, turned into cards that answer yes or no.
+"""The eight calls of Roskudla: entry rules with blanks, turned into cards that answer yes or no.
 
     import roskudla
     calls = roskudla.Calls("target/shared/libroskudla.so")
     card = calls.card(b"m.2 > 0 OR m.2 IS NULL", tables)
     calls.list_rows(card, tables)
 
-A rule's text, a tables file and a card are bytes. A refused call raises Refused, with the refusal's number. `bindings/build` links the shared object from the
-proved archive. What a call takes of a thread's stack, and how its time grows, is in include/roskudla.h.
+A table comes from the till as comma lines, and goes back so:
+
+    tables = calls.import_lines(b"1,5\\r\\n2,\\r\\n", 2)
+    calls.export_lines(tables)
+
+A rule's text, a tables file, a card and comma lines are bytes. A refused call raises Refused, with the refusal's number. `bindings/build` links the shared
+object from the proved archive. What a call takes of a thread's stack, and how its time grows, is in include/roskudla.h.
 """
 import ctypes
 import enum
@@ -16,6 +21,8 @@ import typing
 MOST_PARTS = 64
 MOST_CARD_BYTES = 2891
 MOST_ROWS = 1000
+MOST_TABLE_BYTES = 40964
+MOST_LINES_BYTES = 98304
 
 REASONS = {
     1: "tables: sizes or length wrong",
@@ -31,6 +38,8 @@ REASONS = {
     11: "the row is not in table 1",
     12: "what was lent is shorter than the whole answer",
     13: "the card would have over 192 entries",
+    14: "comma lines: a bad field, a wrong field count, or columns not 1 to 16",
+    15: "comma lines: over 1,000 rows or 8,192 cells",
 }
 
 
@@ -90,6 +99,8 @@ ARGUMENTS = {
     "check": BYTES,
     "run": BYTES + BYTES + ANSWERED,
     "list": BYTES + BYTES + LENT,
+    "import": BYTES + (ctypes.c_size_t,) + LENT,
+    "export": BYTES + LENT,
 }
 
 GATE_CALLS = ("check", "run", "list")
@@ -112,12 +123,12 @@ def sliced(some):
     return some, len(some)
 
 
-def row_for_c(row):
-    """A row's number for C. One that C's sizes cannot hold is no row of any table, and neither is the largest that they hold."""
-    if isinstance(row, bool):
-        raise TypeError("a row is a whole number, not a bool")
-    row = operator.index(row)
-    return row if 0 <= row <= LARGEST_SIZE else LARGEST_SIZE
+def size_for_c(number, what):
+    """A row's number, or a number of columns, for C. One that C's sizes cannot hold is refused by every call, and so is the largest that they hold."""
+    if isinstance(number, bool):
+        raise TypeError(f"{what} is a whole number, not a bool")
+    number = operator.index(number)
+    return number if 0 <= number <= LARGEST_SIZE else LARGEST_SIZE
 
 
 class Calls:
@@ -135,22 +146,22 @@ class Calls:
         if status != 0:
             raise Refused(status)
 
-    def lent(self, call, source, tables, element, room):
-        """What a call writes to a list with room for so many elements of a type."""
+    def lent(self, call, given, element, room):
+        """What a call writes to a list with room for so many elements of a type, from the arguments that it is given before it."""
         elements = (element * room)()
         count = ctypes.c_size_t()
-        self.called(call, *sliced(source), *sliced(tables), elements, room, ctypes.byref(count))
+        self.called(call, *given, elements, room, ctypes.byref(count))
         return elements[:count.value]
 
     def answered(self, call, source, tables, row):
         """The number that a call answers on a row."""
         answer = ctypes.c_uint8()
-        self.called(call, *sliced(source), *sliced(tables), row_for_c(row), ctypes.byref(answer))
+        self.called(call, *sliced(source), *sliced(tables), size_for_c(row, "a row"), ctypes.byref(answer))
         return answer.value
 
     def read(self, text, tables):
         """READ: the parts of a rule. Refusals, in this order: 1 to 8, 13."""
-        parts = self.lent("read", text, tables, PartLayout, MOST_PARTS)
+        parts = self.lent("read", sliced(text) + sliced(tables), PartLayout, MOST_PARTS)
         return [Part(part.kind, part.comparison, part.table, part.end, Value(part.left.tag, part.left.number), Value(part.right.tag, part.right.number))
                 for part in parts]
 
@@ -160,7 +171,7 @@ class Calls:
 
     def card(self, text, tables):
         """CARD: the card of a rule. Refusals, in this order: 1 to 8, 13."""
-        return bytes(self.lent("card", text, tables, ctypes.c_uint8, MOST_CARD_BYTES))
+        return bytes(self.lent("card", sliced(text) + sliced(tables), ctypes.c_uint8, MOST_CARD_BYTES))
 
     def check(self, card):
         """CHECK: nothing where a card is sound. Refusal 9."""
@@ -172,4 +183,13 @@ class Calls:
 
     def list_rows(self, card, tables):
         """LIST: the rows of table 1 that a card says yes to, rising. Refusals, in this order: 1, 2, 9, 10."""
-        return self.lent("list", card, tables, ctypes.c_uint32, MOST_ROWS)
+        return self.lent("list", sliced(card) + sliced(tables), ctypes.c_uint32, MOST_ROWS)
+
+    def import_lines(self, lines: bytes, columns: int) -> bytes:
+        """IMPORT: comma lines as a tables file with one table, of so many columns. Refusals, in this order: 14, 15."""
+        given = sliced(lines) + (size_for_c(columns, "a number of columns"),)
+        return bytes(self.lent("import", given, ctypes.c_uint8, MOST_TABLE_BYTES))
+
+    def export_lines(self, tables: bytes) -> bytes:
+        """EXPORT: table 1 of a tables file as comma lines. Refusals, in this order: 1, 2."""
+        return bytes(self.lent("export", sliced(tables), ctypes.c_uint8, MOST_LINES_BYTES))

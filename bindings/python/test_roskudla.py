@@ -1,5 +1,6 @@
-"""The wrapper on document 01's own examples: its cases, its worked card and parts, and each refusal that can reach it; on document 02's truth tests; the gate's
-library alone; and arguments that are no bytes or no row. Then that the header, the wrapper for Rust and this one give the same numbers, reasons and sizes."""
+"""The wrapper on document 01's own examples: its cases, its worked card and parts, and each refusal that can reach it; on document 02's truth tests and comma
+lines; the gate's library alone; and arguments that are no bytes, no row or no number of columns. Then that the header, the wrapper for Rust and this one give
+the same numbers, reasons and sizes."""
 import array
 import ctypes.util
 import pathlib
@@ -14,6 +15,7 @@ from roskudla import Part, Truth, Value
 ROOT = pathlib.Path(__file__).resolve().parents[2]
 sys.path[:0] = [str(ROOT / "tests" / "calls"), str(ROOT / "tests" / "model")]
 
+import paper  # noqa: E402
 from paper import CASE_TABLES, SUM_191, SUM_192, UNKNOWN_CARD, UNKNOWN_TEXT, within_exists, within_unknowns  # noqa: E402
 from test_model import CASES, WORKED_CARD  # noqa: E402
 
@@ -110,6 +112,44 @@ class WholeLibrary(unittest.TestCase):
         self.refused(13, self.calls.judge, within_unknowns(7), CASE_TABLES, 99)
         self.refused(11, self.calls.judge, within_unknowns(6), CASE_TABLES, 99)
 
+    def test_imports(self):
+        for lines, columns, answer in paper.IMPORTS:
+            if isinstance(answer, int):
+                self.refused(answer, self.calls.import_lines, lines, columns)
+            else:
+                self.assertEqual(self.calls.import_lines(lines, columns), paper.table(columns, answer), lines[:80])
+
+    def test_exports(self):
+        for file, answer in paper.EXPORTS:
+            if isinstance(answer, int):
+                self.refused(answer, self.calls.export_lines, file)
+            else:
+                self.assertEqual(self.calls.export_lines(file), answer)
+
+    def test_there_and_back(self):
+        """Table 1 alone comes back, with 0 under each blank, and cards admit the same rows of it."""
+        for file, wanted in paper.THERE_AND_BACK:
+            back = self.calls.import_lines(self.calls.export_lines(file), file[1])
+            self.assertEqual(back, wanted)
+            self.assertEqual(self.calls.import_lines(self.calls.export_lines(back), file[1]), wanted)
+            for text in (b"m.1 IS NULL", b"m.1 > 0", b"NOT m.1 > 0"):
+                admitted = self.calls.list_rows(self.calls.card(text, file), file)
+                self.assertEqual(self.calls.list_rows(self.calls.card(text, back), back), admitted)
+
+    def test_longest_comma_answers(self):
+        """The rooms are exactly enough: 8,192 cells take five bytes each besides the sizes, and lines of the lowest number twelve for each."""
+        lines = (b",".join([b"-2147483648"] * 16) + b"\n") * 512
+        tables = self.calls.import_lines(lines, 16)
+        self.assertEqual(len(tables), roskudla.MOST_TABLE_BYTES)
+        self.assertEqual(len(lines), roskudla.MOST_LINES_BYTES)
+        self.assertEqual(self.calls.export_lines(tables), lines)
+
+    def test_columns_that_are_none(self):
+        """A number that C's sizes would cut to one that is allowed is refused as any other that is not."""
+        for columns in (0, -1, 17, 2 ** 32 + 1, 2 ** 64, 2 ** 64 + 1, 2 ** 200, 1 - 2 ** 64):
+            self.refused(14, self.calls.import_lines, b"1", columns)
+            self.refused(14, self.calls.import_lines, b"", columns)
+
     def test_rows_that_are_none(self):
         """A number that C's sizes would cut to a row of the table is refused as any other that is no row."""
         card = self.calls.card(b"1 = 1", CASE_TABLES)
@@ -122,16 +162,24 @@ class WholeLibrary(unittest.TestCase):
             self.assertRaises(TypeError, self.calls.read, wrong, CASE_TABLES)
             self.assertRaises(TypeError, self.calls.read, b"1 = 1", wrong)
             self.assertRaises(TypeError, self.calls.check, wrong)
+            self.assertRaises(TypeError, self.calls.import_lines, wrong, 1)
+            self.assertRaises(TypeError, self.calls.export_lines, wrong)
         self.assertEqual(self.calls.card(bytearray(b"NOT m.2 < 5"), memoryview(WORKED_TABLES)), WORKED_CARD)
+        self.assertEqual(self.calls.export_lines(bytearray(self.calls.import_lines(memoryview(b"1,"), 2))), b"1,\n")
 
     def test_no_row(self):
         for wrong in (0.0, "0", None, True):
             self.assertRaises(TypeError, self.calls.judge, b"1 = 1", CASE_TABLES, wrong)
 
+    def test_no_columns(self):
+        for wrong in (1.0, "1", None, True):
+            self.assertRaises(TypeError, self.calls.import_lines, b"1", wrong)
+
     def test_refused_is_told(self):
         refused = roskudla.Refused(6)
         self.assertEqual(str(refused), "refused 6: the text does not follow the grammar")
         self.assertEqual(str(pickle.loads(pickle.dumps(refused))), str(refused))
+        self.assertEqual(str(roskudla.Refused(15)), "refused 15: comma lines: over 1,000 rows or 8,192 cells")
 
     def test_other_library(self):
         self.assertRaises(AttributeError, roskudla.Calls, ctypes.util.find_library("c"))
@@ -146,6 +194,8 @@ class GateAlone(unittest.TestCase):
         self.assertEqual([calls.run(WORKED_CARD, tables, row) for row in range(3)], [True, False, True])
         self.assertEqual(calls.list_rows(WORKED_CARD, tables), [0, 2])
         self.assertRaises(NotImplementedError, calls.judge, b"1 = 1", CASE_TABLES, 0)
+        self.assertRaises(NotImplementedError, calls.import_lines, b"1", 1)
+        self.assertRaises(NotImplementedError, calls.export_lines, tables)
 
 
 class InterfacesAgree(unittest.TestCase):
@@ -154,13 +204,14 @@ class InterfacesAgree(unittest.TestCase):
         self.rust = (ROOT / "bindings" / "rust" / "src" / "lib.rs").read_text()
 
     def test_reasons(self):
-        in_header = re.findall(r"ROSKUDLA_[A-Z]+ = ([1-9][0-9]*),? *\/\* (.*?) \*\/", self.header)
+        in_header = re.findall(r"ROSKUDLA_[A-Z_]+ = ([1-9][0-9]*),? *\/\* (.*?) \*\/", self.header)
         in_rust = re.findall(r'([0-9]+) => "(.*?)",', self.rust)
         for found in (in_header, in_rust):
             self.assertEqual({int(number): reason for number, reason in found}, roskudla.REASONS)
 
     def test_sizes(self):
-        sizes = {name: getattr(roskudla, name) for name in ("MOST_PARTS", "MOST_CARD_BYTES", "MOST_ROWS")}
+        sizes = {name: getattr(roskudla, name) for name in dir(roskudla) if name.startswith("MOST_")}
+        self.assertEqual(len(sizes), 5)
         in_header = re.findall(r"#define ROSKUDLA_(MOST_[A-Z_]+) ([0-9]+)", self.header)
         in_rust = re.findall(r"pub const (MOST_[A-Z_]+): usize = ([0-9]+);", self.rust)
         for found in (in_header, in_rust):

@@ -1,5 +1,5 @@
-/* The six calls from C: document 01's cases and worked card, the examples of its refusals, document 02's truth tests and their card, and buffers around and
- * below what is needed. */
+/* The eight calls from C: document 01's cases and worked card, the examples of its refusals, document 02's truth tests and their card, and its comma lines,
+ * there and back; and buffers around and below what is needed. */
 #include "expect.h"
 #include <stdlib.h>
 
@@ -251,6 +251,166 @@ static void most_entries(void) {
     free(text);
 }
 
+/* comma lines, a number of columns, and the answer of IMPORT: its number of refusal, or rows and the bytes of the file behind its four bytes of sizes */
+static const struct import_case { const char *lines; size_t columns; uint32_t status; size_t rows; const char *cells; } imports[] = {
+    {"", 1, ROSKUDLA_OK, 0, ""},
+    {"", 16, ROSKUDLA_OK, 0, ""},
+    {"\n", 1, ROSKUDLA_OK, 1, "\0\0\0\0" "\1"},
+    {"\r\n", 1, ROSKUDLA_OK, 1, "\0\0\0\0" "\1"},
+    {"1", 1, ROSKUDLA_OK, 1, "\1\0\0\0" "\0"},
+    {"1\n", 1, ROSKUDLA_OK, 1, "\1\0\0\0" "\0"},
+    {"1\r\n", 1, ROSKUDLA_OK, 1, "\1\0\0\0" "\0"},
+    {"1\n\n", 1, ROSKUDLA_OK, 2, "\1\0\0\0" "\0\0\0\0" "\0\1"},
+    {",", 2, ROSKUDLA_OK, 1, "\0\0\0\0" "\0\0\0\0" "\1\1"},
+    {"-0,007\r\n,", 2, ROSKUDLA_OK, 2, "\0\0\0\0" "\7\0\0\0" "\0\0\0\0" "\0\0\0\0" "\0\0\1\1"},
+    {"2147483647,-2147483648\n", 2, ROSKUDLA_OK, 1, "\377\377\377\177" "\0\0\0\200" "\0\0"},
+    {"0000000001,-1\n,256", 2, ROSKUDLA_OK, 2, "\1\0\0\0" "\377\377\377\377" "\0\0\0\0" "\0\1\0\0" "\0\0\1\0"},
+    {"", 0, ROSKUDLA_FIELDS, 0, ""},
+    {"", 17, ROSKUDLA_FIELDS, 0, ""},
+    {"1", 257, ROSKUDLA_FIELDS, 0, ""},
+    {"1", (size_t)-1, ROSKUDLA_FIELDS, 0, ""},
+    {"1", ((size_t)1 << 32) + 1, ROSKUDLA_FIELDS, 0, ""},
+    {"\n", 2, ROSKUDLA_FIELDS, 0, ""},
+    {"1,2\n1", 2, ROSKUDLA_FIELDS, 0, ""},
+    {"1,2\n1,2,3", 2, ROSKUDLA_FIELDS, 0, ""},
+    {"1,", 1, ROSKUDLA_FIELDS, 0, ""},
+    {"1\r", 1, ROSKUDLA_FIELDS, 0, ""},
+    {"1\r\r\n", 1, ROSKUDLA_FIELDS, 0, ""},
+    {"+1", 1, ROSKUDLA_FIELDS, 0, ""},
+    {"1 ", 1, ROSKUDLA_FIELDS, 0, ""},
+    {" 1", 1, ROSKUDLA_FIELDS, 0, ""},
+    {"1.0", 1, ROSKUDLA_FIELDS, 0, ""},
+    {"1/", 1, ROSKUDLA_FIELDS, 0, ""},
+    {"1:", 1, ROSKUDLA_FIELDS, 0, ""},
+    {"\"1\"", 1, ROSKUDLA_FIELDS, 0, ""},
+    {"00000000001", 1, ROSKUDLA_FIELDS, 0, ""},
+    {"2147483648", 1, ROSKUDLA_FIELDS, 0, ""},
+    {"-2147483649", 1, ROSKUDLA_FIELDS, 0, ""}};
+enum { IMPORTS = sizeof imports / sizeof imports[0] };
+
+/* IMPORT into a buffer of so much room, in the middle of a larger one; what lies outside the answer, and all of it where it is refused, has to be as it was */
+static uint32_t import_into(uint8_t *buffer, size_t whole, size_t room, const char *lines, size_t lines_len, size_t columns, size_t *length) {
+    uint32_t status;
+    memset(buffer, UNTOUCHED, whole);
+    *length = 77;
+    status = roskudla_import(bytes_of(lines), lines_len, columns, buffer + 1, room, length);
+    EXPECT(buffer[0] == UNTOUCHED);
+    if (status != ROSKUDLA_OK) EXPECT(*length == 77 && untouched(buffer, whole));
+    else EXPECT(*length <= room && untouched(buffer + 1 + *length, whole - 1 - *length));
+    return status;
+}
+
+/* each of the cases, with each room up to one more than is needed; a refusal but 12 is given whatever the room */
+static void each_import(void) {
+    uint8_t buffer[4 + 5 * 4 + 3];
+    size_t number, room, length;
+    for (number = 0; number < IMPORTS; number++) {
+        const struct import_case *one = &imports[number];
+        size_t cells = one->rows * one->columns, needed = one->status == ROSKUDLA_OK ? 4 + 5 * cells : 1;
+        for (room = 0; room <= needed + 1; room++) {
+            uint32_t status = import_into(buffer, sizeof buffer, room, one->lines, strlen(one->lines), one->columns, &length);
+            if (one->status != ROSKUDLA_OK) {
+                EXPECT(status == one->status);
+            } else if (room < needed) {
+                EXPECT(status == ROSKUDLA_ROOM);
+            } else {
+                EXPECT(status == ROSKUDLA_OK && length == needed);
+                EXPECT(buffer[1] == 1 && buffer[2] == one->columns && buffer[3] == one->rows && buffer[4] == 0);
+                EXPECT(memcmp(buffer + 5, one->cells, 5 * cells) == 0);
+            }
+        }
+    }
+    EXPECT(roskudla_import(NULL, 0, 3, buffer, 4, &length) == ROSKUDLA_OK && length == 4 && memcmp(buffer, worked_tables, 4) == 0);
+    length = 77;
+    EXPECT(roskudla_import(NULL, 0, 0, NULL, 0, &length) == ROSKUDLA_FIELDS && length == 77);
+    EXPECT(roskudla_import(NULL, 0, 3, NULL, 0, &length) == ROSKUDLA_ROOM && length == 77);
+}
+
+/* a tables file, and the answer of EXPORT: its number of refusal, or the lines */
+static void one_export(const uint8_t *tables, size_t tables_len, uint32_t status, const char *lines) {
+    uint8_t buffer[64];
+    size_t needed = strlen(lines), room, length;
+    for (room = 0; room <= needed + 1; room++) {
+        uint32_t got, wanted = status;
+        if (status == ROSKUDLA_OK && room < needed) wanted = ROSKUDLA_ROOM;
+        memset(buffer, UNTOUCHED, sizeof buffer);
+        length = 77;
+        got = roskudla_export(tables, tables_len, room == 0 ? NULL : buffer + 1, room, &length);
+        EXPECT(got == wanted && buffer[0] == UNTOUCHED);
+        if (wanted != ROSKUDLA_OK) {
+            EXPECT(length == 77 && untouched(buffer, sizeof buffer));
+        } else {
+            EXPECT(length == needed && memcmp(buffer + 1, lines, needed) == 0);
+            EXPECT(untouched(buffer + 1 + needed, sizeof buffer - 1 - needed));
+        }
+    }
+}
+
+/* table 1 alone; the lowest number, 0 and a blank; other bytes than 0 below a blank; no rows; then wrong lengths, sizes and marks */
+static void each_export(void) {
+    static const uint8_t three_cells[] = {1, 3, 1, 0, 0, 0, 0, 128, 0, 0, 0, 0, 0, 0, 0, 0, 0, 0, 1};
+    static const uint8_t below_blank[] = {1, 1, 2, 0, 9, 9, 9, 9, 10, 0, 0, 0, 1, 0};
+    static const uint8_t bad_mark[] = {1, 1, 1, 0, 0, 0, 0, 0, 2}, bad_columns[] = {1, 17, 0, 0};
+    static const uint8_t bad_second[] = {2, 1, 1, 0, 1, 1, 0, 0, 0, 0, 0, 0, 0, 0, 0, 0, 2};
+    one_export(case_tables, sizeof case_tables, ROSKUDLA_OK, "1,5\n2,\n3,0\n");
+    one_export(three_cells, sizeof three_cells, ROSKUDLA_OK, "-2147483648,0,\n");
+    one_export(below_blank, sizeof below_blank, ROSKUDLA_OK, "\n10\n");
+    one_export(worked_tables, sizeof worked_tables, ROSKUDLA_OK, "");
+    one_export(NULL, 0, ROSKUDLA_TABLES, "");
+    one_export(bad_mark, sizeof bad_mark - 1, ROSKUDLA_TABLES, "");
+    one_export(bad_columns, sizeof bad_columns, ROSKUDLA_TABLES, "");
+    one_export(bad_mark, sizeof bad_mark, ROSKUDLA_MARK, "");
+    one_export(bad_second, sizeof bad_second, ROSKUDLA_MARK, "");
+}
+
+/* so many empty lines of so many columns, and what stands behind them */
+static uint32_t import_lines(size_t columns, size_t rows, const char *behind) {
+    static uint8_t buffer[ROSKUDLA_MOST_TABLE_BYTES + 2];
+    char *lines = empty_text(rows * columns + strlen(behind));
+    size_t row, length;
+    uint32_t status;
+    memset(lines, ',', rows * columns);
+    for (row = 1; row <= rows; row++) lines[row * columns - 1] = '\n';
+    strcat(lines, behind);
+    status = import_into(buffer, sizeof buffer, ROSKUDLA_MOST_TABLE_BYTES, lines, strlen(lines), columns, &length);
+    if (status == ROSKUDLA_OK) EXPECT(length == 4 + 5 * rows * columns && buffer[3] + 256 * buffer[4] == (int)rows);
+    free(lines);
+    return status;
+}
+
+/* 1,000 rows and 8,192 cells pass, and one row more is refused with 15; but with 14 where a field behind it is bad, or one too many */
+static void import_sizes(void) {
+    static const struct { size_t columns, most; } sizes[] = {{1, 1000}, {8, 1000}, {9, 910}, {16, 512}};
+    size_t number;
+    for (number = 0; number < sizeof sizes / sizeof sizes[0]; number++) {
+        size_t columns = sizes[number].columns, most = sizes[number].most;
+        EXPECT(import_lines(columns, most, "") == ROSKUDLA_OK);
+        EXPECT(import_lines(columns, most + 1, "") == ROSKUDLA_TOO_MANY);
+        EXPECT(import_lines(columns, most + 1, "x") == ROSKUDLA_FIELDS);
+        EXPECT(import_lines(columns, most + 1, ",,,,,,,,,,,,,,,,") == ROSKUDLA_FIELDS);
+    }
+    EXPECT(import_lines(1, 1000, "1") == ROSKUDLA_TOO_MANY);
+    EXPECT(import_lines(1, 65537, "") == ROSKUDLA_TOO_MANY);
+}
+
+/* the longest lines and the longest file, 8,192 cells of the lowest number: the rooms of the header are enough, and one byte less is not; there and back */
+static void most_bytes(void) {
+    static uint8_t tables[ROSKUDLA_MOST_TABLE_BYTES], lines[ROSKUDLA_MOST_LINES_BYTES + 1], again[ROSKUDLA_MOST_TABLE_BYTES + 2];
+    size_t cell, length = 77, wrong = 0;
+    memset(lines, UNTOUCHED, sizeof lines);
+    tables[0] = 1, tables[1] = 16, tables[3] = 2;
+    for (cell = 0; cell < 8192; cell++) tables[4 + 4 * cell + 3] = 128;
+    EXPECT(roskudla_export(tables, sizeof tables, lines, ROSKUDLA_MOST_LINES_BYTES - 1, &length) == ROSKUDLA_ROOM && length == 77);
+    EXPECT(untouched(lines, sizeof lines));
+    EXPECT(roskudla_export(tables, sizeof tables, lines, ROSKUDLA_MOST_LINES_BYTES, &length) == ROSKUDLA_OK);
+    EXPECT(length == ROSKUDLA_MOST_LINES_BYTES && untouched(lines + length, 1));
+    for (cell = 0; cell < 8192; cell++) wrong += memcmp(lines + 12 * cell, cell % 16 == 15 ? "-2147483648\n" : "-2147483648,", 12) != 0;
+    EXPECT(wrong == 0);
+    EXPECT(import_into(again, sizeof again, ROSKUDLA_MOST_TABLE_BYTES - 1, (char *)lines, ROSKUDLA_MOST_LINES_BYTES, 16, &length) == ROSKUDLA_ROOM);
+    EXPECT(import_into(again, sizeof again, ROSKUDLA_MOST_TABLE_BYTES, (char *)lines, ROSKUDLA_MOST_LINES_BYTES, 16, &length) == ROSKUDLA_OK);
+    EXPECT(length == ROSKUDLA_MOST_TABLE_BYTES && memcmp(again + 1, tables, length) == 0);
+}
+
 int main(void) {
     size_t number;
     for (number = 0; number < CASES; number++) one_case(cases[number].text, cases[number].values);
@@ -261,5 +421,9 @@ int main(void) {
     too_many_entries();
     most_parts();
     most_entries();
+    each_import();
+    each_export();
+    import_sizes();
+    most_bytes();
     return report("calls");
 }

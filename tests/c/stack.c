@@ -1,13 +1,17 @@
-/* How much of its stack a thread has touched after each call is within what the header says, on rules and a card that are as deep as the limits allow, in several ways. */
+/* How much of its stack a thread has touched after each call is within what the header says, on rules and a card that are as deep as the limits allow, in
+ * several ways, and on comma lines and tables that are as long as they allow. */
 #include "touched.h"
 #include "expect.h"
 
-enum { MOST_OF_RULES = 80 << 10, MOST_OF_CARDS = 40 << 10, ROW_ENTRIES = 3, PAIRS = 94, ENTRIES = ROW_ENTRIES + 2 * PAIRS + 1 };
+enum { MOST_OF_RULES = 80 << 10, MOST_OF_CARDS = 40 << 10, MOST_OF_IMPORT = 80 << 10, MOST_OF_EXPORT = 40 << 10 };
+enum { ROW_ENTRIES = 3, PAIRS = 94, ENTRIES = ROW_ENTRIES + 2 * PAIRS + 1 };
 
 static const uint8_t one_row[] = {1, 1, 1, 0, 1, 0, 0, 0, 0};
 static char text[2048];
 static uint8_t card[ROSKUDLA_MOST_CARD_BYTES];
 static size_t card_len;
+static uint8_t lines[ROSKUDLA_MOST_LINES_BYTES], tables[ROSKUDLA_MOST_TABLE_BYTES];
+static size_t lines_len, columns, tables_len;
 
 static void times(const char *word, int count) {
     while (count-- > 0) strcat(text, word);
@@ -76,6 +80,32 @@ static void deepest_card(void) {
     card_len = 4 + 15 * ENTRIES;
 }
 
+static void *import_lines(void *unused) {
+    must("import", roskudla_import(lines, lines_len, columns, tables, sizeof tables, &tables_len));
+    return unused;
+}
+
+static void *export_tables(void *unused) {
+    must("export", roskudla_export(tables, tables_len, lines, sizeof lines, &lines_len));
+    return unused;
+}
+
+/* so many rows of one field in each column, imported and exported again */
+static void lines_within(const char *field, size_t rows, size_t width) {
+    size_t of_import, of_export, length = strlen(field), cell;
+    columns = width, lines_len = 0;
+    for (cell = 1; cell <= rows * columns; cell++) {
+        memcpy(lines + lines_len, field, length);
+        lines_len += length;
+        lines[lines_len++] = cell % columns == 0 ? '\n' : ',';
+    }
+    of_import = touched(import_lines), of_export = touched(export_tables);
+    printf("stack: %zu rows of %zu times '%s': IMPORT %zu, EXPORT %zu bytes\n", rows, columns, field, of_import, of_export);
+    EXPECT(of_import <= MOST_OF_IMPORT && of_export <= MOST_OF_EXPORT);
+    EXPECT(of_import > touched(nothing) && of_export > touched(nothing));
+    EXPECT(tables_len == 4 + 5 * rows * columns && lines_len == (length + 1) * rows * columns);
+}
+
 static void rule_within(const char *name) {
     size_t of_read = touched(read_rule), of_judge = touched(judge_rule), of_card = touched(make_card);
     printf("stack: %s: READ %zu, JUDGE %zu, CARD %zu bytes\n", name, of_read, of_judge, of_card);
@@ -111,5 +141,9 @@ int main(void) {
     printf("stack: the deepest card: CHECK %zu, RUN %zu, LIST %zu bytes; a thread that calls nothing: %zu\n", of_check, of_run, of_list, of_nothing);
     EXPECT(of_check <= MOST_OF_CARDS && of_run <= MOST_OF_CARDS && of_list <= MOST_OF_CARDS);
     EXPECT(of_check > of_nothing + ENTRIES);
+    lines_within("-2147483648", 512, 16);
+    lines_within("-2147483648", 1000, 8);
+    lines_within("2147483647", 1000, 1);
+    lines_within("", 1000, 8);
     return report("stack");
 }

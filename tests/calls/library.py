@@ -1,8 +1,8 @@
 """The calls as they are built: the archives of the crates roskudla and roskudla_gate, each linked into a shared object (bindings/build) and called by ctypes.
 
-Texts, cards, tables files, lent lists and what a call writes its answer to end where a page ends that may not be touched, so that a read or a write past
-them ends the program. What stands before them is a pattern of at least a page: a call that changes any of it is an error, and so is one that changes a text,
-a card or a tables file, or that refuses and writes an answer.
+Texts, cards, comma lines, tables files, lent lists and what a call writes its answer to end where a page ends that may not be touched, so that a read or a
+write past them ends the program. What stands before them is a pattern of at least a page: a call that changes any of it is an error, and so is one that
+changes a text, a card, comma lines or a tables file, or that refuses and writes an answer.
 """
 import array
 import ctypes
@@ -64,12 +64,13 @@ class EndOfPage:
     def unchanged(self):
         """An error if any of the bytes was changed, or any of the pattern before them."""
         if self.after() != self.some:
-            raise OutsideWritten("a call changed a text, a card or a tables file")
+            raise OutsideWritten("a call changed a text, a card, comma lines or a tables file")
 
 
 MOST_SOURCE_BYTES = 1 << 13
 MOST_FILE_BYTES = 1 << 16
 MOST_LIST_BYTES = 1 << 13
+MOST_LINES_BYTES = 1 << 17
 SLICE = [ctypes.c_void_p, ctypes.c_size_t]
 UNSIGNED, BYTE, SIZE = "I", "B", "Q"
 
@@ -157,12 +158,13 @@ class Answer:
 class Calls:
     """What the calls of both libraries have in common. A library is anything that has the calls by their C names.
 
-    All but CHECK take a text or a card, and a tables file; then a lent list, and where to write a count; or a row, and where to write an answer.
+    All but CHECK, IMPORT and EXPORT take a text or a card, and a tables file; then a lent list, and where to write a count; or a row, and where to write an
+    answer. IMPORT and EXPORT take comma lines and a number of columns, or a tables file, and then a lent list and where to write a count.
     """
 
-    def __init__(self, library):
+    def __init__(self, library, most_source_bytes=MOST_SOURCE_BYTES):
         self.library = library
-        self.sources, self.files = EndOfPage(MOST_SOURCE_BYTES), EndOfPage(MOST_FILE_BYTES)
+        self.sources, self.files = EndOfPage(most_source_bytes), EndOfPage(MOST_FILE_BYTES)
         self.counts, self.answers = Answer(SIZE, 0x5A5A5A5A5A5A5A5A), Answer(BYTE, 0x5A)
 
     def call_of(self, name, *types):
@@ -179,20 +181,24 @@ class Calls:
         return self.call_of(name, *SLICE, *SLICE, ctypes.c_size_t, ctypes.c_void_p)
 
     def unchanged(self):
-        """An error if a call changed its text or card, or its tables file."""
+        """An error if a call changed its text, card or lines, or its tables file."""
         self.sources.unchanged()
         self.files.unchanged()
 
-    def lend(self, call, source, file, room, elements):
-        """The answer of a call that is lent a list: a count or a refusal, and the list afterwards."""
-        status = call(*self.sources.put(source), *self.files.put(file), *room.put(elements), self.counts.put())
+    def given(self, source, file):
+        """A text or a card, and a tables file, as a call takes them."""
+        return *self.sources.put(source), *self.files.put(file)
+
+    def lend(self, call, given, room, elements):
+        """The answer of a call that is lent a list behind what it is given: a count or a refusal, and the list afterwards."""
+        status = call(*given, *room.put(elements), self.counts.put())
         self.unchanged()
         count = self.counts.after(call.__name__, status)
         return (count if status == 0 else model.Refused(status)), room.after()
 
     def ask(self, call, source, file, row, meanings):
         """The answer of a call on a row: what the number that it wrote means, or a refusal."""
-        status = call(*self.sources.put(source), *self.files.put(file), row, self.answers.put())
+        status = call(*self.given(source, file), row, self.answers.put())
         self.unchanged()
         number = self.answers.after(call.__name__, status)
         if status != 0:
@@ -213,7 +219,7 @@ class Rules(Calls):
 
     def read(self, text, file, parts):
         """READ's answer, a count of parts or a refusal, and the lent list afterwards."""
-        result, after = self.lend(self.read_call, text, file, self.parts, parts)
+        result, after = self.lend(self.read_call, self.given(text, file), self.parts, parts)
         self.parts.untouched_from(0 if isinstance(result, model.Refused) else result)
         return result, after
 
@@ -222,7 +228,7 @@ class Rules(Calls):
 
     def card(self, text, file, buffer):
         """CARD's answer, a length or a refusal, and the lent buffer afterwards."""
-        return self.lend(self.card_call, text, file, self.cards, buffer)
+        return self.lend(self.card_call, self.given(text, file), self.cards, buffer)
 
 
 class Gate(Calls):
@@ -244,4 +250,22 @@ class Gate(Calls):
 
     def list_rows(self, card, file, buffer):
         """LIST's answer, a count or a refusal, and the lent list afterwards."""
-        return self.lend(self.list_call, card, file, self.rows, buffer)
+        return self.lend(self.list_call, self.given(card, file), self.rows, buffer)
+
+
+class Lines(Calls):
+    """IMPORT and EXPORT of the library, answering as the model does."""
+
+    def __init__(self, library):
+        super().__init__(library, MOST_LINES_BYTES)
+        self.lines, self.tables = LentList(BYTE, MOST_LINES_BYTES), LentList(BYTE, MOST_FILE_BYTES)
+        self.import_call = self.call_of("roskudla_import", *SLICE, ctypes.c_size_t, *SLICE, ctypes.c_void_p)
+        self.export_call = self.call_of("roskudla_export", *SLICE, *SLICE, ctypes.c_void_p)
+
+    def import_lines(self, lines, columns, buffer):
+        """IMPORT's answer, a length or a refusal, and the lent buffer afterwards."""
+        return self.lend(self.import_call, (*self.sources.put(lines), columns), self.tables, buffer)
+
+    def export_lines(self, file, buffer):
+        """EXPORT's answer, a length or a refusal, and the lent buffer afterwards."""
+        return self.lend(self.export_call, self.files.put(file), self.lines, buffer)

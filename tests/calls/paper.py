@@ -4,6 +4,8 @@ and the nearest neighbours on the other side.
 An example is a text, a tables file and an answer: the number of the refusal, or the numbers of the parts as they stand in the list, with a stroke between
 two parts. The numbers of a part are kind, comparison, table, end, tag and number of the left value, tag and number of the right value. Cards are written in
 the same way, entry by entry: kind, end, table, comparison, tag and number of the left value, tag and number of the right value.
+
+Comma lines, of Point 2 of document 02, stand with a number of columns and the number of the refusal or the rows of the table; a blank cell is None.
 """
 import struct
 import typing
@@ -264,3 +266,123 @@ def card(columns, entries):
     head = struct.pack("<HB", len(fields), len(columns)) + bytes(columns)
     kinds = bytes(entry[0] for entry in fields)
     return head + kinds + b"".join(struct.pack("<HBBBiBi", *entry[1:]) for entry in fields)
+
+
+# ---- comma lines
+
+def table(columns, rows):
+    """The bytes of a tables file with one table, with 0 as the value of each blank cell."""
+    cells = [cell for row in rows for cell in row]
+    values = b"".join(struct.pack("<i", 0 if cell is None else cell) for cell in cells)
+    return struct.pack("<BBH", 1, columns, len(rows)) + values + bytes(cell is None for cell in cells)
+
+
+LOWEST, HIGHEST = -2147483648, 2147483647
+
+IMPORTS = (
+    # an empty file has no rows; no line begins after the last line end; the last line perhaps ends in neither
+    (b"", 1, []),
+    (b"", 16, []),
+    (b"\n", 1, [[None]]),
+    (b"\r\n", 1, [[None]]),
+    (b"\n\n", 1, [[None], [None]]),
+    (b"1", 1, [[1]]),
+    (b"1\n", 1, [[1]]),
+    (b"1\r\n", 1, [[1]]),
+    (b"1\n\n", 1, [[1], [None]]),
+    (b"1\n\r\n", 1, [[1], [None]]),
+    (b"1\n\n2", 1, [[1], [None], [2]]),
+    (b"1,2\n3,4\r\n5,6", 2, [[1, 2], [3, 4], [5, 6]]),
+    # an empty field is blank
+    (b",", 2, [[None, None]]),
+    (b",\n", 2, [[None, None]]),
+    (b",5\n2,\n", 2, [[None, 5], [2, None]]),
+    (b"," * 15 + b"\n", 16, [[None] * 16]),
+    # numbers as in document 01
+    (b"-0,007\r\n,", 2, [[0, 7], [None, None]]),
+    (b"0000000001,-0000000001", 2, [[1, -1]]),
+    (b"2147483647,-2147483648", 2, [[HIGHEST, LOWEST]]),
+    (b"256,65536,16777216,-256", 4, [[256, 65536, 16777216, -256]]),
+    # 14: columns not 1 to 16
+    (b"", 0, 14),
+    (b"", 17, 14),
+    (b"1\n", 0, 14),
+    (b"," * 16, 17, 14),
+    (b"1", 257, 14),
+    (b"1", 2 ** 32 + 1, 14),
+    (b"1", 2 ** 64 - 1, 14),
+    # 14: a wrong field count
+    (b"\n", 2, 14),
+    (b"1,2\n1", 2, 14),
+    (b"1,2\n1,2,3", 2, 14),
+    (b"1,2\n\n", 2, 14),
+    (b"1,", 1, 14),
+    # 14: a bad field; a CR is part of a line end only before its LF
+    (b"1\r", 1, 14),
+    (b"\r", 1, 14),
+    (b"1\r\r\n", 1, 14),
+    (b"1\r2\n", 1, 14),
+    (b"+1", 1, 14),
+    (b"1 ", 1, 14),
+    (b" 1", 1, 14),
+    (b" ", 1, 14),
+    (b"1.0", 1, 14),
+    (b'"1"', 1, 14),
+    (b"-", 1, 14),
+    (b"1-2", 1, 14),
+    (b"1;2", 2, 14),
+    (b"00000000001", 1, 14),
+    (b"12345678901", 1, 14),
+    (b"2147483648", 1, 14),
+    (b"-2147483649", 1, 14),
+    (b"\xef\xbb\xbf1", 1, 14),
+    (b"1\0", 1, 14),
+    # 15: over 1,000 rows or 8,192 cells; 14 comes before it, wherever it stands
+    (b"1\n" * 1000, 1, [[1]] * 1000),
+    (b"\n" * 999 + b"1", 1, [[None]] * 999 + [[1]]),
+    (b"1\n" * 1001, 1, 15),
+    (b"\n" * 1001, 1, 15),
+    (b"1\n" * 1000 + b"1", 1, 15),
+    (b"1\n" * 1001 + b"x", 1, 14),
+    (b"1\n" * 1001 + b"1,2", 1, 14),
+    (b"1\n" * 1001, 0, 14),
+    (b"\n" * 65537, 1, 15),
+    ((b"," * 8 + b"\n") * 910, 9, [[None] * 9] * 910),
+    ((b"," * 8 + b"\n") * 911, 9, 15),
+    ((b"," * 8 + b"\n") * 911 + b"x", 9, 14),
+    ((b"," * 15 + b"\n") * 512, 16, [[None] * 16] * 512),
+    ((b"," * 15 + b"\n") * 513, 16, 15),
+)
+
+# tables files, and the lines of their table 1 or the number of the refusal
+EXPORTS = (
+    (table(1, [[LOWEST]]), b"-2147483648\n"),
+    (table(1, [[HIGHEST]]), b"2147483647\n"),
+    (table(1, [[0]]), b"0\n"),
+    (table(1, [[None]]), b"\n"),
+    (table(1, []), b""),
+    (table(16, []), b""),
+    (table(3, [[LOWEST, 0, None], [None, -1, 10]]), b"-2147483648,0,\n,-1,10\n"),
+    (CASE_TABLES, b"1,5\n2,\n3,0\n"),
+    (CASE_COLUMNS, b""),
+    (bytes.fromhex(ONE_CELL + "01"), b"\n"),
+    (bytes.fromhex("01 01 01 00 ff ff ff ff 01"), b"\n"),
+    (b"", 1),
+    (bytes.fromhex("00"), 1),
+    (bytes.fromhex(ONE_CELL), 1),
+    (bytes.fromhex(ONE_CELL + "00 00"), 1),
+    (bytes.fromhex("01 00 00 00"), 1),
+    (bytes.fromhex("01 11 00 00"), 1),
+    (bytes.fromhex(ONE_CELL + "02"), 2),
+    (CASE_TABLES[:-1] + b"\2", 2),
+)
+
+# a file, and what becomes of it there and back: table 1 alone, with 0 under each blank
+THERE_AND_BACK = (
+    (CASE_TABLES, table(2, [[1, 5], [2, None], [3, 0]])),
+    (CASE_COLUMNS, table(2, [])),
+    (bytes.fromhex("01 01 01 00 ff ff ff ff 01"), table(1, [[None]])),
+    (table(1, [[None], [7], [None]]), table(1, [[None], [7], [None]])),
+    (table(16, [[LOWEST] * 16] * 512), table(16, [[LOWEST] * 16] * 512)),
+    (table(1, [[None]] * 1000), table(1, [[None]] * 1000)),
+)

@@ -67,6 +67,12 @@ def each_byte(whole):
         yield whole[:place] + bytes([value]) + whole[place + 1:]
 
 
+def each_byte_put_in(whole):
+    """A byte of each value put in at each place, the end too."""
+    for place, value in itertools.product(range(len(whole) + 1), range(256)):
+        yield whole[:place] + bytes([value]) + whole[place:]
+
+
 def each_length(whole):
     """Every shorter one."""
     return (whole[:length] for length in range(len(whole)))

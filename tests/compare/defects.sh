@@ -1,13 +1,13 @@
 #!/usr/bin/env bash
 # Shows that the drawn inputs reach what matters: each defect of defects/ is put into a copy of the reference, and the comparing
-# program built with that copy must find a difference within 200,000 inputs. A defect is a file of three lines: `file:` names a file
+# program built with that copy must find a difference within 250,000 inputs. A defect is a file of three lines: `file:` names a file
 # of the reference, `old:` a text that stands in it exactly once, `new:` what stands there instead. That all of them fit is looked at first.
 #
 #   defects.sh [NAME ...]     tries the named defects, or all
 set -u
 here=$(cd "$(dirname "$0")" && pwd)
 root=$(cd "$here/../.." && pwd)
-inputs=200000
+inputs=250000
 
 # a fixed folder, so that cargo need not build everything again for each defect, nor each time
 export CARGO_TARGET_DIR="$root/target/cargo-defects/target"

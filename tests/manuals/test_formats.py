@@ -1,9 +1,9 @@
-"""docs/FORMATS.md against the library as built, and against the model of document 01 with Point 1 of document 02.
+"""docs/FORMATS.md against the library as built, and against the model of document 01 with Points 1 and 2 of document 02.
 
 The manual is read as it stands: its tables by their headers, its formulas and bytes in backticks, the clauses of a sound card by their numbers, the worked
-examples by their names in bold (File F, Cards A, B and D, Rules C and E), and its code, which is run. The bytes of a worked example are those of its table, row
-by row, and each row's meaning has to be what the bytes mean there. Every answer is asked of the model and of the library, and has to be the same. The order of
-each call's refusals is compared with the definitions, the header and the wrappers too.
+examples by their names in bold (Files F and G, Cards A, B and D, Rules C and E, Lines L and M), and its code, which is run. The bytes of a worked example are
+those of its table, row by row, and each row's meaning has to be what the bytes mean there. Every answer is asked of the model and of the library, and has to
+be the same. The order of each call's refusals is compared with the definitions, the header and the wrappers too.
 
 Exit status 0 when all of it agrees, and nothing that the manual should have is missing. Every table of the manual has to have been compared.
 """
@@ -36,9 +36,12 @@ SEED = 20261116
 DRAWN_FILES = 60
 DRAWN_CARDS = 400
 DRAWN_RULES = 400
+DRAWN_LINES = 1000
 BYTE_VALUES = range(256)
 AMPLE_ROOM = 3000
-TABLE_COUNT = 18
+AMPLE_FILE_ROOM = 65000
+AMPLE_COMMA_ROOM = 100000
+TABLE_COUNT = 24
 
 SIGNS = {"=": operator.eq, "<>": operator.ne, "<": operator.lt, "<=": operator.le, ">": operator.gt, ">=": operator.ge}
 LOWEST, HIGHEST = -2**31, 2**31 - 1
@@ -74,6 +77,9 @@ class Table(typing.NamedTuple):
 
 def row_cells(line):
     return tuple(cell.strip() for cell in line.strip().strip("|").split("|"))
+
+
+NUMBER = r"\d+(?:,\d{3})*"
 
 
 def whole_number(text):
@@ -191,6 +197,8 @@ class Model:
     check = staticmethod(model.check)
     run = staticmethod(model.run)
     rows = staticmethod(lambda sheet, file, room: answered(tuple, model.list_rows(sheet, file, room)))
+    import_lines = staticmethod(model.import_lines)
+    export_lines = staticmethod(model.export_lines)
 
 
 def answered(make, answer):
@@ -206,6 +214,7 @@ class Built:
         self.rules = library.Rules(whole)
         self.gates = (library.Gate(whole), library.Gate(library.load("roskudla_gate")))
         self.judge = self.rules.judge
+        self.lines = library.Lines(whole)
 
     @staticmethod
     def lent(call, room, ask):
@@ -227,6 +236,12 @@ class Built:
 
     def card(self, text, file, room):
         return answered(bytes, self.lent("CARD", room, functools.partial(self.rules.card, text, file)))
+
+    def import_lines(self, lines, columns, room):
+        return answered(bytes, self.lent("IMPORT", room, functools.partial(self.lines.import_lines, lines, columns)))
+
+    def export_lines(self, file, room):
+        return answered(bytes, self.lent("EXPORT", room, functools.partial(self.lines.export_lines, file)))
 
     def both(self, ask):
         first, second = (ask(gate) for gate in self.gates)
@@ -281,19 +296,25 @@ def worked_examples(manual, section):
     """The worked examples of a section whose bytes are written out."""
     found = []
     for table in manual.tables(section, "Offset", "Bytes", "Meaning"):
-        name = re.match(r"\*\*((?:File|Card) [A-Z])\.\*\* ", table.before)
+        name = re.match(r"\*\*((?:File|Card|Lines) [A-Z])\.\*\* ", table.before)
         demand(f"the name of the example before the table that starts with {table.rows[0]}", name)
         whole, rows = b"", []
         for offset, written, meaning in table.rows:
             same(f"{name[1]}, the offset of: {meaning}", int(offset), len(whole))
-            whole += from_hex(written)
-            rows.append((from_hex(written), meaning))
+            some = from_hex(written) if written else b""
+            whole += some
+            rows.append((some, meaning))
         found.append(Worked(name[1], table.before, whole, tuple(rows)))
     return found
 
 
-def file_meanings(file):
-    """The fields of a tables file with their meanings, as the manual writes them."""
+def with_minus(number):
+    """A number with the minus that the manual writes."""
+    return str(number).replace("-", "−")
+
+
+def file_meanings(file, under_blank="anything"):
+    """The fields of a tables file with their meanings, as the manual writes them, and with what it says of the value of a blank cell."""
     tables = model.tables_of(file)
     yield 1, f"T: {len(tables.columns)}"
     for number, columns in enumerate(tables.columns, 1):
@@ -303,7 +324,8 @@ def file_meanings(file):
     cell = itertools.count()
     for table, number, row in rows:
         for column, value in enumerate(row, 1):
-            yield 4, f"value of cell {next(cell)}, table {table}, row {number}, column {column}: {'anything' if value is None else value}"
+            said = under_blank if value is None else with_minus(value)
+            yield 4, f"value of cell {next(cell)}, table {table}, row {number}, column {column}: {said}"
     for table, number, row in rows:
         yield len(row), f"marks of table {table}, row {number}: {', '.join('blank' if value is None else 'present' for value in row)}"
 
@@ -1470,28 +1492,56 @@ def said_to_rise(text, calls):
     return said
 
 
+def check_falling(manual, orders, falling):
+    """What the manual says of the orders in which the numbers do not rise: of IMPORT's, and of the others."""
+    names, *numbers = manual.said(0, r"In those of ([^.]*), (\d+) comes right after (\d+), before (\d+) and (\d+)\.")
+    late, before, *behind = (int(number) for number in numbers)
+    call, *numbers = manual.said(0, r"In that of ([A-Z]+), (\d+) comes last, after (\d+) and (\d+)\.")
+    same("the orders in which the numbers do not rise", sorted([*re.findall("[A-Z]+", names), call]), sorted(falling))
+    last, *others = (int(number) for number in numbers)
+    same(f"the order of {call}", orders[call], (*others, last))
+    found = set()
+    for order in (orders[other] for other in falling - {call}):
+        place = order.index(late)
+        same(f"what {late} comes right after in {order}", order[place - 1], before)
+        found |= set(order[place + 1:])
+    same(f"what {late} comes before", found, set(behind))
+
+
 def check_orders(manual, orders):
     """The order of each call's refusals, as the manual's table has it: the same in the definitions, the model, the header and the wrappers, of which Python's
-    lends room for every answer. The manual says of exactly those orders that they rise which do, and the header and the wrappers of no other."""
+    lends room for every answer, and Rust's for those of IMPORT and EXPORT. The manual says of exactly those orders that they rise which do, and the header and
+    the wrappers of no other."""
     room_aside = {call: tuple(number for number in order if number != 12) for call, order in orders.items()}
     same("the orders in the definitions", published_orders(), orders)
     same("the orders in the model", cases.REFUSALS_OF, orders)
     rising = {call for call, order in orders.items() if order == tuple(sorted(order))}
     same("the orders that the manual says to rise", said_to_rise(manual.sections[0], orders), rising)
-    names, *numbers = manual.said(0, r"In those of ([^.]*), (\d+) comes right after (\d+), before (\d+) and (\d+)\.")
-    late, before, *behind = (int(number) for number in numbers)
-    same("the orders in which the numbers do not rise", set(re.findall("[A-Z]+", names)), set(orders) - rising)
-    found = set()
-    for order in (orders[call] for call in set(orders) - rising):
-        place = order.index(late)
-        same(f"what {late} comes right after in {order}", order[place - 1], before)
-        found |= set(order[place + 1:])
-    same(f"what {late} comes before", found, set(behind))
-    for path, wanted in ((HEADER, orders), (RUST_WRAPPER, orders), (PYTHON_WRAPPER, room_aside)):
+    check_falling(manual, orders, set(orders) - rising)
+    in_rust = orders | {call: room_aside[call] for call in cases.COMMA_CALLS}
+    for path, wanted in ((HEADER, orders), (RUST_WRAPPER, in_rust), (PYTHON_WRAPPER, room_aside)):
         text = without_breaks(path)
         same(f"the orders in {path.name}", stated_refusals(text), wanted)
         same(f"the orders that {path.name} says to rise and that do not", said_to_rise(text, orders) - rising, set())
         COUNTS["orders stated"] += len(wanted)
+
+
+def answer_where(ask, call, applying):
+    """The answer of a call to which exactly these refusals apply."""
+    if call == "CHECK":
+        return ask.check(cases.card_refused_with(applying))
+    case = cases.refusal_set_case(call, applying)
+    if call == "IMPORT":
+        return ask.import_lines(case.source, case.columns, len(case.buffer))
+    if call == "EXPORT":
+        return ask.export_lines(case.file, len(case.buffer))
+    last = case.row if call in ("JUDGE", "RUN") else len(case.buffer)
+    return getattr(ask, {"LIST": "rows"}.get(call, call.lower()))(case.source, case.file, last)
+
+
+ROOM_SENTENCE = (r"With room for (\d+) parts in READ, ([\d,]+) bytes in CARD, ([\d,]+) rows in LIST, ([\d,]+) bytes in IMPORT "
+                 r"and ([\d,]+) bytes in EXPORT no call refuses with 12\.")
+ROOMS = ("PARTS", "CARD_BYTES", "ROWS", "TABLE_BYTES", "LINES_BYTES")
 
 
 def check_calls(manual, ask, known):
@@ -1501,12 +1551,7 @@ def check_calls(manual, ask, known):
     check_orders(manual, orders)
     for call, refusals in orders.items():
         for applying in itertools.chain(itertools.combinations(refusals, 1), itertools.combinations(refusals, 2)):
-            if call == "CHECK":
-                got = ask.check(cases.card_refused_with(applying))
-            else:
-                case = cases.refusal_set_case(call, applying)
-                last = case.row if call in ("JUDGE", "RUN") else len(case.buffer)
-                got = getattr(ask, {"LIST": "rows"}.get(call, call.lower()))(case.source, case.file, last)
+            got = answer_where(ask, call, applying)
             same(f"{call} where {applying} apply", got, model.Refused(min(applying, key=refusals.index)))
             COUNTS["refusals tried"] += 1
     answers = {call: dict((word, int(number)) for number, word in re.findall(r"(\d) (\w+)", answer)) for call, _, _, answer, _ in rows}
@@ -1516,12 +1561,330 @@ def check_calls(manual, ask, known):
     same("JUDGE's answers", answers["JUDGE"], truths)
     yes_and_no = {word: plain.answered("run", model.card_bytes(entry, [1]), sized_file([(1, 1)]), 0) for word, entry in (("no", NO), ("yes", YES))}
     same("RUN's answers", answers["RUN"], yes_and_no)
-    room = manual.numbers_said(7, r"With room for (\d+) parts, ([\d,]+) bytes or ([\d,]+) rows no call refuses with 12\.")
-    defines = [int(re.search(rf"#define {name} (\d+)", HEADER.read_text())[1]) for name in
-               ("ROSKUDLA_MOST_PARTS", "ROSKUDLA_MOST_CARD_BYTES", "ROSKUDLA_MOST_ROWS")]
-    same("room that is always enough", room, defines)
+    defines = [int(re.search(rf"#define ROSKUDLA_MOST_{name} (\d+)", HEADER.read_text())[1]) for name in ROOMS]
+    same("room that is always enough", manual.numbers_said(7, ROOM_SENTENCE), defines)
     takes = {row[0]: row[2] for row in rows}
     same("the bits of LIST's numbers", re.findall(r"lent list of (\d+)-bit row numbers", takes["LIST"]), re.findall(r"uint(\d+)_t \*rows", HEADER.read_text()))
+
+
+# ---- section 8
+
+class CommaReader:
+    """Comma lines by section 8: the bytes of its table, and the limits of its sentences."""
+
+    def __init__(self, manual):
+        rows = {what: (some, written) for what, some, written in manual.table(8, "What", "Bytes", "Written").rows}
+        same("what comma lines are made of", list(rows), ["field", "minus", "digits", "comma", "LF", "CR LF"])
+        same("what a field is", rows["field"], ("", "a number, or nothing for a blank"))
+        self.minus, self.comma, self.lf, self.crlf = (from_hex(in_backticks(rows[what][0])) for what in ("minus", "comma", "LF", "CR LF"))
+        first, last = re.fullmatch(r"`(..)` to `(..)`", rows["digits"][0]).groups()
+        self.digits = bytes(range(from_hex(first)[0], from_hex(last)[0] + 1))
+        self.digit_counts = limits_in(rows["digits"][1])
+        self.numbers = manual.numbers_said(8, r"a number as in the text of a rule: (−[\d,]+) to ([\d,]+),")
+        self.columns = manual.numbers_said(8, r"the number of columns is not (\d+) to (\d+),")
+        self.most_rows, self.most_cells = manual.numbers_said(8, rf"there are over ({NUMBER}) lines, or lines × columns is over ({NUMBER})\.")
+        self.length = manual.said(8, r"The file has `([^`]*)` bytes,")
+
+    def lines(self, text):
+        """The lines of a text, without their line ends."""
+        found = []
+        while text:
+            line, end, text = text.partition(self.lf)
+            found.append((line + end).removesuffix(self.crlf).removesuffix(self.lf))
+        return found
+
+    def is_number(self, field):
+        digits = field.removeprefix(self.minus)
+        low, high = self.digit_counts
+        return low <= len(digits) <= high and not set(digits) - set(self.digits) and self.numbers[0] <= int(field) <= self.numbers[1]
+
+    def rows(self, text, columns):
+        """The rows of some lines; None where refusal 14 applies."""
+        rows = [line.split(self.comma) for line in self.lines(text)]
+        good = all(len(row) == columns and all(not field or self.is_number(field) for field in row) for row in rows)
+        if not good or not self.columns[0] <= columns <= self.columns[1]:
+            return None
+        return [[int(field) if field else None for field in row] for row in rows]
+
+    def imported(self, text, columns):
+        """IMPORT's answer with room enough."""
+        rows = self.rows(text, columns)
+        if rows is None:
+            return model.Refused(14)
+        if len(rows) > self.most_rows or len(rows) * columns > self.most_cells:
+            return model.Refused(15)
+        cells = [cell for row in rows for cell in row]
+        file = bytes([1, columns]) + len(rows).to_bytes(2, "little")
+        file += b"".join((cell or 0).to_bytes(4, "little", signed=True) for cell in cells) + bytes(cell is None for cell in cells)
+        same(f"the length of the file of {text[:40]}", len(file), worked_out(self.length, rows=len(rows), columns=columns))
+        return file
+
+    def exported(self, rows):
+        """The lines that EXPORT writes of some rows."""
+        return b"".join(self.comma.join(b"" if cell is None else str(cell).encode() for cell in row) + self.lf for row in rows)
+
+
+# what the manual names as bytes that no field may have
+OTHER_BYTES = {"a space": b" ", "a quotation mark": b'"', "a plus": b"+", "a point": b".", "a semicolon": b";", "a tab": b"\t",
+               "a byte order mark": b"\xef\xbb\xbf", "a CR that is not right before an LF": b"\r"}
+
+
+def check_other_bytes(manual, ask, reader):
+    """Each byte in front of a number, in it and behind it: what is no digit, comma, minus or line end makes the field bad, and so does all that is named."""
+    named = manual.said(8, r"Any other byte makes the field that it stands in a bad one: (.*?)\. Nothing is cut off and nothing is skipped\.")
+    same("the bytes that are named", re.split(r", (?:or )?", named), list(OTHER_BYTES))
+    for some in OTHER_BYTES.values():
+        for field in (some, some + b"12", b"1" + some + b"2", b"12" + some):
+            same(f"a field of {field}", ask.import_lines(field, 1, AMPLE_FILE_ROOM), model.Refused(14))
+    for byte, form in itertools.product(BYTE_VALUES, (b"%b", b"%b12\n", b"1%b2\n", b"12%b\n", b"12%b")):
+        for columns in (1, 2):
+            text = form % bytes([byte])
+            same(f"{text} with {columns} columns", ask.import_lines(text, columns, AMPLE_FILE_ROOM), reader.imported(text, columns))
+            COUNTS["bytes of fields tried"] += 1
+
+
+def check_drawn_lines(ask, draws, reader):
+    """Lines that are easily taken wrongly, and drawn ones, right and damaged: IMPORT's answer is what section 8 says, with just its length as room."""
+    seen = collections.Counter()
+    for text, columns in [*cases.TRAP_LINES, *(cases.drawn_lines(draws) for _ in range(DRAWN_LINES))]:
+        wanted = reader.imported(text, columns)
+        same(f"{text[:200]} with {columns} columns", ask.import_lines(text, columns, AMPLE_FILE_ROOM), wanted)
+        if not isinstance(wanted, model.Refused):
+            same("IMPORT with just room enough", ask.import_lines(text, columns, len(wanted)), wanted)
+            same("IMPORT with a byte too little", ask.import_lines(text, columns, len(wanted) - 1), model.Refused(12))
+            same("a file that IMPORT made", tables_refusal(ask, wanted), None)
+        seen[getattr(wanted, "number", None)] += 1
+    for sort, least in ((None, 300), (14, 300), (15, 1)):
+        demand(f"{sort} was drawn {seen[sort]} times", seen[sort] >= least)
+    COUNTS["drawn lines"] = seen.total()
+
+
+def check_there_and_back(ask, draws, reader):
+    """EXPORT of drawn tables, and IMPORT of what it writes: table 1 alone, with 0 under each blank. What IMPORT made comes back."""
+    for file in (generate.random_tables(draws) for _ in range(DRAWN_FILES * 3)):
+        tables = model.tables_of(file)
+        rows, columns = tables.rows_of(1), tables.columns[0]
+        lines = ask.export_lines(file, AMPLE_COMMA_ROOM)
+        same(f"the lines of {file.hex(' ')}", lines, reader.exported(rows))
+        same("the length of the lines", len(lines), sum(len(reader.exported([[cell]])) for row in rows for cell in row))
+        if lines:
+            same("EXPORT with a byte too little", ask.export_lines(file, len(lines) - 1), model.Refused(12))
+        same("EXPORT with just room enough", ask.export_lines(file, len(lines)), lines)
+        back = ask.import_lines(lines, columns, AMPLE_FILE_ROOM)
+        same("what is imported again", (model.tables_of(back), back), (model.Tables([columns], [rows]), reader.imported(lines, columns)))
+        same("the lines of what is imported again", ask.export_lines(back, AMPLE_COMMA_ROOM), lines)
+        COUNTS["tables there and back"] += 1
+
+
+def check_comma_limits(manual, ask, reader):
+    """The longest answers, and both sides of the limits."""
+    longest, size, cells, factors, total = manual.said(
+        8, rf"The longest field, `([^`]*)`, has (\d+) bytes, and there are at most ({NUMBER}) cells, so the lines have at most (.*?) = ({NUMBER}) bytes\.")
+    same("the longest field", (longest, int(size)), (str(reader.numbers[0]), max(len(str(number)) for number in reader.numbers)))
+    same("the most cells", whole_number(cells), reader.most_cells)
+    same("the factors of the longest lines", [whole_number(factor) for factor in factors.split(" × ")], [reader.most_cells, int(size) + 1])
+    rows = reader.most_cells // reader.columns[1]
+    line = ",".join([longest] * reader.columns[1]).encode()
+    file = ask.import_lines((line + reader.lf) * rows, reader.columns[1], AMPLE_FILE_ROOM)
+    same("the longest tables file", [len(file)], manual.numbers_said(8, rf"which is at most ({NUMBER})\. It is never refused"))
+    same("the longest lines", len(ask.export_lines(file, AMPLE_COMMA_ROOM)), whole_number(total))
+    lines, refusal = manual.numbers_said(8, rf"each on all lines before the next: a bad field in the last of ({NUMBER}) lines gets (\d+)\.")
+    text = reader.lf * (lines - 1)
+    answers = [ask.import_lines(some, 1, AMPLE_FILE_ROOM) for some in (text, text + b"1", text + b"x")]
+    same("rows up to the limit", (len(answers[0]), lines), (worked_out(reader.length, rows=lines - 1, columns=1), reader.most_rows + 1))
+    same("a row more, and with a bad field", answers[1:], [model.Refused(15), model.Refused(refusal)])
+    for columns in range(1, reader.columns[1] + 1):
+        rows = min(reader.most_rows, reader.most_cells // columns)
+        line = reader.comma * (columns - 1) + reader.lf
+        answers = [ask.import_lines(line * count, columns, AMPLE_FILE_ROOM) for count in (rows, rows + 1)]
+        same(f"rows of {columns} columns up to the limit", answers, [reader.imported(line * rows, columns), model.Refused(15)])
+
+
+# sentences of section 8 without numbers, which the reader above follows
+COMMA_SENTENCES = (
+    "They are RFC 4180 without quotes, and without a header line.",
+    "A field is empty, which is a blank, or a number as in the text of a rule:",
+    "A line is one field or more, with a comma between two. So a line has one field more than it has commas, "
+    "and an empty line has one field, which is empty. A line ends in LF or in CR LF; a file may have both. The last line may have no line end. "
+    "No line begins after the last line end: what stands behind it is a line only if it is not empty. A file without bytes has no lines.",
+    "The number of a present cell has no zeros in front and no plus,",
+    "Each cell takes the bytes of its field and one more, for the comma or the LF behind it.",
+    "So a file that IMPORT made comes back byte for byte.",
+    "with the same cells, in the form that EXPORT writes: LF at the end of each line, and no spare zeros.",
+    "lines are written as the text of their fields in backticks, with LF and CR for these bytes; what is repeated stands in brackets.")
+
+
+def check_comma_lines(manual, ask, draws):
+    reader = CommaReader(manual)
+    for sentence in COMMA_SENTENCES:
+        manual.said(8, re.escape(sentence))
+    check_other_bytes(manual, ask, reader)
+    check_drawn_lines(ask, draws, reader)
+    check_there_and_back(ask, draws, reader)
+    check_comma_limits(manual, ask, reader)
+
+
+def lines_meanings(text, reader):
+    """The fields, commas and line ends of comma lines with their meanings, as the manual writes them."""
+    for row, line in enumerate(reader.lines(text)):
+        for column, field in enumerate(line.split(reader.comma), 1):
+            if column > 1:
+                yield len(reader.comma), "comma"
+            yield len(field), f"row {row}, column {column}: {with_minus(int(field)) if field else 'blank'}"
+        text = text[len(line):]
+        end = next((end for end in (reader.crlf, reader.lf) if text.startswith(end)), b"")
+        if end:
+            yield len(end), f"line end: {'CR LF' if end == reader.crlf else 'LF'}"
+        text = text[len(end):]
+
+
+def check_worked_lines(manual, ask, known):
+    """Lines L, file G and lines M: their bytes, their meanings, and that each is made of the one before."""
+    reader = CommaReader(manual)
+    examples = worked_examples(manual, 8)
+    same("the worked lines", [example.name for example in examples], ["Lines L", "File G", "Lines M"])
+    lines, file, again = examples
+    for example in (lines, again):
+        check_meanings(example, lines_meanings(example.whole, reader))
+    check_meanings(file, file_meanings(file.whole, "0, as the cell is blank"))
+    known.update((example.name[-1], example.whole) for example in examples)
+
+    columns, rows = re.search(r"Three lines for (\d+) columns, with both line ends and none: (.*)\.", lines.about).groups()
+    said = [[None if cell == "blank" else whole_number(cell) for cell in row.split(", ")] for row in re.findall(r"\(([^)]*)\)", rows)]
+    same("the rows of lines L", reader.rows(lines.whole, int(columns)), said)
+    ends = [meaning for _, meaning in lines.rows if "line end" in meaning]
+    same("the line ends of lines L", (len(said), ends, lines.whole[-1:] == reader.lf), (3, ["line end: CR LF", "line end: LF"], False))
+    same("what is said of file G", re.search(r"What IMPORT makes of lines ([A-Z]) with (\d+) columns: .* = (\d+) bytes", file.about).groups(),
+         ("L", columns, str(len(file.whole))))
+    same("IMPORT of L", ask.import_lines(lines.whole, int(columns), len(file.whole)), file.whole)
+    same("EXPORT of G", ask.export_lines(file.whole, len(again.whole)), again.whole)
+    terms, length = re.search(r"What EXPORT writes of file G: (.*) = (\d+) bytes\.", again.about).groups()
+    cells = [len(reader.exported([[cell]])) for row in said for cell in row]
+    same("the bytes of each cell of M", (terms, int(length)), (" + ".join(map(str, cells)), len(again.whole)))
+    same("what is said of M", re.search(r"IMPORT of lines (.) with (\d+) columns makes file (.) again\.", again.about).groups(), ("M", columns, "G"))
+    same("IMPORT of M", ask.import_lines(again.whole, int(columns), len(file.whole)), file.whole)
+
+
+def lines_from(cell, known):
+    """The lines that a cell of the examples describes: nothing, the name of worked ones, or fields in backticks, LF and CR, and these in brackets so many
+    times."""
+    if cell == "nothing" or cell in ("L", "M"):
+        return b"" if cell == "nothing" else known[cell]
+    pieces = list(re.finditer(rf"\(([^()]+)\) ({NUMBER}) times|`([^`]+)`|(LF|CR)", cell))
+    same(f"lines: {cell}", " ".join(piece[0] for piece in pieces), cell)
+    text = b""
+    for piece in pieces:
+        repeated, times, field, end = piece.groups()
+        text += lines_from(repeated, known) * whole_number(times) if repeated else field.encode() if field else {"LF": b"\n", "CR": b"\r"}[end]
+    return text
+
+
+# why lines are refused with 14: what has to be replaced in them, and by what, or which number of columns to name, for IMPORT to take them
+MENDED_LINES = {
+    "14 comes before 12": {"columns": 2}, "an empty line has one field": {"columns": 1}, "no columns": {"columns": 1}, "over 16 columns": {"columns": 16},
+    "behind the comma there is a second field, which is empty": {"columns": 2}, "the second line has one field": {"\n9": "\n9,"},
+    "one above the largest number": {"3648": "3647"}, "eleven digits": {"07": "7"}, "a minus without digits": {"-": "-1"}, "a plus": {"+": ""},
+    "a point": {".0": ""}, "a space": {" ": ""}, "a semicolon": {";": ","}, "quotation marks": {'"': ""}, "a CR without an LF right behind it": {"\r": "\r\n"},
+    "14 comes before 15": {"x": ""}}
+
+
+def mended(why, text, columns):
+    """Lines and columns without the fault that they are refused for."""
+    for old, new in MENDED_LINES[why].items():
+        if old == "columns":
+            same(f"another number of columns: {why}", columns != new, True)
+            columns = new
+        else:
+            demand(f"{old} stands in lines that are refused for {why}", old.encode() in text)
+            text = text.replace(old.encode(), new.encode())
+    return text, columns
+
+
+# what is said of lines that are not refused with 14: a test of the lines, the columns, the room and the answer
+WHY_LINES = {
+    "just room enough": lambda lines, columns, room, answer: room == len(answer),
+    "a byte too little": lambda lines, columns, room, answer: room == len(model.import_lines(lines, columns, AMPLE_FILE_ROOM)) - 1,
+    "the form of the lines makes no difference": lambda lines, columns, room, answer: b"\r" not in lines,
+    "no lines, no rows": lambda lines, columns, room, answer: lines == b"" and model.tables_of(answer).rows == [[]],
+    "the last line may have no line end": lambda lines, columns, room, answer: not lines.endswith(b"\n"),
+    "no line begins after the last line end": lambda lines, columns, room, answer: lines.endswith(b"\n") and lines.count(b"\n") == cases.row_count(answer),
+    "the other line end": lambda lines, columns, room, answer: lines.endswith(b"\r\n"),
+    "the second line is empty: one blank": lambda lines, columns, room, answer: model.tables_of(answer).rows[0][1:] == [[None]],
+    "one line, which is empty": lambda lines, columns, room, answer: lines == b"\n" and model.tables_of(answer).rows == [[[None]]],
+    "two blanks": lambda lines, columns, room, answer: model.tables_of(answer).rows == [[[None, None]]],
+    "the number 0": lambda lines, columns, room, answer: model.tables_of(answer).rows == [[[0]]],
+    "the smallest number": lambda lines, columns, room, answer: model.tables_of(answer).rows == [[[LOWEST]]],
+    "ten digits": lambda lines, columns, room, answer: len(lines) == 10 and lines.isdigit(),
+    "as many rows as there may be": lambda lines, columns, room, answer: model.import_lines(lines + b"1", columns, AMPLE_FILE_ROOM) == model.Refused(15),
+    "one more; and 15 comes before 12": lambda lines, columns, room, answer: room == 0 and lines.count(b"\n") == model.MOST_ROWS + 1,
+    "as many cells as there may be": lambda lines, columns, room, answer: lines.count(b"\n") * columns == model.MOST_CELLS,
+}
+
+
+def comma_answer(cell, known):
+    """The answer that a cell says: a refusal, worked or written bytes, lines, or a length."""
+    refusal, length = re.fullmatch(r"refusal (\d+)", cell), re.fullmatch(rf"({NUMBER}) bytes", cell)
+    if refusal or length:
+        return model.Refused(int(refusal[1])) if refusal else whole_number(length[1])
+    if cell in ("G", "F"):
+        return known[cell]
+    return from_hex(in_backticks(cell)) if re.fullmatch(r"`[0-9A-F]{2}( [0-9A-F]{2})+`", cell) else lines_from(cell, known)
+
+
+def room_from(cell, ample):
+    return whole_number(cell) if cell else ample
+
+
+def check_import_example(ask, known, row):
+    """An example of IMPORT, and whether the reason that is given for it is one."""
+    written, named, room, said, why = row
+    text, columns, wanted = lines_from(written, known), int(named), comma_answer(said, known)
+    lent = room_from(room, AMPLE_FILE_ROOM)
+    answer = ask.import_lines(text, columns, lent)
+    same(f"IMPORT of {written} with {named} columns, {why}", len(answer) if isinstance(wanted, int) else answer, wanted)
+    cells = re.fullmatch(rf"({NUMBER}) cells", why)
+    if cells:
+        same(f"the cells of {written}", text.count(b"\n") * columns, whole_number(cells[1]))
+    elif wanted == model.Refused(14):
+        right = ask.import_lines(*mended(why, text, columns), AMPLE_FILE_ROOM)
+        demand(f"{written} without what it is refused for is accepted: {why}", isinstance(right, bytes))
+        demand(f"12 would apply too, where it is said: {why}", why != "14 comes before 12" or lent < len(right))
+        demand(f"15 would apply too, where it is said: {why}", why != "14 comes before 15" or text.count(b"\n") == model.MOST_ROWS)
+        demand(f"how many digits these are: {why}", why != "eleven digits" or len(text) == 11)
+    else:
+        demand(f"{written} with {named} columns: {why}", WHY_LINES[why](text, columns, lent, answer))
+    COUNTS["examples of IMPORT"] += 1
+
+
+def check_comma_examples(manual, ask, known):
+    imports = manual.table(8, "Lines", "Columns", "Room", "Answer of IMPORT", "Why").rows
+    for row in imports:
+        check_import_example(ask, known, row)
+    reasons = [why for *_, why in imports if not why.endswith(" cells")]
+    same("what the examples of IMPORT show", sorted(reasons), sorted([*MENDED_LINES, *WHY_LINES]))
+    same("the refusals of the examples of IMPORT", {said for *_, said, _ in imports if "refusal" in said}, {"refusal 12", "refusal 14", "refusal 15"})
+
+    exports = manual.table(8, "File", "Room", "Answer of EXPORT", "Why").rows
+    for written, room, said, why in exports:
+        file, wanted = known[written] if written in known else from_hex(in_backticks(written)), comma_answer(said, known)
+        same(f"EXPORT of {written}, {why}", ask.export_lines(file, room_from(room, AMPLE_COMMA_ROOM)), wanted)
+        demand(f"EXPORT of {written}: {why}", WHY_FILES[why](file, room_from(room, AMPLE_COMMA_ROOM), wanted))
+        COUNTS["examples of EXPORT"] += 1
+    same("what the examples of EXPORT show", sorted(why for *_, why in exports), sorted(WHY_FILES))
+    same("the refusals of the examples of EXPORT", {said for _, _, said, _ in exports if "refusal" in said}, {"refusal 1", "refusal 2", "refusal 12"})
+
+
+# what is said of files that are exported: a test of the file, the room and the answer
+WHY_FILES = {
+    "just room enough": lambda file, room, answer: room == len(answer),
+    "a byte too little": lambda file, room, answer: room == len(model.export_lines(file, AMPLE_COMMA_ROOM)) - 1,
+    "table 1 alone; nothing of the bytes under its blank": lambda file, room, answer: file[0] > 1 and file[22:26] == b"\7\0\0\0" and b"7" not in answer,
+    "no rows": lambda file, room, answer: answer == b"" and model.tables_of(file).rows == [[]],
+    "one blank": lambda file, room, answer: model.tables_of(file).rows == [[[None]]],
+    "the longest field": lambda file, room, answer: len(answer) == 12,
+    "the mark is 2; and 2 comes before 12": lambda file, room, answer: file[-1] == 2 and room == 0,
+    "no tables": lambda file, room, answer: file == b"\0",
+}
 
 
 # ---- numbers in sentences
@@ -1570,6 +1933,21 @@ SENTENCES = (
     (6, "The list's letter is `m` again, so `m.#` is level # left of the list, and level # in SELECT and WHERE.", (1, 0, 1)),
     (7, "A C function returns #, or the number of the refusal,", (0,)),
     (7, "Refusals # to # and # are about the text of a rule:", (3, 8, 13)),
+    (7, "Refusals # and # are about comma lines: section # has them.", (14, 15, 8)),
+    (8, "IMPORT makes a tables file with this single table, and EXPORT writes table # of a tables file.", (1,)),
+    (8, "and `-#` is #.", (0, 0)),
+    (8, "Line r, counted from #, becomes row r of table #, and field c of it, counted from #, column c.", (0, 1, 1)),
+    (8, "A cell has the mark # and its number, or the mark # and # as its value where it is blank. There are no other tables, so T is #.", (0, 1, 0, 1)),
+    (8, "It is never refused with # or #.", (1, 2)),
+    (8, "Refusal #: the number of columns is not # to #, a field is neither empty nor a number, "
+        "or a line has fewer or more fields than there are columns. Refusal #: there are over", (14, 1, model.MOST_COLUMNS, 15)),
+    (8, "Refusal #: the lent buffer has fewer bytes than the file. They are tried in this order,", (12,)),
+    (8, "writes a line with LF behind it for each row of table #: its fields by column,", (1,)),
+    (8, "has no zeros in front and no plus, and # is written `#`; a blank is an empty field.", (0, 0)),
+    (8, "Other tables are left out, and must be right: # and # are looked for in the whole file.", (1, 2)),
+    (8, "Refusal #: the lent buffer has fewer bytes than the lines.", (12,)),
+    (8, "with the number of columns of table #, gives a tables file with table # alone: the same cells and the same marks, "
+        "with # as the value under each blank.", (1, 1, 0)),
 )
 
 
@@ -1592,11 +1970,11 @@ class Known(dict):
 def check_everywhere(manual):
     """What holds of the whole manual: every sum comes out, every table was compared, and no section is missing."""
     text = " ".join(block for blocks in manual.blocks.values() for block in blocks if isinstance(block, str))
-    sums = re.findall(r"(?<![\w`] [+−×] )(\d+(?: [+−×] \d+)+) = (\d+)", text)
+    sums = re.findall(rf"(?<![\w`] [+−×] )({NUMBER}(?: [+−×] {NUMBER})+) = ({NUMBER})", text)
     for written, total in sums:
-        same(f"{written} = {total}", worked_out(written), int(total))
-    demand("at least eight sums are written out", len(sums) >= 8)
-    same("the sections", sorted(manual.sections), list(range(8)))
+        same(f"{written} = {total}", worked_out(written.replace(",", "")), whole_number(total))
+    demand("at least eleven sums are written out", len(sums) >= 11)
+    same("the sections", sorted(manual.sections), list(range(9)))
     tables = manual.all_tables()
     same("tables that were not compared", [manual.blocks[number][place].header for number, place in tables if (number, place) not in manual.seen], [])
     same("how many tables there are", len(tables), TABLE_COUNT)
@@ -1620,6 +1998,9 @@ def main():
         ("the translation", lambda: check_translation(manual, ask, draws, known)),
         ("parts", lambda: check_parts(manual, ask, known)),
         ("the table of calls", lambda: check_calls(manual, ask, known)),
+        ("comma lines", lambda: check_comma_lines(manual, ask, draws)),
+        ("worked lines", lambda: check_worked_lines(manual, ask, known)),
+        ("examples of IMPORT and EXPORT", lambda: check_comma_examples(manual, ask, known)),
         ("sentences", lambda: check_sentences(manual)),
         ("the whole manual", lambda: check_everywhere(manual)),
     )

@@ -5,6 +5,10 @@ The manual is plain Markdown. What this program finds in it:
 - a fenced block `tables`: the tables that the examples of its section are tried with; a section without one has those of the first section
 - a fenced block `rule`: a rule, with the values that the next line of text gives it: "Rows 0 to 4: T F U F T"
 - a fenced block `grammar`: the forms of the grammar, a line each
+- a fenced block `lines`: comma lines, of which the tables file is made that the examples behind it are tried with; and `exported`: the comma lines of that file
+- a table whose first column is "Row": the rows of that file, or for each of its lines what a rule says of it and what the gate does
+- a table whose first column is "Lines": comma lines, and how many rows they have or what they are refused with; `lines_of` says how they are written
+- indented code that begins with an import of the wrapper: it is run, on files that are put there for it
 - a table with a column "Rule": an example in each line, and what is tried of it in the other columns (RULE_COLUMNS); `text_of` says how an example is written.
   What an explanation there says to write is a rule, and is accepted
 - tables of other sorts, by the heading of their first column (`sorts` of Manual)
@@ -13,7 +17,9 @@ A fenced block, a table, a column or an example of any other sort is a fault, an
 Exit status 0 when everything that the manual says of its examples is so on the model and on the library. The last line has the counts.
 """
 import collections
+import datetime
 import functools
+import io
 import itertools
 import pathlib
 import random
@@ -27,6 +33,7 @@ sys.path[:0] = [str(ROOT / "tests" / "calls")]
 
 import compare  # noqa: E402
 import end_to_end  # noqa: E402
+import examples  # noqa: E402
 import library  # noqa: E402
 import paper  # noqa: E402
 
@@ -39,6 +46,9 @@ SEED = 20261116
 DERIVED_TEXTS = 1500
 LATER_FILES = 25
 DRAWN_CONDITIONS = 150
+DRAWN_LINES = 400
+AMPLE_FILE_ROOM = 65000
+AMPLE_COMMA_ROOM = 100000
 TRUTHS = {"T": model.TRUE, "U": model.UNKNOWN, "F": model.FALSE}
 TESTS = {"T": "1 = 1", "U": "m.1 = 1", "F": "1 = 2"}  # with these values where m.1 is blank
 TRUTH_TESTS = tuple(f"IS{' NOT' * has_not} {word}" for word in model.TRUTH_WORDS for has_not in (False, True))
@@ -51,8 +61,11 @@ AT_LEAST = {
     "Blanks": {"values": 28, "cases": 12, "connectives": 21, "lists": 42, "truth tests": 18},
     "NOT IN with a blank in the list": {"values": 8},
     "Blanks that IS UNKNOWN does not find": {"values": 8, "worked rows": 5},
-    "Refusals": {"refusals": 13, "answers": 53, "written instead": 11, "hints": 1, "same values": 5},
+    "Refusals": {"refusals": 15, "answers": 53, "written instead": 11, "hints": 1, "same values": 5},
     "Rules ready to use": {"ready rules": 6, "values": 11},
+    "From a spreadsheet to a tables file": {"lines": 1, "rows of lines": 3, "lengths": 1, "comma lines": 33, "faults": 26},
+    "A page of the till's file worked through": {
+        "lines": 1, "rows of lines": 6, "lengths": 1, "ready rules": 1, "rows at the gate": 6, "listed": 1, "values": 3, "exported": 1},
 }
 WHOLE = "the manual as a whole"
 
@@ -99,17 +112,29 @@ class Model:
         """JUDGE on each row of table 1."""
         return [model.judge(text, file, row) for row in range(cases.row_count(file))]
 
+    def admitted(self, text, file):
+        """LIST with the card of a rule."""
+        return list(model.list_rows(model.card(text, file, end_to_end.LONGEST_CARD), file, model.MOST_ROWS))
+
+    import_lines = staticmethod(model.import_lines)
+    export_lines = staticmethod(model.export_lines)
+
     def beyond_reading(self):
-        """The refusals of document 01's examples for 9 to 12: a card of two bytes, 3 columns against 2, row 3 of three, 18 bytes for the worked card."""
-        return [refusal_in(answer) for answer in (
-            model.check(b"\0\0"),
-            model.list_rows(paper.WORKED_CARD, TWO_COLUMNS, 3),
-            model.judge(paper.WORKED_TEXT, THREE_ROWS, 3),
-            model.card(paper.WORKED_TEXT, THREE_ROWS, 18))]
+        """The refusals of document 01's examples for 9 to 12: a card of two bytes, 3 columns against 2, row 3 of three, 18 bytes for the worked card; and of
+        comma lines with a bad field, and with a row too many."""
+        answers = {
+            9: model.check(b"\0\0"),
+            10: model.list_rows(paper.WORKED_CARD, TWO_COLUMNS, 3),
+            11: model.judge(paper.WORKED_TEXT, THREE_ROWS, 3),
+            12: model.card(paper.WORKED_TEXT, THREE_ROWS, 18),
+            14: model.import_lines(b"x", 1, AMPLE_FILE_ROOM),
+            15: model.import_lines(MANY_LINES, 1, AMPLE_FILE_ROOM)}
+        return {number: refusal_in(answer) for number, answer in answers.items()}
 
 
 TWO_COLUMNS = generate.tables_file([(2, [[0, 0]] * 3)])
 THREE_ROWS = generate.tables_file([(3, [[0, 0, 0]] * 3)])
+MANY_LINES = b"\n" * (model.MOST_ROWS + 1)
 
 
 class Library:
@@ -117,7 +142,8 @@ class Library:
     name = "the library"
 
     def __init__(self):
-        self.rules, self.gate = library.Rules(library.load("roskudla")), library.Gate(library.load("roskudla_gate"))
+        whole = library.load("roskudla")
+        self.rules, self.gate, self.lines = library.Rules(whole), library.Gate(library.load("roskudla_gate")), library.Lines(whole)
 
     def refusal(self, text, file):
         """The number that READ and CARD refuse with, or None; without room they refuse an accepted rule with 12."""
@@ -142,12 +168,28 @@ class Library:
             rule.list_rows(file, values)
         return values
 
+    def admitted(self, text, file):
+        length, card = self.rules.card(text, file, cases.lent("CARD", end_to_end.LONGEST_CARD))
+        count, rows = self.gate.list_rows(bytes(card[:length]), file, cases.lent("LIST", model.MOST_ROWS))
+        return list(rows[:count])
+
+    def import_lines(self, lines, columns, room):
+        length, after = self.lines.import_lines(lines, columns, cases.lent("IMPORT", room))
+        return length if isinstance(length, model.Refused) else bytes(after[:length])
+
+    def export_lines(self, file, room):
+        length, after = self.lines.export_lines(file, cases.lent("EXPORT", room))
+        return length if isinstance(length, model.Refused) else bytes(after[:length])
+
     def beyond_reading(self):
-        return [refusal_in(answer) for answer in (
-            self.gate.check(b"\0\0"),
-            self.gate.list_rows(paper.WORKED_CARD, TWO_COLUMNS, (0,) * 3)[0],
-            self.rules.judge(paper.WORKED_TEXT, THREE_ROWS, 3),
-            self.rules.card(paper.WORKED_TEXT, THREE_ROWS, (0,) * 18)[0])]
+        answers = {
+            9: self.gate.check(b"\0\0"),
+            10: self.gate.list_rows(paper.WORKED_CARD, TWO_COLUMNS, (0,) * 3)[0],
+            11: self.rules.judge(paper.WORKED_TEXT, THREE_ROWS, 3),
+            12: self.rules.card(paper.WORKED_TEXT, THREE_ROWS, (0,) * 18)[0],
+            14: self.import_lines(b"x", 1, AMPLE_FILE_ROOM),
+            15: self.import_lines(MANY_LINES, 1, AMPLE_FILE_ROOM)}
+        return {number: refusal_in(answer) for number, answer in answers.items()}
 
 
 # ---- the manual as blocks
@@ -223,6 +265,7 @@ def blocks_of(lines):
 
 CODE = "`([^`]+)`"
 BLANK_BYTES = {"space": b" ", "line feed": b"\n", "tab": b"\t", "carriage return": b"\r"}
+LINE_BYTES = BLANK_BYTES | {"byte order mark": b"\xef\xbb\xbf"}
 
 
 def text_of(cell):
@@ -244,6 +287,24 @@ def text_of(cell):
         else:
             raise Fault(f"no example of a text: {cell}")
         after_code = bool(code)
+    return text
+
+
+def lines_of(cell):
+    """The comma lines that a cell describes: pieces with "then" between them, each in backticks, or so many line feeds and the like; or so many times the same
+    piece with a line feed behind it. Nothing stands between two pieces."""
+    if cell == "the empty text":
+        return b""
+    repeated = re.fullmatch(f"{CODE}, with 1 line feed, ([\\d,]+) times", cell)
+    if repeated:
+        return (repeated[1].encode() + b"\n") * number_from(repeated[2])
+    text = b""
+    for piece in cell.split(", then "):
+        bytes_named = re.fullmatch(f"([\\d,]+) ({'|'.join(LINE_BYTES)})s?", piece)
+        code = re.fullmatch(CODE, piece)
+        if not bytes_named and not code:
+            raise Fault(f"no example of lines: {cell}")
+        text += LINE_BYTES[bytes_named[2]] * number_from(bytes_named[1]) if bytes_named else code[1].encode()
     return text
 
 
@@ -354,8 +415,9 @@ MEASURES = {
 IN_SENTENCES = ("bytes", "digits", "more `(` than `)`", "parts", "FROMs", "entries")
 RANGE_SENTENCE = r"(−[\d,]+) to ([\d,]+)"
 ORDER_SENTENCE = "Where several apply, the first in the order of this table is given"
-EXCEPTION_SENTENCE = r"The numbers rise in it, but for (\d+), which comes right after (\d+)\."
+EXCEPTION_SENTENCE = r"The numbers rise in it, but for (\d+), which comes right after (\d+), and (\d+), which comes last\."
 NOT_THE_TEXT_SENTENCE = r"Refusals (\d+) to (\d+) concern the card, the row and the room, not the text"
+LINES_SENTENCE = r"Refusals (\d+) and (\d+) concern the comma lines that a tables file is made of"
 FEW_ENTRIES_SENTENCE = "A rule with neither of them never has too many."
 NEVER_UNKNOWN_SENTENCES = (
     "`(EXISTS (FROM ..)) IS UNKNOWN` is always false",
@@ -364,6 +426,31 @@ SPLIT_SENTENCES = (
     "with `IS NOT FALSE`, which adds no entries: the condition is unknown exactly where the first card says no and the second says yes.",
     "with `IS UNKNOWN` behind them it is true where the rule is unknown, and with `IS FALSE` where the rule is false. "
     "On each row exactly one of the three is true: the rule itself, or one of these two.")
+LENGTH_SENTENCE = r"With (\d+) columns the tables file has ([\d,]+) bytes\."
+LISTED_SENTENCE = r"The card of this rule, run on the tables file, lists rows (\d+(?:, \d+)*) and (\d+)\."
+DAY_SENTENCE = r"`(\d+)` for (\d+ \w+ \d+)"
+OWN_LINE_SENTENCES = (
+    "a line by itself is refused exactly where it has a fault of its own",
+    "Where it prints none of a file that is not empty, and the whole file is refused, the refusal is 15.")
+# what the examples of comma lines show, in sentences
+SHEET_SENTENCES = (
+    "IMPORT makes a tables file of such lines, in which this table is table 1 and the only one.",
+    "the age of the second and the visits of the third are blank:",
+    "A rule may go over the rows of table 1 with `FROM 1`; with this file a rule that names table 2 is refused with 8.",
+    "The first line is row 0.",
+    "**Yes and no as `1` and `0`.**",
+    "makes this number of the date in cell A1.",
+    "A line ends in a line feed, or in a carriage return and a line feed; the last line may be without. "
+    "Zeros in front of a number are allowed, and change nothing.",
+    "That is one more than the commas in a line. Columns that are blank throughout count too, and blank cells at the end of a line need their commas:",
+    "In the rules the columns are then `m.1`, `m.2` and so on, from the left.",
+    "From Python, with a sheet of 3 columns that was saved as `members.csv`:",
+    "This makes the tables file, and then writes the lines of its table 1 to a file,",
+    "`export_lines` writes the same cells, each number without zeros in front, and a line feed behind each line.",
+    "Refusal 14 says that a cell is neither a plain number nor empty, that a line does not have as many cells as there are columns, "
+    "or that the number of columns is not 1 to 16. Refusal 15 says that there are over",
+    "All lines are looked at for 14 before 15, and neither says in which line the fault is.",
+    "The zeros in front of the member numbers are gone, and all else is as it was:")
 WORKED_SENTENCE = r"For member (\d+), in row (\d+), it is worked out like this:"
 TABLES_SENTENCE = r"There are (\d+) to (\d+) tables, with (\d+) to (\d+) columns and (\d+) to ([\d,]+) rows each, and at most ([\d,]+) cells in all\."
 
@@ -380,6 +467,54 @@ SIZES = {
     "rows": lambda count: [(1, count)],
     "cells": sizes_with_cells,
 }
+
+# ---- comma lines
+
+COLUMNS_FAULT = f"the number of columns is 1 to {model.MOST_COLUMNS}"
+# why lines are refused, as the manual says it up to a colon: what has to be replaced in them, and by what, or which number of columns to name, for IMPORT to
+# take them; so this is their only fault
+FAULTS = {
+    "a header line": (b"member,age,visits\n", b""),
+    "a line of sums": (b"total,,8", b""),
+    "a comma at the end of a line makes a fourth cell, which is blank": (b"8,", b"8"),
+    "two commas are missing, which blank cells need too": (b"\n102", b"\n102,,"),
+    "semicolons between the cells": (b";", b","),
+    "tabs between the cells": (b"\t", b","),
+    "a quoted number": (b'"', b""),
+    "a decimal point": (b".0", b""),
+    "a thousands separator, which makes a cell more": (b"1,500", b"1500"),
+    "spaces in front of numbers": (b" ", b""),
+    "a cell with a space looks blank, and is not": (b" ", b""),
+    "three bytes in front of the first number, which editors do not show": (b"\xef\xbb\xbf", b""),
+    "an empty line in a sheet of several columns is a line of one cell": (b"\n\n", b"\n"),
+    "three cells, and two columns were named": 3,
+    COLUMNS_FAULT: 3,
+    "a date as it is shown": (b"15.06.2026", b"20260615"),
+    "the same": (b"2026-06-15", b"20260615"),
+    "a word for a blank": (b"NULL", b"\n"),
+    "a dash for a blank": (b"-", b"\n"),
+    "a plus": (b"+", b""),
+    "one above the largest number": (b"3648", b"3647"),
+    "eleven digits": (b"00000000005", b"0000000005"),
+    "a line that ends in a carriage return alone": (b"\r", b"\r\n"),
+    "one row more": (b"\n" * 1001, b"\n" * 1000),
+    "8,199 cells, and there may be 8,192": (b",,,,,,,,\n,,,,,,,,\n", b",,,,,,,,\n"),
+    "both 14 and 15, of which 14 comes first": (b"x", b""),
+}
+# what the files that the manual's code reads are, and what it prints and writes
+MEMBERS = b"101,34,8\r\n102,,3\r\n00103,16,"
+BAD_MEMBERS = b"member,age,visits\n101,34,8\n102,,3\n103,16\n104, ,8"
+
+
+def mended(why, lines, columns):
+    """Lines and a number of columns without the fault that they are refused for."""
+    change = FAULTS[why]
+    if isinstance(change, int):
+        return lines, change
+    if change[0] not in lines:
+        raise Fault(f"{change[0]} does not stand in lines that are refused for it")
+    return lines.replace(*change), columns
+
 
 # ---- tokens
 
@@ -533,9 +668,10 @@ class Manual:
         self.letters, self.comparisons = set(), ()
         self.most, self.refused, self.fronts, self.bracketed, self.order = {}, set(), set(), set(), []
         self.worked_row, self.worked_rows = None, []
+        self.lines, self.last_rule, self.mended = b"", b"", set()
         self.sorts = {
             "Token": self.try_tokens, "Limit": self.try_limits, "In front": self.try_connectives, "In the brackets": self.try_truth_tests,
-            "Values in the list": self.try_lists, "Row of table 2": self.try_worked_rows, "Refusal": self.try_refusals}
+            "Values in the list": self.try_lists, "Row of table 2": self.try_worked_rows, "Refusal": self.try_refusals, "Lines": self.try_comma_lines}
 
     def fault(self, line, what):
         self.faults.append(f"{NAME}:{line}: {what}")
@@ -578,6 +714,11 @@ class Manual:
         self.tried(1, "sentences", self.try_few_entries)
         self.tried(1, "sentences", self.try_never_unknown)
         self.tried(1, "sentences", self.try_splits)
+        self.tried(1, "sentences", self.try_size_sentences)
+        self.tried(1, "sentences", self.try_day_numbers)
+        self.tried(1, "sentences", self.try_own_lines)
+        self.tried(1, "sentences", self.try_sheet_sentences)
+        self.tried(1, "code", self.try_code)
         for target in re.findall(r"\]\(([^)]+)\)", self.text):
             self.tried(1, "links", self.try_link, target)
         self.demand()
@@ -593,14 +734,26 @@ class Manual:
             self.try_fence(block)
         elif isinstance(block, Table):
             self.try_table(block)
-        elif isinstance(block, Text) and re.fullmatch(WORKED_SENTENCE, block.text):
-            self.tried(block.line, "worked", self.take_worked_row, *re.fullmatch(WORKED_SENTENCE, block.text).groups())
+        elif isinstance(block, Text):
+            self.try_text(block)
+
+    def try_text(self, block):
+        """Sentences with which a line begins, and that are about the example before them."""
+        for sort, sentence, attempt in (("worked", WORKED_SENTENCE, self.take_worked_row), ("lengths", LENGTH_SENTENCE, self.try_length),
+                                        ("listed", LISTED_SENTENCE, self.try_listed)):
+            found = re.match(sentence, block.text)
+            if found:
+                self.tried(block.line, sort, attempt, *found.groups())
 
     def try_fence(self, fence):
         if fence.info == "tables":
             self.tried(fence.line, "tables", self.take_tables, fence)
         elif fence.info == "rule":
-            self.rule = "\n".join(fence.lines).encode()
+            self.rule = self.last_rule = "\n".join(fence.lines).encode()
+        elif fence.info == "lines":
+            self.tried(fence.line, "lines", self.take_lines, fence)
+        elif fence.info == "exported":
+            self.tried(fence.line, "exported", self.try_exported, fence)
         elif fence.info == "grammar":
             self.tried(fence.line, "grammar", self.try_grammar, fence.lines)
         else:
@@ -615,6 +768,8 @@ class Manual:
     def try_table(self, table):
         if "Rule" in table.headings:
             self.try_rules(table)
+        elif table.headings[0] == "Row":
+            self.try_rows_of_lines(table)
         elif table.headings[0] in self.sorts:
             for line, cells in table.rows:
                 self.sorts[table.headings[0]](line, cells)
@@ -849,7 +1004,177 @@ class Manual:
         if not cells["When"] or not cells["What to do"]:
             raise Fault("it is not said when, or what to do")
         if number not in READING_REFUSALS:
-            self.each(f"example of {number}", lambda judge: judge.beyond_reading()[number - 9], number)
+            self.each(f"example of {number}", lambda judge: judge.beyond_reading()[number], number)
+
+    # ---- comma lines
+
+    def take_lines(self, fence):
+        """The tables file of some comma lines, each with a line feed behind it, for what follows. Their columns are one more than the commas of a line."""
+        self.lines = "".join(line + "\n" for line in fence.lines).encode()
+        self.file = self.judges[0].import_lines(self.lines, fence.lines[0].count(",") + 1, AMPLE_FILE_ROOM)
+        self.each(self.lines, lambda judge: judge.import_lines(self.lines, fence.lines[0].count(",") + 1, AMPLE_FILE_ROOM), self.file)
+        self.answers(b"1 = 1", self.file, None)
+        self.answers(b"EXISTS (FROM 1 v WHERE 1 = 1)", self.file, None)
+        self.answers(b"EXISTS (FROM 2 v WHERE 1 = 1)", self.file, 8)
+
+    def try_exported(self, fence):
+        """The comma lines of the tables file."""
+        self.each(self.file, lambda judge: judge.export_lines(self.file, AMPLE_COMMA_ROOM), "".join(line + "\n" for line in fence.lines).encode())
+
+    def try_length(self, columns, length):
+        """The columns and the length of the tables file."""
+        compare.same("the columns", int(columns), model.tables_of(self.file).columns[0])
+        compare.same("the length of the tables file", number_from(length), len(self.file))
+
+    def try_listed(self, first, last):
+        """The rows that the card of the rule before lists."""
+        self.each(self.last_rule, lambda judge: judge.admitted(self.last_rule, self.file), [*map(int, first.split(", ")), int(last)])
+
+    def try_rows_of_lines(self, table):
+        """A table with a line for each row of the tables file: its cells, or what a rule says of it and what the gate does."""
+        rows = model.tables_of(self.file).rows_of(1)
+        if [cells["Row"] for _, cells in table.rows] != [str(number) for number in range(len(rows))]:
+            self.fault(table.line, f"not the {len(rows)} rows of the lines before")
+        numbered = [heading for heading in table.headings if heading.startswith("Column ")]
+        if numbered != [f"Column {number}" for number in range(1, len(numbered) + 1)]:
+            self.fault(table.line, f"not the columns in their order: {numbered}")
+        for line, cells in table.rows:
+            if "Line" in cells:
+                self.tried(line, "rows at the gate", self.try_at_the_gate, cells)
+            else:
+                self.tried(line, "rows of lines", compare.same, "a row", [cell_from(cells[heading]) for heading in table.headings[1:]], rows[int(cells["Row"])])
+
+    def try_at_the_gate(self, cells):
+        """A row of the till's file: its line, the value of each test of the rule before, that of the whole rule, and what the gate does."""
+        row = int(cells["Row"])
+        compare.same("the line", code_in(cells["Line"]), [self.lines.decode().split("\n")[row]])
+        tests = {heading: code_in(heading)[0] for heading in cells if code_in(heading)}
+        compare.same("the tests joined by AND", " AND ".join(tests.values()).encode(), self.last_rule)
+        for heading, text in [*tests.items(), ("Both", self.last_rule.decode())]:
+            self.each(text, lambda judge: judge.values(text.encode(), self.file)[row], truth_from(cells[heading]))
+        wanted = {"opens": True, "stays shut": False}[cells["At the gate"]]
+        self.each(self.last_rule, lambda judge: row in judge.admitted(self.last_rule, self.file), wanted)
+
+    def try_comma_lines(self, line, cells):
+        self.tried(line, "comma lines", self.try_comma_example, cells)
+        if "refused" in cells["Answer"]:
+            self.tried(line, "faults", self.try_line_fault, cells)
+
+    def try_comma_example(self, cells):
+        """Comma lines have so many rows, or are refused; so many cells, where that is said; and what is to be written or named instead is accepted."""
+        lines, columns, why = lines_of(cells["Lines"]), int(cells["Columns"]), cells["Why, and what to do"]
+        rows = re.fullmatch(r"([\d,]+) rows?", cells["Answer"])
+        for judge in self.judges:
+            answer = judge.import_lines(lines, columns, AMPLE_FILE_ROOM)
+            got = refusal_in(answer) if isinstance(answer, model.Refused) else f"{cases.row_count(answer):,}"
+            compare.same(f"{cells['Lines']} by {judge.name}", got, rows[1] if rows else answer_from(cells["Answer"]))
+            for written in re.findall(f"\\bwrite {CODE}", why):
+                compare.same(f"{written} instead", refusal_in(judge.import_lines(written.encode(), columns, AMPLE_FILE_ROOM)), None)
+            for other in re.findall(r"\bname (\d+)", why):
+                compare.same(f"{other} columns", refusal_in(judge.import_lines(lines, int(other), AMPLE_FILE_ROOM)), None)
+        for count in re.findall(r"^([\d,]+) cells", why):
+            compare.same("how many cells there are", number_from(count), lines.count(b"\n") * columns)
+
+    def try_line_fault(self, cells):
+        """Without the fault that is named the lines are accepted; where two are named, the other is left."""
+        why, _, advice = cells["Why, and what to do"].partition(":")
+        left = [int(number) for number in re.findall(r"(\d+) follows", advice)] + [None]
+        columns = int(cells["Columns"])
+        if why == COLUMNS_FAULT and 1 <= columns <= model.MOST_COLUMNS:
+            raise Fault(f"{columns} columns are no fault")
+        changed = mended(why, lines_of(cells["Lines"]), columns)
+        self.mended.add(why)
+        self.each(f"without {why}", lambda judge: refusal_in(judge.import_lines(*changed, AMPLE_FILE_ROOM)), left[0])
+
+    def try_size_sentences(self):
+        """Rows, cells and columns of comma lines, wherever they are said, and both sides of them."""
+        whole = " ".join(self.text.split())
+        for name, most in (("rows", model.MOST_ROWS), ("cells", model.MOST_CELLS)):
+            compare.same(f"over so many {name}", set(map(number_from, re.findall(rf"\bover ([\d,]+) {name}", whole))), {most})
+        columns = re.findall(r"columns (?:is|are) not (\d+) to (\d+)|how many cells every line has, (\d+) to (\d+)", whole)
+        ends = {tuple(int(number) for number in found if number) for found in columns}
+        compare.same("the number of columns", (ends, len(columns)), ({(1, model.MOST_COLUMNS)}, 3))
+        for count in (0, 1, model.MOST_COLUMNS, model.MOST_COLUMNS + 1):
+            wanted = None if 1 <= count <= model.MOST_COLUMNS else 14
+            self.each(f"{count} columns", lambda judge: refusal_in(judge.import_lines(b"," * (count - 1), count, AMPLE_FILE_ROOM)), wanted)
+
+    def try_day_numbers(self):
+        """The numbers that are given for a day: year, month and day, and the days since the one that is named."""
+        whole = " ".join(self.text.split())
+        start = datetime.datetime.strptime(re.search(r"mostly counted from (\d+ \w+ \d+):", whole)[1], "%d %B %Y")
+        found = [(int(number), datetime.datetime.strptime(day, "%d %B %Y")) for number, day in re.findall(DAY_SENTENCE, whole)]
+        compare.same("the numbers of days", [number for number, _ in found], [int(f"{found[0][1]:%Y%m%d}"), (found[-1][1] - start).days])
+        formula = re.search(r"`=(YEAR\(A1\)[^`]*)`", whole)[1]
+        parts = {"YEAR": lambda day: day.year, "MONTH": lambda day: day.month, "DAY": lambda day: day.day}
+        compare.same("the formula for a day", eval(formula, {"__builtins__": {}}, parts | {"A1": found[0][1]}), found[0][0])
+
+    def try_own_lines(self):
+        """Lines are refused with 14 exactly where one of them is by itself."""
+        for sentence in OWN_LINE_SENTENCES:
+            self.said_once([sentence])
+        draw, seen = random.Random(SEED), collections.Counter()
+        for lines, columns in (cases.drawn_lines(draw) for _ in range(DRAWN_LINES)):
+            if not 1 <= columns <= model.MOST_COLUMNS:
+                continue
+            for judge in self.judges:
+                alone = {refusal_in(judge.import_lines(line, columns, AMPLE_FILE_ROOM)) for line in io.BytesIO(lines)}
+                whole = refusal_in(judge.import_lines(lines, columns, AMPLE_FILE_ROOM))
+                compare.same(f"{lines} with {columns} columns", (whole == 14, 15 in alone), (14 in alone, False))
+                seen[whole] += 1
+        compare.same("drawn lines were accepted, and refused with 14", min(seen[None], seen[14]) > 50, True)
+
+    def try_sheet_sentences(self):
+        """What is said of a sheet with cells or numbers in it: whether IMPORT takes these cells, and what of."""
+        self.said_once(SHEET_SENTENCES)
+        whole = " ".join(self.text.split())
+
+        def taken(field, columns=1):
+            self.each(field, lambda judge: refusal_in(judge.import_lines(field.encode(), columns, AMPLE_FILE_ROOM)), None)
+            return model.tables_of(model.import_lines(field.encode(), columns, AMPLE_FILE_ROOM)).rows_of(1)
+
+        numbers = re.search(r"with a minus in front where it is needed: `(.*?)`, `(.*?)`, `(.*?)`\.", whole).groups()
+        compare.same("plain numbers", [taken(number) for number in numbers], [[[int(number)]] for number in numbers])
+        columns, line = re.search(r"with (\d+) columns, a member of whom only the number is known is `([^`]*)`\.", whole).groups()
+        compare.same("a member of whom only the number is known", taken(line, int(columns)), [[int(line.strip(","))] + [None] * (int(columns) - 1)])
+        zero, *texts = re.search(r"no `(.)`, which is a number, and no `(.)`, `(\w+)` or (space)\.", whole).groups()
+        compare.same("a number that is not blank", taken(zero), [[0]])
+        for text in [*texts[:-1], " ", re.search(r"a pass called `(\w+)`, needs a number", whole)[1]]:
+            self.each(text, lambda judge: refusal_in(judge.import_lines(text.encode(), 1, AMPLE_FILE_ROOM)), 14)
+        table, refusal = re.search(r"with this file a rule that names table (\d+) is refused with (\d+)\.", whole).groups()
+        self.answers(b"EXISTS (FROM %b v WHERE 1 = 1)" % table.encode(), self.file, int(refusal))
+        empty = re.search(r"in a sheet of one column an empty line is a row with a blank: look at the end of the file", whole)
+        compare.same("empty lines of one column", (empty is not None, taken("1\n\n\n")), (True, [[1], [None], [None]]))
+        compare.same("the most digits", number_from(re.search(r"zeros in front are allowed, up to (\w+) digits", whole)[1]), model.MOST_DIGITS)
+        self.try_till_sentences(whole)
+
+    def try_till_sentences(self, whole):
+        """What is said of the till's file: its columns, the day of the rule, and how member numbers are written."""
+        columns, names = re.search(r"a file that the till wrote, with (\d+) columns: (.*?)\.", whole).groups()
+        compare.same("the columns of the till's file", ({int(columns)}, len(names.split(", "))), (set(model.tables_of(self.file).columns), int(columns)))
+        day = datetime.datetime.strptime(re.search(r"The rule of the gate on (\d+ \w+ \d+):", whole)[1], "%d %B %Y")
+        compare.same("the day in the rule", re.findall(rb"\d{8}", self.last_rule), [f"{day:%Y%m%d}".encode()])
+        digits = re.search(r"The till writes member numbers with (\w+) digits\.", whole)[1]
+        members = {len(line.split(b",")[0]) for line in self.lines.split(b"\n")}
+        compare.same("the digits of the till's member numbers", members, {0, number_from(digits)})
+
+    def try_code(self):
+        """The code of the manual, run: a rule is tried, a sheet imported and exported, and the lines with faults printed."""
+        blocks = examples.code_blocks(self.text)
+        compare.same("blocks of code", len(blocks), 3)
+        trial, sheet, faults = blocks
+        rule = b"m.2 > 0 OR m.2 IS NULL"
+        printed, files = examples.run_code(trial, {"rule.txt": rule, "tables.bin": self.first_file})
+        compare.same("what is printed of a rule", printed, "TRUE\n[0, 1]\n")
+        compare.same("the card", files["card.bin"], model.card(rule, self.first_file, end_to_end.LONGEST_CARD))
+        printed, files = examples.run_code(sheet, {"members.csv": MEMBERS})
+        compare.same("the tables file of a sheet", files["tables.bin"], model.import_lines(MEMBERS, 3, AMPLE_FILE_ROOM))
+        compare.same("the lines of the tables file", files["again.csv"], b"101,34,8\n102,,3\n103,16,\n")
+        printed, _ = examples.run_code(faults, {"members.csv": BAD_MEMBERS})
+        bad = [(row, line) for row, line in enumerate(io.BytesIO(BAD_MEMBERS)) if row in (0, 3, 4)]
+        compare.same("the lines with faults", printed, "".join(f"{row} {line}\n" for row, line in bad))
+        compare.same("the lines of a right sheet", examples.run_code(faults, {"members.csv": MEMBERS})[0], "")
+
+    # ---- the grammar
 
     def try_grammar(self, lines):
         """Drawn conditions of the manual's grammar are conditions, those of the tests' own generator are in the manual's grammar, and of damaged ones
@@ -892,21 +1217,24 @@ class Manual:
 
     def try_order(self):
         """The table of refusals has those of every call, in the order of every call. Only where they rise it is said that the lowest is given, and else which
-        one does not rise, and what it comes after."""
+        two do not rise, what the one comes after, and that the other comes last."""
         compare.same("the refusals of the table", sorted(self.order), sorted(set(itertools.chain(*cases.REFUSALS_OF.values()))))
         for call, refusals in cases.REFUSALS_OF.items():
             compare.same(f"the order of {call}", tuple(number for number in self.order if number in refusals), refusals)
         self.said_once([ORDER_SENTENCE])
-        rising = self.order == sorted(self.order)
+        rising, whole = self.order == sorted(self.order), " ".join(self.text.split())
         compare.same("it is said that the lowest is given", "lowest" in self.text, rising)
-        exceptions = re.findall(EXCEPTION_SENTENCE, self.text)
-        compare.same("sentences on the number that does not rise", len(exceptions), 0 if rising else 1)
-        for late, before in exceptions:
-            others = [number for number in self.order if number != int(late)]
-            compare.same(f"the numbers but for {late}", others, sorted(others))
+        exceptions = re.findall(EXCEPTION_SENTENCE, whole)
+        compare.same("sentences on the numbers that do not rise", len(exceptions), 0 if rising else 1)
+        for late, before, end in exceptions:
+            others = [number for number in self.order if number not in (int(late), int(end))]
+            compare.same(f"the numbers but for {late} and {end}", others, sorted(others))
             compare.same(f"what {late} comes after", self.order[self.order.index(int(late)) - 1], int(before))
-        first, last = re.search(NOT_THE_TEXT_SENTENCE, self.text).groups()
-        compare.same("the refusals that do not concern the text", set(range(int(first), int(last) + 1)), set(self.order) - set(READING_REFUSALS))
+            compare.same("what comes last", self.order[-1], int(end))
+        first, last = re.search(NOT_THE_TEXT_SENTENCE, whole).groups()
+        of_lines = {int(number) for number in re.search(LINES_SENTENCE, whole).groups()}
+        compare.same("the refusals of comma lines", of_lines, set(cases.REFUSALS_OF["IMPORT"]) - set(cases.REFUSALS_OF["EXPORT"]))
+        compare.same("the refusals that do not concern the text", set(range(int(first), int(last) + 1)) | of_lines, set(self.order) - set(READING_REFUSALS))
 
     def try_tables_sentence(self):
         """The limits of tables, from both sides."""
@@ -981,6 +1309,8 @@ class Manual:
             for sort, least in wanted.items():
                 if self.counts[section][sort] < least:
                     self.fault(1, f"section {section}: {self.counts[section][sort]} {sort}, and there should be {least}")
+        if self.mended != set(FAULTS):
+            self.fault(1, f"no lines that are refused for {sorted(set(FAULTS) - self.mended)}")
         if not self.refused >= set(READING_REFUSALS):
             self.fault(1, f"no example of refusals {sorted(set(READING_REFUSALS) - self.refused)}")
         for place, letters in (("in front of AND, OR and NOT", self.fronts), ("in the brackets of a truth test", self.bracketed)):

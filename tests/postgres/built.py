@@ -40,7 +40,7 @@ def written(values):
 
 
 class Calls:
-    """The six calls of the whole archive."""
+    """The calls of the whole archive that read rules and run cards."""
 
     def __init__(self):
         built = library.load("roskudla")

@@ -51,4 +51,13 @@ extern "C" {
         rows_len: usize,
         count: *mut usize,
     ) -> u32;
+    pub fn roskudla_import(
+        lines: *const u8,
+        lines_len: usize,
+        columns: usize,
+        tables: *mut u8,
+        tables_len: usize,
+        length: *mut usize,
+    ) -> u32;
+    pub fn roskudla_export(tables: *const u8, tables_len: usize, lines: *mut u8, lines_len: usize, length: *mut usize) -> u32;
 }

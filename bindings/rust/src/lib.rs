@@ -1,7 +1,8 @@
-//! The six calls of Roskudla: entry rules with blanks, turned into cards that answer yes or no.
+//! The eight calls of Roskudla: entry rules with blanks, turned into cards that answer yes or no; and tables from comma lines, and back.
 //!
-//! A rule's text, a tables file and a card are bytes. What a call writes goes to a slice that the caller lends; a refusal leaves it as it was, and a success
-//! leaves what lies past the answer. With room for [`MOST_PARTS`], [`MOST_CARD_BYTES`] or [`MOST_ROWS`] elements, no call is refused with 12.
+//! A rule's text, a tables file, a card and comma lines are bytes. What [`read`], [`card`] and [`list`] write goes to a slice that the caller lends; a refusal
+//! leaves it as it was, and a success leaves what lies past the answer. With room for [`MOST_PARTS`], [`MOST_CARD_BYTES`] or [`MOST_ROWS`] elements, no call is
+//! refused with 12. [`import_lines`] and [`export_lines`] answer with a vector, which has room for any answer.
 //!
 //! Links `libroskudla.a`, which `bindings/build` writes. Every call may be used from several threads at a time; what it takes of a thread's stack, and
 //! how its time grows, is in `include/roskudla.h`.
@@ -19,6 +20,12 @@ pub const MOST_CARD_BYTES: usize = 2891;
 
 /// The most rows that a table has.
 pub const MOST_ROWS: usize = 1000;
+
+/// The most bytes that a tables file with one table has.
+pub const MOST_TABLE_BYTES: usize = 40964;
+
+/// The most bytes that the comma lines of a table have.
+pub const MOST_LINES_BYTES: usize = 98304;
 
 /// Why a call was refused: the number of the first refusal that applies, in the order that the call states.
 #[derive(Clone, Copy, Debug, PartialEq, Eq)]
@@ -40,6 +47,8 @@ impl fmt::Display for Refusal {
             11 => "the row is not in table 1",
             12 => "what was lent is shorter than the whole answer",
             13 => "the card would have over 192 entries",
+            14 => "comma lines: a bad field, a wrong field count, or columns not 1 to 16",
+            15 => "comma lines: over 1,000 rows or 8,192 cells",
             _ => "no published reason",
         };
         write!(f, "refused {}: {}", self.0, reason)
@@ -64,8 +73,8 @@ fn answer_of<T>(status: u32, answer: T) -> Result<T, Refusal> {
     }
 }
 
-// Each pointer below comes from a slice or a local, with the slice's length, and `&mut` keeps what is written from being reachable otherwise: that is all that
-// the C functions ask.
+// Each pointer below comes from a slice, a vector or a local, with its length, and `&mut` keeps what is written from being reachable otherwise: that is all
+// that the C functions ask.
 
 /// READ: writes the parts of a rule from the start of `parts` on, and answers how many they are. Refusals, in this order: 1 to 8, 13, 12.
 pub fn read(text: &[u8], tables: &[u8], parts: &mut [Part]) -> Result<usize, Refusal> {
@@ -115,4 +124,20 @@ pub fn list(card: &[u8], tables: &[u8], rows: &mut [u32]) -> Result<usize, Refus
     let status =
         unsafe { ffi::roskudla_list(card.as_ptr(), card.len(), tables.as_ptr(), tables.len(), rows.as_mut_ptr(), rows.len(), &mut count) };
     answer_of(status, count)
+}
+
+/// IMPORT: comma lines as a tables file with one table, of so many columns. Refusals, in this order: 14, 15.
+pub fn import_lines(lines: &[u8], columns: usize) -> Result<Vec<u8>, Refusal> {
+    let (mut tables, mut length) = (vec![0; MOST_TABLE_BYTES], 0);
+    let status = unsafe { ffi::roskudla_import(lines.as_ptr(), lines.len(), columns, tables.as_mut_ptr(), tables.len(), &mut length) };
+    tables.truncate(length);
+    answer_of(status, tables)
+}
+
+/// EXPORT: table 1 of a tables file as comma lines. Refusals, in this order: 1, 2.
+pub fn export_lines(tables: &[u8]) -> Result<Vec<u8>, Refusal> {
+    let (mut lines, mut length) = (vec![0; MOST_LINES_BYTES], 0);
+    let status = unsafe { ffi::roskudla_export(tables.as_ptr(), tables.len(), lines.as_mut_ptr(), lines.len(), &mut length) };
+    lines.truncate(length);
+    answer_of(status, lines)
 }

@@ -1,6 +1,7 @@
 //! The wrapper on document 01's own examples: its cases, its worked card and parts, each refusal, and what is lent before and after; and on document 02's truth
-//! tests.
-use roskudla::{card, check, judge, list, read, run, Part, Refusal, Truth, Value, MOST_CARD_BYTES, MOST_PARTS, MOST_ROWS};
+//! tests and comma lines.
+use roskudla::{card, check, export_lines, import_lines, judge, list, read, run, Part, Refusal, Truth, Value};
+use roskudla::{MOST_CARD_BYTES, MOST_LINES_BYTES, MOST_PARTS, MOST_ROWS, MOST_TABLE_BYTES};
 
 /// (1, 5), (2, blank), (3, 0); 1, blank; no rows. Under the blanks stand 7 and 1, which no answer may show.
 #[rustfmt::skip]
@@ -210,8 +211,109 @@ fn entries_before_rows_and_room() {
     assert_eq!(read(six.as_bytes(), CASE_TABLES, &mut []), Err(Refusal(12)));
 }
 
+/// The bytes of a tables file with one table, from its cells row by row; a blank one has 0 as its value.
+fn table(columns: u8, cells: &[Option<i32>]) -> Vec<u8> {
+    let rows = (cells.len() / columns as usize) as u16;
+    let mut bytes = vec![1, columns];
+    bytes.extend(rows.to_le_bytes());
+    bytes.extend(cells.iter().flat_map(|cell| cell.unwrap_or(0).to_le_bytes()));
+    bytes.extend(cells.iter().map(|cell| cell.is_none() as u8));
+    bytes
+}
+
+#[test]
+fn comma_lines_become_tables() {
+    let given: [(&[u8], u8, &[Option<i32>]); 14] = [
+        (b"", 1, &[]),
+        (b"", 16, &[]),
+        (b"\n", 1, &[None]),
+        (b"\r\n", 1, &[None]),
+        (b"1", 1, &[Some(1)]),
+        (b"1\n", 1, &[Some(1)]),
+        (b"1\r\n", 1, &[Some(1)]),
+        (b"1\n\n", 1, &[Some(1), None]),
+        (b",", 2, &[None, None]),
+        (b"-0,007\r\n,", 2, &[Some(0), Some(7), None, None]),
+        (b"1,2\n3,4\r\n5,6", 2, &[Some(1), Some(2), Some(3), Some(4), Some(5), Some(6)]),
+        (b"2147483647,-2147483648\n", 2, &[Some(i32::MAX), Some(i32::MIN)]),
+        (b"0000000001,-1\n,256", 2, &[Some(1), Some(-1), None, Some(256)]),
+        (b",,,,,,,,,,,,,,,\n", 16, &[None; 16]),
+    ];
+    for (lines, columns, cells) in given {
+        assert_eq!(import_lines(lines, columns as usize), Ok(table(columns, cells)), "{}", lines.escape_ascii());
+    }
+    assert_eq!(import_lines(b"", 1), Ok(vec![1, 1, 0, 0]));
+}
+
+/// In one column; a CR that ends no line, what is no number, and a field too many.
+#[rustfmt::skip]
+const BAD_LINES: [&[u8]; 20] = [
+    b"1\r", b"\r", b"1\r\r\n", b"1\r2\n", b"+1", b"1 ", b" 1", b" ", b"1.0", b"\"1\"", b"-", b"1-2", b"00000000001", b"12345678901", b"2147483648",
+    b"-2147483649", b"\xEF\xBB\xBF1", b"1\0", b"1,", b"1,2",
+];
+
+#[test]
+fn comma_lines_are_refused_with_14() {
+    for lines in BAD_LINES {
+        assert_eq!(import_lines(lines, 1), Err(Refusal(14)), "{}", lines.escape_ascii());
+    }
+    for lines in [b"\n" as &[u8], b"1", b"1,2\n1", b"1,2\n1,2,3", b"1,2\n\n", b"1;2"] {
+        assert_eq!(import_lines(lines, 2), Err(Refusal(14)), "{}", lines.escape_ascii());
+    }
+    for columns in [0, 17, 257, (1 << 32) + 1, usize::MAX] {
+        assert_eq!(import_lines(b"", columns), Err(Refusal(14)), "{columns} columns");
+        assert_eq!(import_lines(b"1", columns), Err(Refusal(14)), "{columns} columns");
+    }
+}
+
+/// 1,000 rows and 8,192 cells pass; one row more is refused with 15, and with 14 where something is wrong behind it.
+#[test]
+fn sizes_of_comma_lines() {
+    for (columns, most) in [(1, 1000), (8, 1000), (9, 910), (16, 512)] {
+        let line = [b",".repeat(columns - 1), b"\n".to_vec()].concat();
+        assert_eq!(import_lines(&line.repeat(most), columns), Ok(table(columns as u8, &vec![None; columns * most])));
+        assert_eq!(import_lines(&line.repeat(most + 1), columns), Err(Refusal(15)));
+        assert_eq!(import_lines(&[line.repeat(most + 1), b"x".to_vec()].concat(), columns), Err(Refusal(14)));
+        assert_eq!(import_lines(&line.repeat(most + 1), columns + 16), Err(Refusal(14)));
+    }
+}
+
+#[test]
+fn tables_become_comma_lines() {
+    let written: [(Vec<u8>, &[u8]); 8] = [
+        (table(1, &[Some(i32::MIN)]), b"-2147483648\n"),
+        (table(1, &[Some(0)]), b"0\n"),
+        (table(1, &[None]), b"\n"),
+        (table(1, &[]), b""),
+        (table(3, &[Some(i32::MAX), Some(-1), None, None, Some(10), Some(-100)]), b"2147483647,-1,\n,10,-100\n"),
+        (CASE_TABLES.to_vec(), b"1,5\n2,\n3,0\n"),
+        (WORKED_TABLES.to_vec(), b""),
+        (vec![1, 1, 1, 0, 9, 9, 9, 9, 1], b"\n"),
+    ];
+    for (tables, lines) in written {
+        assert_eq!(export_lines(&tables), Ok(lines.to_vec()), "{tables:?}");
+    }
+    for tables in [&[] as &[u8], &[0], &[1, 1, 1, 0, 0, 0, 0, 0], &[1, 1, 0, 0, 0], &[1, 17, 0, 0]] {
+        assert_eq!(export_lines(tables), Err(Refusal(1)), "{tables:?}");
+    }
+    assert_eq!(export_lines(&[1, 1, 1, 0, 0, 0, 0, 0, 2]), Err(Refusal(2)));
+}
+
+/// Writing and importing again gives table 1, with 0 under each blank; the rooms are exactly enough for the longest answers.
+#[test]
+fn there_and_back() {
+    let cells = [Some(1), Some(5), Some(2), None, Some(3), Some(0)];
+    assert_eq!(import_lines(&export_lines(CASE_TABLES).unwrap(), 2), Ok(table(2, &cells)));
+    assert_eq!(import_lines(&export_lines(&[1, 1, 1, 0, 9, 9, 9, 9, 1]).unwrap(), 1), Ok(table(1, &[None])));
+    let most = table(16, &[Some(i32::MIN); 8192]);
+    let lines = export_lines(&most).unwrap();
+    assert_eq!((most.len(), lines.len()), (MOST_TABLE_BYTES, MOST_LINES_BYTES));
+    assert_eq!(import_lines(&lines, 16), Ok(most));
+}
+
 #[test]
 fn refusals_say_why() {
     assert_eq!(Refusal(6).to_string(), "refused 6: the text does not follow the grammar");
     assert_eq!(Refusal(13).to_string(), "refused 13: the card would have over 192 entries");
+    assert_eq!(Refusal(15).to_string(), "refused 15: comma lines: over 1,000 rows or 8,192 cells");
 }

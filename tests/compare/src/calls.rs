@@ -171,12 +171,12 @@ impl Space {
         self.tables.give(&input.tables, shift, salt);
         self.card.give(&input.card, shift, salt);
         // parts and row numbers stand at multiples of four, a count at one of eight, and bytes anywhere
-        let lent_shift = if input.call == Call::Card { shift } else { shift / 4 * 4 };
+        let lent_shift = if element_size(input.call) == 1 { shift } else { shift / 4 * 4 };
         self.lent.lend(input.lent * element_size(input.call), lent_shift, salt);
         self.answer.lend(answer_size(input.call), 0, salt);
         match input.call {
             Call::Read => self.parts = self.lent.elements().iter().map(same_part).collect(),
-            Call::Card => self.bytes = self.lent.inside().to_vec(),
+            Call::Card | Call::Import | Call::Export => self.bytes = self.lent.inside().to_vec(),
             Call::List => self.rows = self.lent.elements(),
             _ => {}
         }
@@ -197,13 +197,15 @@ impl Space {
                 Call::Check => ffi::roskudla_check(card, card_len),
                 Call::Run => ffi::roskudla_run(card, card_len, tables, tables_len, input.row, answer),
                 Call::List => ffi::roskudla_list(card, card_len, tables, tables_len, lent.cast(), lent_len, answer.cast()),
+                Call::Import => ffi::roskudla_import(text, text_len, input.columns, lent, lent_len, answer.cast()),
+                Call::Export => ffi::roskudla_export(tables, tables_len, lent, lent_len, answer.cast()),
             }
         }
     }
 
     /// The reference's answer as a number, or its refusal.
     fn call_reference(&mut self, input: &Input) -> Result<u64, u32> {
-        let Input { text, tables, card, row, .. } = input;
+        let Input { text, tables, card, row, columns, .. } = input;
         match input.call {
             Call::Read => reference::read(text, tables, &mut self.parts).map(|count| count as u64),
             Call::Judge => reference::judge(text, tables, *row).map(|truth| match truth {
@@ -215,6 +217,8 @@ impl Space {
             Call::Check => reference::check(card).map(|()| 0),
             Call::Run => reference::run(card, tables, *row).map(u64::from),
             Call::List => reference::list(card, tables, &mut self.rows).map(|count| count as u64),
+            Call::Import => reference::import(text, *columns, &mut self.bytes).map(|length| length as u64),
+            Call::Export => reference::export(tables, &mut self.bytes).map(|length| length as u64),
         }
     }
 
@@ -277,15 +281,15 @@ impl Space {
     /// The lent buffer: as the reference's in every element, and byte for byte as before past the answer.
     fn verify_lent(&self, input: &Input, expected: Result<u64, u32>) -> Result<(), String> {
         let written = match (input.call, expected) {
-            (Call::Read | Call::Card | Call::List, Ok(count)) => count as usize,
-            _ => 0,
+            (Call::Judge | Call::Check | Call::Run, _) | (_, Err(_)) => 0,
+            (_, Ok(count)) => count as usize,
         };
         if written > input.lent {
             return Err("the answer is longer than the lent buffer".into());
         }
         let same = match input.call {
             Call::Read => self.lent.elements().iter().map(library_fields).eq(self.parts.iter().map(reference_fields)),
-            Call::Card => self.lent.inside() == self.bytes,
+            Call::Card | Call::Import | Call::Export => self.lent.inside() == self.bytes,
             Call::List => self.lent.elements::<u32>() == self.rows,
             _ => true,
         };
@@ -324,7 +328,7 @@ impl Space {
                 let library = self.lent.elements().iter().map(|part| fields(library_fields(part))).collect();
                 (library, self.parts.iter().map(|part| fields(reference_fields(part))).collect())
             }
-            Call::Card => {
+            Call::Card | Call::Import | Call::Export => {
                 let library = self.lent.inside().iter().map(|byte| hex(&[*byte])).collect();
                 (library, self.bytes.iter().map(|byte| hex(&[*byte])).collect())
             }
@@ -344,6 +348,9 @@ fn sort(input: &Input, answer: u64) -> usize {
         Call::List if answer == 0 => 0,
         Call::List if (answer as usize) < rows_of_first(&input.tables) => 1,
         Call::List => 2,
+        // a tables file without rows has its sizes alone
+        Call::Import => usize::from(answer > 4),
+        Call::Export => usize::from(answer > 0),
         _ => 0,
     }
 }
@@ -355,12 +362,13 @@ pub fn hex(bytes: &[u8]) -> String {
 /// An input in full.
 pub fn printed(input: &Input) -> String {
     let mut lines = vec![format!("call:   {:?}", input.call)];
-    if matches!(input.call, Call::Read | Call::Judge | Call::Card) {
-        lines.push(format!("text:   \"{}\"", input.text.escape_ascii()));
-    } else {
-        lines.push(format!("card:   {}", hex(&input.card)));
+    match input.call {
+        Call::Read | Call::Judge | Call::Card => lines.push(format!("text:   \"{}\"", input.text.escape_ascii())),
+        Call::Check | Call::Run | Call::List => lines.push(format!("card:   {}", hex(&input.card))),
+        Call::Import => lines.push(format!("lines:  \"{}\"\ncolumns: {}", input.text.escape_ascii(), input.columns)),
+        Call::Export => {}
     }
-    if input.call != Call::Check {
+    if !matches!(input.call, Call::Check | Call::Import) {
         lines.push(format!("tables: {}", hex(&input.tables)));
     }
     match input.call {

@@ -1,10 +1,10 @@
-//! One input: a call with its bytes, its row and the length of its lent buffer; and the mixture that inputs are drawn from.
+//! One input: a call with its bytes, its row or columns and the length of its lent buffer; and the mixture that inputs are drawn from.
 
 use crate::draw::Draw;
-use crate::limits::{card_bytes, MOST_ENTRIES, MOST_PARTS, MOST_ROWS, MOST_TABLES, MOST_TEXT_BYTES};
+use crate::limits::{card_bytes, MOST_ENTRIES, MOST_LINES_BYTES, MOST_PARTS, MOST_ROWS, MOST_TABLES, MOST_TABLE_BYTES, MOST_TEXT_BYTES};
 use crate::rules::{self, Bounds};
 use crate::tables::{self, Size};
-use crate::{cards, faults, tokens, truths};
+use crate::{cards, faults, lines, tokens, truths};
 
 #[derive(Clone, Copy, PartialEq, Eq, Debug)]
 pub enum Call {
@@ -14,20 +14,28 @@ pub enum Call {
     Check,
     Run,
     List,
+    Import,
+    Export,
 }
 
 /// The bytes of the longest sound card.
 const MOST_CARD_BYTES: usize = card_bytes(MOST_TABLES, MOST_ENTRIES);
 
-pub const CALLS: [Call; 6] = [Call::Read, Call::Judge, Call::Card, Call::Check, Call::Run, Call::List];
+pub const CALLS: [Call; 8] = [Call::Read, Call::Judge, Call::Card, Call::Check, Call::Run, Call::List, Call::Import, Call::Export];
+
+/// How many turns are taken until all calls had theirs: two each, but one for EXPORT, which is given a tables file alone.
+const TURNS: usize = 2 * CALLS.len() - 1;
 
 /// Everything that one call is given. What its call does not take stays empty.
 pub struct Input {
     pub call: Call,
+    /// A rule's text, or comma lines.
     pub text: Vec<u8>,
     pub tables: Vec<u8>,
     pub card: Vec<u8>,
     pub row: usize,
+    /// What IMPORT is told.
+    pub columns: usize,
     /// Elements of the lent buffer: parts, bytes or row numbers.
     pub lent: usize,
     /// Where buffers of bytes start, past a multiple of eight.
@@ -39,17 +47,19 @@ pub struct Input {
 /// Input number `number` of a seed. The calls take turns.
 pub fn input(seed: u64, number: u64) -> Input {
     let mut draw = Draw::new(seed, number);
-    let call = CALLS[number as usize % CALLS.len()];
+    let call = CALLS[number as usize % TURNS % CALLS.len()];
     let (shift, salt) = (draw.below(8), draw.word() as u8);
-    let mut input = Input { call, text: Vec::new(), tables: Vec::new(), card: Vec::new(), row: 0, lent: 0, shift, salt };
+    let mut input = Input { call, text: Vec::new(), tables: Vec::new(), card: Vec::new(), row: 0, columns: 0, lent: 0, shift, salt };
     match call {
         Call::Read | Call::Judge | Call::Card => text_and_tables(&mut draw, &mut input),
         Call::Check | Call::Run | Call::List => card_and_tables(&mut draw, &mut input),
+        Call::Import => (input.text, input.columns) = lines::lines(&mut draw),
+        Call::Export => input.tables = lines::tables(&mut draw),
     }
     if matches!(call, Call::Judge | Call::Run) {
         input.row = row(&mut draw, &input.tables);
     }
-    if matches!(call, Call::Read | Call::Card | Call::List) {
+    if !matches!(call, Call::Judge | Call::Check | Call::Run) {
         input.lent = lent(&mut draw, &input);
     }
     input
@@ -240,6 +250,10 @@ fn lent(draw: &mut Draw, input: &Input) -> usize {
     let (most, huge) = match input.call {
         Call::Read => (MOST_PARTS, 256),
         Call::Card => (MOST_CARD_BYTES, 65536),
+        // a cell is five bytes of a tables file; lines have a byte behind each cell but the last
+        Call::Import => ((9 + 5 * input.text.len()).min(MOST_TABLE_BYTES), 65536),
+        // and at most twelve bytes of lines
+        Call::Export => ((12 * input.tables.len() / 5).min(MOST_LINES_BYTES), MOST_LINES_BYTES),
         _ => (rows_of_first(&input.tables), 65536),
     };
     match draw.weighted(&[180, 12, 148, 59, 1]) {
@@ -259,6 +273,8 @@ fn needed(input: &Input) -> Option<usize> {
     let answer = match input.call {
         Call::Read => reference::read(&input.text, &input.tables, &mut [reference::Part::default(); MOST_PARTS]),
         Call::Card => reference::card(&input.text, &input.tables, &mut [0; MOST_CARD_BYTES]),
+        Call::Import => reference::import(&input.text, input.columns, &mut [0; MOST_TABLE_BYTES]),
+        Call::Export => reference::export(&input.tables, &mut [0; MOST_LINES_BYTES]),
         _ => reference::list(&input.card, &input.tables, &mut [0; MOST_ROWS]),
     };
     answer.ok()

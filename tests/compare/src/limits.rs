@@ -1,4 +1,5 @@
-//! The limits of document 01 that inputs are drawn around. Document 02 has one of them for the sum of a rule's entries too.
+//! The limits of document 01 that inputs are drawn around. Document 02 has one of them for the sum of a rule's entries too, and those of
+//! a table for comma lines.
 
 /// Bytes of a text.
 pub const MOST_TEXT_BYTES: usize = 4096;
@@ -20,6 +21,15 @@ pub const MOST_ROWS: usize = 1000;
 
 /// Cells of a file.
 pub const MOST_CELLS: usize = 8192;
+
+/// Digits of a number.
+pub const MOST_DIGITS: usize = 10;
+
+/// Bytes of a tables file with one table.
+pub const MOST_TABLE_BYTES: usize = 4 + 5 * MOST_CELLS;
+
+/// Bytes of the comma lines of a table: in each cell the lowest number, and a comma or LF behind it.
+pub const MOST_LINES_BYTES: usize = 12 * MOST_CELLS;
 
 /// Entries of a card.
 pub const MOST_ENTRIES: usize = 192;

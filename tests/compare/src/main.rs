@@ -1,4 +1,4 @@
-//! Compares the six calls of the library with the reference, on inputs that are drawn from a seed.
+//! Compares the eight calls of the library with the reference, on inputs that are drawn from a seed.
 //!
 //!     compare --seed S --inputs N [--from K] [--threads 2]     compares inputs K to K + N - 1 of the seed
 //!     compare --seed S --inputs N --seconds T [--least M]      the same for T seconds at the most, or longer, until M were compared
@@ -14,6 +14,7 @@ mod draw;
 mod faults;
 mod inputs;
 mod limits;
+mod lines;
 mod outcomes;
 mod rules;
 mod tables;

@@ -10,7 +10,7 @@ pub enum Outcome {
 }
 
 /// The highest number of a refusal.
-const REFUSALS: usize = 13;
+const REFUSALS: usize = 15;
 
 /// The most sorts of answers that a call has.
 const SORTS: usize = 3;
@@ -24,6 +24,8 @@ fn answers(call: Call) -> &'static [&'static str] {
         Call::Check => &["sound"],
         Call::Run => &["no", "yes"],
         Call::List => &["no row", "some rows", "all rows"],
+        Call::Import => &["no row", "rows"],
+        Call::Export => &["no line", "lines"],
     }
 }
 
@@ -35,6 +37,8 @@ fn refusals(call: Call) -> &'static [u32] {
         Call::Check => &[9],
         Call::Run => &[1, 2, 9, 10, 11],
         Call::List => &[1, 2, 9, 10, 12],
+        Call::Import => &[14, 15, 12],
+        Call::Export => &[1, 2, 12],
     }
 }
 
