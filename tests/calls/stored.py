@@ -1,10 +1,11 @@
 """Stored answers: texts of random tokens and of random bytes, rules right and damaged, texts around 4,096 bytes, and behind them texts with truth tests, right
-and damaged, with the answers that the reference model gave.
+and damaged; comma lines and tables files, right and damaged; with the answers that the reference model gave.
 
 The files are not made anew by a test; `python3 -B tests/calls/stored.py` writes them, and a change of one is to be read line by line. It keeps the stored
 texts, whatever the functions that drew them would draw now, and gives each the model's answer; where a file has fewer than are wanted, it draws the others.
 A line: the number of a tables file (below), the text in hexadecimal, and the answer: the refusal; or for READ the numbers of the parts, and for JUDGE and
-CARD the values on the rows of table 1, a letter each, and the bytes of the card in hexadecimal.
+CARD the values on the rows of table 1, a letter each, and the bytes of the card in hexadecimal. For IMPORT the number is that of the columns, and for EXPORT,
+where it is 0, the tables file stands in place of the text; their answers are bytes in hexadecimal.
 """
 import pathlib
 import random
@@ -32,8 +33,8 @@ LETTERS = {truth: letter for letter, truth in TRUTHS.items()}
 class Store(typing.NamedTuple):
     """A file of so many stored answers.
 
-    `drawn` gives a text and the number of its tables file, `answer` the model's answer to a text and a tables file, `written` an answer that is no
-    refusal as it is stored, and `had_back` the same from what is stored.
+    `drawn` gives a text and a number, `answer` the model's answer to a text and what the number stands for, `written` an answer that is no refusal as it is
+    stored, `had_back` the same from what is stored, and `given` what a number stands for: one of the tables files above, unless it says otherwise.
     """
     name: str
     seed: int
@@ -42,24 +43,25 @@ class Store(typing.NamedTuple):
     answer: typing.Callable
     written: typing.Callable
     had_back: typing.Callable
+    given: typing.Callable = FILES.__getitem__
 
     def path(self):
         return pathlib.Path(__file__).with_name(self.name)
 
     def lines(self):
-        """The stored texts, the numbers of their tables files, and the answers as they are stored."""
+        """The stored texts, their numbers, and the answers as they are stored."""
         for line in self.path().read_text().splitlines():
             number, text, answer = line.split("\t")
             yield bytes.fromhex(text), int(number), answer
 
     def answers(self):
-        """The stored texts, their tables files and answers."""
+        """The stored texts, what their numbers stand for, and the answers."""
         for text, number, answer in self.lines():
             refused = answer.startswith("refused ")
-            yield text, FILES[number], model.Refused(int(answer.split()[1])) if refused else self.had_back(answer)
+            yield text, self.given(number), model.Refused(int(answer.split()[1])) if refused else self.had_back(answer)
 
     def line(self, text, number):
-        answer = self.answer(text, FILES[number])
+        answer = self.answer(text, self.given(number))
         said = f"refused {answer.number}" if isinstance(answer, model.Refused) else self.written(answer)
         return f"{number}\t{text.hex()}\t{said}\n"
 
@@ -152,8 +154,53 @@ RULE = Store(
 )
 
 
+# ---- IMPORT and EXPORT
+
+LONGEST_LINES = 160
+LONGEST_TABLES = 200
+
+
+def drawn_for_importing(draw):
+    """Short comma lines, and how many columns."""
+    while True:
+        lines, columns = cases.drawn_lines(draw)
+        if len(lines) <= LONGEST_LINES:
+            return lines, columns
+
+
+def drawn_for_exporting(draw):
+    """A short tables file, in place of a text."""
+    while True:
+        file = cases.drawn_export(draw).file
+        if len(file) <= LONGEST_TABLES:
+            return file, 0
+
+
+IMPORT = Store(
+    name="stored_import_answers.txt",
+    seed=20261203,
+    size=800,
+    drawn=drawn_for_importing,
+    answer=lambda lines, columns: model.import_lines(lines, columns, cases.AMPLE_COMMA_ROOM),
+    written=bytes.hex,
+    had_back=bytes.fromhex,
+    given=int,
+)
+
+EXPORT = Store(
+    name="stored_export_answers.txt",
+    seed=20261204,
+    size=500,
+    drawn=drawn_for_exporting,
+    answer=lambda file, _: model.export_lines(file, cases.AMPLE_COMMA_ROOM),
+    written=bytes.hex,
+    had_back=bytes.fromhex,
+    given=lambda _: None,
+)
+
+
 def main():
-    for store in (READ, RULE):
+    for store in (READ, RULE, IMPORT, EXPORT):
         store.write()
 
 

@@ -1,4 +1,4 @@
-"""IMPORT and EXPORT as built, against answers worked out by hand from document 02, the reference model, and Python's csv module: every byte value at every
+"""IMPORT and EXPORT as built, against answers worked out by hand from document 02, stored answers, the reference model, and Python's csv module: every byte value at every
 place of small files, sizes around every limit, every set of refusals together, buffers of every length, random draws and damage; there and back; and that every
 tables file that IMPORT gives is one that READ and LIST accept.
 
@@ -17,6 +17,7 @@ import struct
 import compare
 import library
 import paper
+import stored
 import variants
 
 import cases  # noqa: E402  (library adds the model's folder to the path)
@@ -138,21 +139,40 @@ def check_written(answer_in, model_answer, wanted):
         compare.same((compare.shown(wanted), "with room for", room), answer_in(lent), stated)
 
 
+def imports_written(calls, lines, columns, wanted):
+    """The sorts of IMPORT's answers to lines whose answer is written down."""
+    by_model = model.import_lines(lines, columns, cases.AMPLE_COMMA_ROOM)
+    return (("IMPORT", sort) for sort in check_written(functools.partial(calls.imported, lines, columns), by_model, wanted))
+
+
+def exports_written(calls, file, wanted):
+    """The sorts of EXPORT's answers to a tables file whose answer is written down."""
+    by_model = model.export_lines(file, cases.AMPLE_COMMA_ROOM)
+    return (("EXPORT", sort) for sort in check_written(functools.partial(calls.lines.export_lines, file), by_model, wanted))
+
+
 def check_paper(calls):
     """The answers that are worked out by hand."""
     seen = collections.Counter()
     for lines, columns, answer in paper.IMPORTS:
-        wanted = model.Refused(answer) if isinstance(answer, int) else paper.table(columns, answer)
-        by_model = model.import_lines(lines, columns, cases.AMPLE_COMMA_ROOM)
-        for sort in check_written(functools.partial(calls.imported, lines, columns), by_model, wanted):
-            seen["IMPORT", sort] += 1
+        seen.update(imports_written(calls, lines, columns, model.Refused(answer) if isinstance(answer, int) else paper.table(columns, answer)))
     for file, answer in paper.EXPORTS:
-        wanted = model.Refused(answer) if isinstance(answer, int) else answer
-        for sort in check_written(functools.partial(calls.lines.export_lines, file), model.export_lines(file, cases.AMPLE_COMMA_ROOM), wanted):
-            seen["EXPORT", sort] += 1
+        seen.update(exports_written(calls, file, model.Refused(answer) if isinstance(answer, int) else answer))
     for file, wanted in paper.THERE_AND_BACK:
         compare.same("there and back", calls.file_of(calls.lines_of(file), file[1]), wanted)
     compare.agreed("answers worked out by hand", seen, WANTED)
+
+
+def check_stored(calls):
+    """The stored answers: neither the library nor the model has moved from them."""
+    seen = collections.Counter()
+    for lines, columns, wanted in stored.IMPORT.answers():
+        seen.update(imports_written(calls, lines, columns, wanted))
+    for file, _, wanted in stored.EXPORT.answers():
+        seen.update(exports_written(calls, file, wanted))
+    for store in (stored.IMPORT, stored.EXPORT):
+        compare.same(f"how many answers are in {store.name}", sum(1 for _ in store.answers()), store.size)
+    compare.agreed("stored answers", seen, import_sorts(12, 14) | export_sorts(1, 2, 12))
 
 
 # ---- bytes of every value at every place
@@ -377,6 +397,7 @@ def check_there_and_back(calls):
 
 def check_all(calls):
     check_paper(calls)
+    check_stored(calls)
     check_csv(calls)
     check_there_and_back(calls)
     comparison = compare.Comparison(calls.answer_of)
