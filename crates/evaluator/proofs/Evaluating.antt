@@ -27,9 +27,10 @@ use Rattle.names.specs.Code.{partSize, partComparison, partTable, partEnd, part
 use Rattle.parts.specs.Parts.{Stands}
 use Rattle.rule.proofs.Parts.{from-back}
 use Rattle.rule.proofs.Groups.{truth-number, test-number}
+use Rattle.rule.proofs.Arithmetic.{number-high}
 use Rattle.parts.proofs.Parts.{parts-low, kind-low, kind-high, part-comparison, part-table, part-left, part-right, IsTest, IsJoin, IsUnary, IsExists, IsListed, is-test, is-join, is-unary, is-exists, is-listed}
-use Rattle.evaluator.specs.Code.{decidedBy, taken, Decides, UnaryValued, unlessUnknown, emptyTruth, emptyOver, OverNone, TestReady, TestEvaluated, Evaluable, Evaluates, RowReady, RowEvaluated}
-use Rattle.evaluator.proofs.Truths.{rank-high, join-rank, left-stop, is-kept, not-kept, overRows, over-none, over-more, over-stop, over-on, none-open, more-open, quantifierOf, kind-is, none-is, none-decides}
+use Rattle.evaluator.specs.Code.{decidedBy, Decides, UnaryValued, unlessUnknown, emptyTruth, emptyOver, OverNone, TestReady, TestEvaluated, Evaluable, Evaluates, RowReady, RowEvaluated}
+use Rattle.evaluator.proofs.Truths.{taken, taken-meant, left-stop, is-kept, not-kept, overRows, over-none, over-more, over-stop, over-on, none-open, more-open, quantifierOf, kind-is, none-is, none-decides}
 use Rattle.evaluator.proofs.Rows.{exists-rows, listed-rows}
 use Rattle.evaluator.proofs.Testing.{value-ready, value-seen}
 
@@ -201,7 +202,7 @@ module _ {p g file w : List ℕ} {s depth : ℕ} (h : Evaluable p g file w s dep
       unary-value = evaluated unary-inner
 
       pub unary-room : v ≤ truthNumber True
-      unary-room = omega (arith, unary-value, rank-high unaryTruth)
+      unary-room = omega (arith, unary-value, number-high unaryTruth)
 
       pub unary-evaluated : (r : ℕ) → UnaryValued kindHere v r → Means r
       unfolding meaning
@@ -260,7 +261,7 @@ module _ {p g file w : List ℕ} {s depth : ℕ} (h : Evaluable p g file w s dep
           e
           ∙ ap (λ (d : ℕ). taken d a b) (o .decides-is)
           ∙ ap₂ (taken (decidedBy j)) left-value (right right-inner)
-          ∙ join-rank j _ _
+          ∙ taken-meant j _ _
           ∙ ap truthNumber (means-as (join-here .is))
 
   -- ---- the rows of a table

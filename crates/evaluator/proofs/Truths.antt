@@ -1,49 +1,28 @@
--- Truth values as numbers: AND takes the lesser, OR the greater, NOT what is left to 2, a truth test compares; SOME and ALL go row by row.
+-- Truth values as numbers: AND, OR and NOT by arithmetic, a truth test compares; SOME and ALL go row by row.
 use mathlib.Core.Path.{_≡_, refl, sym, ap, _∙_}
 use mathlib.Core.Bool.{Bool, true, false, not, cond, _||_}
 use mathlib.Core.List.{List, [], _∷_, map}
-use Prim.Native.Nat.{ℕ, zero, suc, _-_, _<_, _≤_}
+use Prim.Native.Nat.{ℕ, zero, suc, _-_, _<_, _≤_, min, max}
 use native.Mathlib.Nat.{le-of-suc-le-suc, not-suc-le-zero}
 use native.Mathlib.Omega.{arith}
 use lib.Dec.{eqb}
-use lib.ListN.{getD}
+use borrow.Author.Tests.{eq-eqb, ne-eqb}
 use Rattle.tables.specs.Lists.{tabulate, any, put, keep}
 use Rattle.tables.specs.Values.{Connective, And, Or, Quantifier, Some, All}
-use Rattle.rule.specs.Condition.{Unary, Not, Is, IsNot}
-use Rattle.rule.specs.Truth.{Truth, False, Unknown, True, truth, isTrue, isThat, and3, or3, join3, truthNumber}
+use Rattle.rule.specs.Condition.{Unary, Is, IsNot}
+use Rattle.rule.specs.Truth.{Truth, False, Unknown, True, truth, isTrue, isThat, and3, or3, join3, deciding, truthNumber}
 use Rattle.rule.specs.Meaning.{unary3, over3}
 use Rattle.rule.specs.Parts.{unaryKind, listKind}
 use Rattle.rule.proofs.Groups.{same-unary}
 use Rattle.rule.proofs.Truths.{some-cons, all-cons}
-use Rattle.evaluator.specs.Code.{decidedBy, taken, UnaryValued, unlessUnknown, emptyTruth, emptyOver, OverNone}
-
-pub rank-high : (a : Truth) → truthNumber a ≤ truthNumber True
-rank-high False = omega arith
-rank-high Unknown = omega arith
-rank-high True = omega arith
-
--- a truth value by its number
-same-truth : (a b : Truth) → truthNumber a ≡ truthNumber b → a ≡ b
-same-truth a b e = sym (back a) ∙ ap truthAt e ∙ back b
-  where
-    truthAt : ℕ → Truth
-    truthAt n = getD (False ∷ Unknown ∷ True ∷ []) n True
-
-    back : (a : Truth) → truthAt (truthNumber a) ≡ a
-    back False = refl
-    back Unknown = refl
-    back True = refl
+use Rattle.rule.proofs.Arithmetic.{number-high, same-truth, arithmetic-claim}
+use Rattle.evaluator.specs.Code.{decidedBy, UnaryValued, unlessUnknown, emptyTruth, emptyOver, OverNone}
 
 -- ---- one-place parts
 
 -- f of the condition's value, if that is what the part makes of each truth value
 pub unary-valued : {kind inner : ℕ} (u : Unary) → kind ≡ unaryKind u → (f : ℕ → ℕ) → ((a : Truth) → f (truthNumber a) ≡ truthNumber (unary3 u a)) → {r : ℕ} → r ≡ f inner → UnaryValued kind inner r
 unary-valued u e f law z v e′ a i = z ∙ ap f i ∙ law a ∙ ap (λ u. truthNumber (unary3 u a)) (same-unary u v (sym e ∙ e′))
-
-pub not-rank : (a : Truth) → truthNumber True - truthNumber a ≡ truthNumber (unary3 Not a)
-not-rank False = refl
-not-rank Unknown = refl
-not-rank True = refl
 
 -- a truth test compares the numbers
 same-number : (t a : Truth) → eqb (truthNumber a) (truthNumber t) ≡ isThat t a
@@ -66,32 +45,32 @@ module _ (t : Truth) {kind inner r : ℕ} where
 
 -- ---- connectives
 
-pub join-rank : (j : Connective) (a b : Truth) → taken (decidedBy j) (truthNumber a) (truthNumber b) ≡ truthNumber (join3 j a b)
-join-rank And False b = omega arith
-join-rank And Unknown False = refl
-join-rank And Unknown Unknown = refl
-join-rank And Unknown True = refl
-join-rank And True b = omega (arith, rank-high b)
-join-rank Or False b = omega arith
-join-rank Or Unknown False = refl
-join-rank Or Unknown Unknown = refl
-join-rank Or Unknown True = refl
-join-rank Or True b = omega (arith, rank-high b)
+-- what the two sides come to, by the value that decides
+abbrev pub taken : ℕ → ℕ → ℕ → ℕ
+taken decides a b = cond (eqb decides (truthNumber False)) (min a b) (max a b)
+
+pub takes-smaller : (decides a b : ℕ) → decides ≡ truthNumber False → min a b ≡ taken decides a b
+takes-smaller decides a b e = ap (λ t. cond t (min a b) (max a b)) (sym (eq-eqb decides (truthNumber False) e))
+
+pub takes-greater : (decides a b : ℕ) → (decides ≡ truthNumber False → ⊥) → max a b ≡ taken decides a b
+takes-greater decides a b f = ap (λ t. cond t (min a b) (max a b)) (sym (ne-eqb decides (truthNumber False) f))
+
+pub taken-meant : (j : Connective) (a b : Truth) → taken (decidedBy j) (truthNumber a) (truthNumber b) ≡ truthNumber (join3 j a b)
+taken-meant And a b = sym (arithmetic-claim .and-is a b)
+taken-meant Or a b = sym (arithmetic-claim .or-is a b)
 
 -- one side decides, the left or the right one
 pub left-stop : (j : Connective) (a b : Truth) → truthNumber a ≡ decidedBy j → decidedBy j ≡ truthNumber (join3 j a b)
-left-stop And a b e = omega (arith, join-rank And a b)
-left-stop Or a b e = omega (arith, join-rank Or a b, rank-high b)
+left-stop j a b e = ap truthNumber (sym (ap (λ v. join3 j v b) (same-truth a (deciding j) e) ∙ arithmetic-claim .left-decides j b))
 
 right-stop : (j : Connective) (a b : Truth) → decidedBy j ≡ truthNumber b → decidedBy j ≡ truthNumber (join3 j a b)
-right-stop And a b e = omega (arith, join-rank And a b)
-right-stop Or a b e = omega (arith, join-rank Or a b, rank-high a)
+right-stop j a b e = ap truthNumber (sym (ap (join3 j a) (sym (same-truth (deciding j) b e)) ∙ arithmetic-claim .right-decides j a))
 
 join-assoc : (j : Connective) (a b d : Truth) → join3 j (join3 j a b) d ≡ join3 j a (join3 j b d)
 join-assoc And a b d =
-    same-truth _ _ (omega (arith, join-rank And a b, join-rank And b d, join-rank And (and3 a b) d, join-rank And a (and3 b d)))
+    same-truth _ _ (omega (arith, arithmetic-claim .and-is a b, arithmetic-claim .and-is b d, arithmetic-claim .and-is (and3 a b) d, arithmetic-claim .and-is a (and3 b d)))
 join-assoc Or a b d =
-    same-truth _ _ (omega (arith, join-rank Or a b, join-rank Or b d, join-rank Or (or3 a b) d, join-rank Or a (or3 b d)))
+    same-truth _ _ (omega (arith, arithmetic-claim .or-is a b, arithmetic-claim .or-is b d, arithmetic-claim .or-is (or3 a b) d, arithmetic-claim .or-is a (or3 b d)))
 
 -- a row is retained where its value is true
 pub is-kept : (a : Truth) → truthNumber a ≡ truthNumber True → isTrue a ≡ true
@@ -133,8 +112,8 @@ empty-two Some a = refl
 empty-two All a = refl
 
 two-empty : (q : Quantifier) (a : Truth) → overTwo q a (emptyTruth q) ≡ a
-two-empty Some a = same-truth _ _ (omega (arith, join-rank Or a False))
-two-empty All a = same-truth _ _ (omega (arith, join-rank And a True, rank-high a))
+two-empty Some a = same-truth _ _ (omega (arith, arithmetic-claim .or-is a False))
+two-empty All a = same-truth _ _ (omega (arith, arithmetic-claim .and-is a True, number-high a))
 
 module _ {A : Type 0} (q : Quantifier) (retained : A → Bool) (f : A → Truth) where
   -- over the rows that are retained, and over all rows
@@ -178,12 +157,12 @@ over-stop q (suc n) f (suc k) l e =
 -- no row has decided yet, and the next one does not
 pub over-on : (q : Quantifier) (a b : Truth) → (truthNumber a ≡ decidedBy (overRows q) → ⊥) → (truthNumber b ≡ decidedBy (overRows q) → ⊥)
     → unlessUnknown (truthNumber b) (truthNumber a) ≡ truthNumber (overTwo q a b)
-over-on Some a False f g = omega (arith, join-rank Or a False)
-over-on Some a Unknown f g = omega (arith, join-rank Or a Unknown, rank-high a)
+over-on Some a False f g = omega (arith, arithmetic-claim .or-is a False)
+over-on Some a Unknown f g = omega (arith, arithmetic-claim .or-is a Unknown, number-high a)
 over-on Some a True f g = absurd (g refl)
 over-on All a False f g = absurd (g refl)
-over-on All a Unknown f g = omega (arith, join-rank And a Unknown)
-over-on All a True f g = omega (arith, join-rank And a True, rank-high a)
+over-on All a Unknown f g = omega (arith, arithmetic-claim .and-is a Unknown)
+over-on All a True f g = omega (arith, arithmetic-claim .and-is a True, number-high a)
 
 -- ---- the value over no rows, as a number, is not the one that decides
 
@@ -224,7 +203,7 @@ module _ {kind empty : ℕ} (o : OverNone kind empty) where
   none-is = o .empty-is ∙ ap emptyOver quantifier-is
 
   pub none-high : empty ≤ truthNumber True
-  none-high = omega (arith, o .empty-is, rank-high (emptyTruth (o .lists .0)))
+  none-high = omega (arith, o .empty-is, number-high (emptyTruth (o .lists .0)))
 
   pub none-decides : truthNumber True - empty ≡ decidedBy (overRows (quantifierOf kind))
   none-decides = ap (truthNumber True -_) none-is ∙ over-decides (quantifierOf kind)

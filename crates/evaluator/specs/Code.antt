@@ -3,11 +3,11 @@
 use mathlib.Core.Path.{_≡_}
 use mathlib.Core.Bool.{cond}
 use mathlib.Core.List.{List}
-use Prim.Native.Nat.{ℕ, _+_, _<_, _≤_, min, max}
+use Prim.Native.Nat.{ℕ, _+_, _<_, _≤_}
 use lib.Dec.{eqb}
 use lib.ListN.{length}
 use Rattle.tables.specs.Tables.{columnsOf, tablesOf}
-use Rattle.tables.specs.Values.{mostLevels, Value, Comparison, Connective, And, Or, Quantifier, Some, All, Env, cellOf}
+use Rattle.tables.specs.Values.{mostLevels, Value, Comparison, Connective, Quantifier, Some, All, Env, cellOf}
 use Rattle.cells.specs.Code.{seenCell}
 use Rattle.cells.specs.declared.Seen.{Seen}
 use Rattle.values.specs.Code.{Readable}
@@ -15,23 +15,18 @@ use Rattle.rule.specs.Condition.{Test, Unary, From, Rule, parts, fromsDeep}
 use Rattle.rule.specs.Names.{mostParts, ValueFits, TestFits, Fits}
 use Rattle.rule.specs.Parts.{AtomHead, ListedHead, unaryKind, partOf}
 use Rattle.rule.specs.Groups.{JoinNumber, ListNumber}
-use Rattle.rule.specs.Truth.{Truth, False, Unknown, True, isTrue, truthNumber}
+use Rattle.rule.specs.Truth.{Truth, False, Unknown, True, isTrue, deciding, truthNumber}
 use Rattle.rule.specs.Meaning.{test3, unary3, compare3, meaning}
 use Rattle.names.specs.Code.{partsSize}
 use Rattle.parts.specs.Parts.{PartAt, Stands}
 
 -- ---- truth values as numbers
 
--- the value of one side that decides for both: false of AND, true of OR
+-- the value of one side that decides for both, as a number
 abbrev pub decidedBy : Connective → ℕ
-decidedBy And = truthNumber False
-decidedBy Or = truthNumber True
+decidedBy j = truthNumber (deciding j)
 
--- what the two sides come to, by the value that decides: AND takes the lesser, OR the greater
-abbrev pub taken : ℕ → ℕ → ℕ → ℕ
-taken decides a b = cond (eqb decides (truthNumber False)) (min a b) (max a b)
-
--- a part of this kind is AND or OR, and decides is the value that decides for both sides
+-- a part of this kind is AND or OR, and decides is that number of it
 pub record Decides (kind decides : ℕ) : Type 0 where
   pub joins : JoinNumber kind
   pub decides-is : decides ≡ decidedBy (joins .0)

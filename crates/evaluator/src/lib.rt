@@ -1,9 +1,10 @@
 // The value of a rule on rows, true, false or unknown, from the values of its parts. No card is made or run.
-// A truth value is a number: 0 false, 1 unknown, 2 true, so that AND takes the lesser, OR the greater, NOT what is left to 2, and a truth test compares.
+// A truth value is a number: 0 false, 1 unknown, 2 true. So AND, OR and NOT are arithmetic, as document 02, Point 3, has it: the smaller of two, the greater of
+// two, and 2 minus the value (ArithmeticClaim of the crate rule); a truth test compares.
 // Short names: p, the parts as numbers; g, where the tables stand; s, the number of a part; w, for each level the number of its row's first cell, and
 // depth, how many levels there are; v, the same with one level more.
 ghost use mathlib.Core.Path.{_≡_};
-ghost use Prim.Native.Nat.{_*_, _≤_, min, max};
+ghost use Prim.Native.Nat.{_*_, _-_, _≤_, min, max};
 ghost use lib.ListN.{getD};
 ghost use Rattle.tables.specs.Values.{comparisonOf};
 ghost use Rattle.cells.specs.Code.{seenCell};
@@ -55,7 +56,8 @@ fn truth_of(b: bool) -> usize
     FALSE
 }
 
-fn lesser(a: usize, b: usize) -> usize
+// AND of two values.
+fn smaller(a: usize, b: usize) -> usize
     ensures { λ r. ⌜ r ≡ min a b ⌝ }
 {
     if a < b {
@@ -64,6 +66,7 @@ fn lesser(a: usize, b: usize) -> usize
     b
 }
 
+// OR of two values.
 fn greater(a: usize, b: usize) -> usize
     ensures { λ r. ⌜ r ≡ max a b ⌝ }
 {
@@ -71,6 +74,14 @@ fn greater(a: usize, b: usize) -> usize
         return b;
     }
     a
+}
+
+// NOT of a value.
+fn opposite(a: usize) -> usize
+    requires { ⌜ a ≤ 2 ⌝ }
+    ensures { λ r. ⌜ r ≡ 2 - a ⌝ }
+{
+    TRUE - a
 }
 
 // A comparison of two cells: unknown where one of them is blank.
@@ -117,7 +128,7 @@ fn unary_value(kind: usize, inner: usize) -> usize
     ensures { λ r. ⌜ UnaryValued kind inner r ⌝ }
 {
     match kind {
-        NOT_PART => TRUE - inner,
+        NOT_PART => opposite(inner),
         IS_TRUE_PART => truth_of(inner == TRUE),
         IS_NOT_TRUE_PART => truth_of(inner != TRUE),
         IS_FALSE_PART => truth_of(inner == FALSE),
@@ -171,7 +182,8 @@ pub fn evaluate_part(
     }
 }
 
-// AND and OR. decides is the value of one side that decides for both: false of AND, which takes the lesser, and true of OR, which takes the greater.
+// AND and OR. decides is the value of one side that decides for both: false of AND, which takes the smaller, and true of OR, which takes the greater. Where
+// the left side has it, the right one is not evaluated: both together would give the same (left-decides of ArithmeticClaim).
 fn evaluate_pair(
     p: &[usize; PART_NUMBERS],
     g: &[usize; PLACES],
@@ -191,7 +203,7 @@ fn evaluate_pair(
     let next = p[PART_FIELDS * (s + 1) + PART_END];
     let right = evaluate_part(p, g, file, next, w, depth);
     if decides == FALSE {
-        return lesser(left, right);
+        return smaller(left, right);
     }
     greater(left, right)
 }

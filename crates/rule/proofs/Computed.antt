@@ -3,13 +3,16 @@ use mathlib.Core.Path.{_≡_, refl}
 use mathlib.Core.Bool.{Bool, true, false, not}
 use Rattle.rule.specs.Truth.{truth, isUnknown, isThat}
 use Rattle.rule.specs.Cases.{judgedAt, partsRead, everyWord, chained, unknownOf, edges}
-use Rattle.rule.specs.Claims.{CasesClaim, PartsCasesClaim, TestsClaim, OrderClaim, WordsClaim, EdgesClaim, TruthTestsClaim}
+use Rattle.rule.specs.Claims.{CasesClaim, PartsCasesClaim, TestsClaim, OrderClaim, WordsClaim, EdgesClaim, ConnectivesClaim, TruthTestsClaim}
 use Rattle.rule.proofs.Opened.{opened}
 
 -- "Cases 1 to 12 are proved together, as one tabulated fact over the definitions": from texts and bytes, through what JUDGE answers
 pub cases-claim : CasesClaim
 unfolding opened judgedAt
 cases-claim = refl
+
+pub connectives-claim : ConnectivesClaim
+connectives-claim = record { not-table = refl; and-table = refl; or-table = refl }
 
 pub truth-tests-claim : TruthTestsClaim
 truth-tests-claim = record { table = refl; is-known = λ t a. known (isThat t a); is-not-known = λ t a. known (not (isThat t a)) }

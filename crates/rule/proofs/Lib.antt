@@ -13,3 +13,4 @@ pub mod Sum
 pub mod Accepted
 pub mod Calls
 pub mod Truths
+pub mod Arithmetic

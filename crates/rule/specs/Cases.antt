@@ -1,5 +1,5 @@
--- Document 01, Proved cases: the texts and the tables' bytes, and what JUDGE is to answer; and texts at the edges of the refusals of reading. The truth
--- tests of document 02, Point 1: their table, and among the texts, the parts and the edges.
+-- Document 01, Proved cases: the texts and the tables' bytes, and what JUDGE is to answer; Meaning's AND, OR and NOT as tables; and texts at the edges of the
+-- refusals of reading. The truth tests of document 02, Point 1: their table, and among the texts, the parts and the edges.
 use mathlib.Core.List.{List, [], _∷_, _++_, map}
 use mathlib.Core.Option.{Option}
 use Prim.Native.Nat.{ℕ, zero, suc}
@@ -49,14 +49,34 @@ truthTests = Is True ∷ IsNot True ∷ Is False ∷ IsNot False ∷ Is Unknown 
 abbrev pub truthValues : List Truth
 truthValues = T ∷ F ∷ U ∷ []
 
-abbrev pub truthTable : List (List Truth)
-truthTable =
+abbrev pub truthTestTable : List (List Truth)
+truthTestTable =
     (T ∷ F ∷ F ∷ [])
     ∷ (F ∷ T ∷ T ∷ [])
     ∷ (F ∷ T ∷ F ∷ [])
     ∷ (T ∷ F ∷ T ∷ [])
     ∷ (F ∷ F ∷ T ∷ [])
     ∷ (T ∷ T ∷ F ∷ [])
+    ∷ []
+
+-- ---- Meaning's sentences on NOT, AND and OR, tabulated: for each value, in the order of `truthValues`, and for each pair, a line for the left value and a column
+-- for the right one. SQL-92 (8.12) has the same tables
+
+abbrev pub notTable : List Truth
+notTable = F ∷ T ∷ U ∷ []
+
+abbrev pub andTable : List (List Truth)
+andTable =
+    (T ∷ F ∷ U ∷ [])
+    ∷ (F ∷ F ∷ F ∷ [])
+    ∷ (U ∷ F ∷ U ∷ [])
+    ∷ []
+
+abbrev pub orTable : List (List Truth)
+orTable =
+    (T ∷ T ∷ T ∷ [])
+    ∷ (T ∷ F ∷ U ∷ [])
+    ∷ (T ∷ U ∷ U ∷ [])
     ∷ []
 
 -- ---- the proved cases
@@ -85,8 +105,9 @@ judgedAt c = map (judgeCall (bytes (c .text)) caseTables) (0 ∷ 1 ∷ 2 ∷ [])
 abbrev pub expectedAt : Case → List (Answer Truth)
 expectedAt c = map Given (c .values)
 
--- each comparison at less, equal and greater, with negative numbers; IS NOT NULL; blank with blank; AND before OR; each truth test on true, unknown and
--- false; NOT before one; one around another, which is never unknown; in a WHERE
+-- each comparison at less, equal and greater, with negative numbers; IS NOT NULL; blank with blank; AND before OR; AND and OR of each pair, with the side that
+-- is true, false or unknown on every row on the right and on the left; each truth test on true, unknown and false; NOT before one; one around another, which is never
+-- unknown; in a WHERE
 abbrev pub testCases : List Case
 testCases =
     ("m.1 = 2" gives (F ∷ T ∷ F ∷ []))
@@ -104,6 +125,18 @@ testCases =
     ∷ ("m.2 IS NOT NULL" gives (T ∷ F ∷ T ∷ []))
     ∷ ("m.2 = m.2" gives (T ∷ U ∷ T ∷ []))
     ∷ ("0 = 0 OR 0 = 1 AND 0 = 2" gives (T ∷ T ∷ T ∷ []))
+    ∷ ("m.2 > 0 AND 1 = 1" gives (T ∷ U ∷ F ∷ []))
+    ∷ ("1 = 1 AND m.2 > 0" gives (T ∷ U ∷ F ∷ []))
+    ∷ ("m.2 > 0 AND 1 = 2" gives (F ∷ F ∷ F ∷ []))
+    ∷ ("1 = 2 AND m.2 > 0" gives (F ∷ F ∷ F ∷ []))
+    ∷ ("m.2 > 0 AND 1 = ALL (SELECT v.1 FROM 2 v WHERE v.1 IS NULL)" gives (U ∷ U ∷ F ∷ []))
+    ∷ ("1 = ALL (SELECT v.1 FROM 2 v WHERE v.1 IS NULL) AND m.2 > 0" gives (U ∷ U ∷ F ∷ []))
+    ∷ ("m.2 > 0 OR 1 = 1" gives (T ∷ T ∷ T ∷ []))
+    ∷ ("1 = 1 OR m.2 > 0" gives (T ∷ T ∷ T ∷ []))
+    ∷ ("m.2 > 0 OR 1 = 2" gives (T ∷ U ∷ F ∷ []))
+    ∷ ("1 = 2 OR m.2 > 0" gives (T ∷ U ∷ F ∷ []))
+    ∷ ("m.2 > 0 OR 1 = ALL (SELECT v.1 FROM 2 v WHERE v.1 IS NULL)" gives (T ∷ U ∷ U ∷ []))
+    ∷ ("1 = ALL (SELECT v.1 FROM 2 v WHERE v.1 IS NULL) OR m.2 > 0" gives (T ∷ U ∷ U ∷ []))
     ∷ ("(m.2 > 0) IS TRUE" gives (T ∷ F ∷ F ∷ []))
     ∷ ("(m.2 > 0) IS NOT TRUE" gives (F ∷ T ∷ T ∷ []))
     ∷ ("(m.2 > 0) IS FALSE" gives (F ∷ F ∷ T ∷ []))

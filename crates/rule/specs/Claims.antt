@@ -1,27 +1,27 @@
 -- What proofs/ shows of these definitions.
 use mathlib.Core.Path.{_≡_}
 use mathlib.Core.Bool.{true, false}
-use mathlib.Core.List.{List, _++_, map}
+use mathlib.Core.List.{List, [], _∷_, _++_, map}
 use mathlib.Core.Logic.{_↔_}
 use mathlib.Core.Option.{none, some}
-use Prim.Native.Nat.{ℕ, _+_, _≤_, _<_}
+use Prim.Native.Nat.{ℕ, _+_, _-_, _≤_, _<_, min, max}
 use lib.IntN.{pos}
 use lib.ListN.{length, getD, drop}
-use Rattle.tables.specs.Tables.{sizesFit, marksFit, columnsOf, rowCount, tablesOf}
+use Rattle.tables.specs.Tables.{Tables, sizesFit, marksFit, columnsOf, rowCount, tablesOf}
 use Rattle.tables.specs.Refusals.{Refused, Given, numbers, firstApplying, lendRefusals}
-use Rattle.tables.specs.Values.{mostEntries, judgedLevels}
+use Rattle.tables.specs.Values.{Connective, And, Or, Env, mostEntries, judgedLevels}
 use Rattle.rule.specs.Tokens.{tokensOf, opensFit}
-use Rattle.rule.specs.Truth.{Truth, isUnknown}
-use Rattle.rule.specs.Condition.{Is, IsNot, WrittenCondition, Rule, parts, fromsDeep}
+use Rattle.rule.specs.Truth.{Truth, False, Unknown, True, truthNumber, isUnknown, not3, and3, or3, join3, deciding}
+use Rattle.rule.specs.Condition.{Not, Is, IsNot, Join, Apply, WrittenCondition, Rule, parts, fromsDeep}
 use Rattle.rule.specs.Grammar.{Tokens, Reads}
 use Rattle.rule.specs.Reader.{readAll}
 use Rattle.rule.specs.Names.{mostParts, mostFroms, outermost, ruleIn, Fits, Scoped}
 use Rattle.rule.specs.Parts.{partsFrom, partsOf, ruleOfParts}
 use Rattle.rule.specs.Sum.{entrySum, publishedSum}
 use Rattle.rule.specs.declared.Part.{Part}
-use Rattle.rule.specs.Meaning.{unary3, judged}
+use Rattle.rule.specs.Meaning.{unary3, meaning, judged}
 use Rattle.rule.specs.Calls.{mostBytes, ruleOf, readingRefusals, Accepted, readCall, judgeRefusals, judgeCall, readOrder, judgeOrder}
-use Rattle.rule.specs.Cases.{truthTests, truthValues, truthTable, cases, judgedAt, expectedAt, testCases, partsCases, partsRead, partsGiven, everyWord, everyToken, edges, refusalAt}
+use Rattle.rule.specs.Cases.{truthTests, truthValues, truthTestTable, notTable, andTable, orTable, cases, judgedAt, expectedAt, testCases, partsCases, partsRead, partsGiven, everyWord, everyToken, edges, refusalAt}
 
 -- the reader finds a reading exactly when the grammar has one, and no tokens have two
 pub record ReadingClaim : Type 0 where
@@ -86,9 +86,35 @@ EndsClaim = (r : Rule) (k : ℕ) (d : Part) → getD (partsFrom k r) 0 d .end �
 abbrev pub PublishedSumClaim : Type 0
 PublishedSumClaim = (r : Rule) → entrySum r ≡ publishedSum r
 
+-- NOT, AND and OR by Meaning, on each value and each pair, are those of the tables; no arithmetic is in this, so that the next claim compares two things
+pub record ConnectivesClaim : Type 0 where
+  pub not-table : map not3 truthValues ≡ notTable
+  pub and-table : map (λ a. map (and3 a) truthValues) truthValues ≡ andTable
+  pub or-table : map (λ a. map (or3 a) truthValues) truthValues ≡ orTable
+
+-- document 02, Point 3: arithmetic is 'proved, for each value and pair, to be what document 01's Meaning gives'
+pub record ArithmeticClaim : Type 0 where
+  -- 'false, unknown, true as 0, 1, 2'
+  pub numbers-are : map truthNumber (False ∷ Unknown ∷ True ∷ []) ≡ 0 ∷ 1 ∷ 2 ∷ []
+  -- 'NOT is 2 minus the value, and the other two are the smaller and the greater'
+  pub not-is : (a : Truth) → truthNumber (not3 a) ≡ 2 - truthNumber a
+  pub and-is : (a b : Truth) → truthNumber (and3 a b) ≡ min (truthNumber a) (truthNumber b)
+  pub or-is : (a b : Truth) → truthNumber (or3 a b) ≡ max (truthNumber a) (truthNumber b)
+  -- where one side decides, both come to its value, whatever the other one is; so the other need not be evaluated
+  pub left-decides : (j : Connective) (b : Truth) → join3 j (deciding j) b ≡ deciding j
+  pub right-decides : (j : Connective) (a : Truth) → join3 j a (deciding j) ≡ deciding j
+
+-- and so of every condition that has NOT, AND or OR outermost, whatever the tables hold and at whatever rows
+pub record RuleArithmeticClaim : Type 0 where
+  pub not-meant : (ts : Tables) (env : Env) (a : Rule) → truthNumber (meaning ts env (Apply Not a)) ≡ 2 - truthNumber (meaning ts env a)
+  pub and-meant : (ts : Tables) (env : Env) (a b : Rule)
+      → truthNumber (meaning ts env (Join And a b)) ≡ min (truthNumber (meaning ts env a)) (truthNumber (meaning ts env b))
+  pub or-meant : (ts : Tables) (env : Env) (a b : Rule)
+      → truthNumber (meaning ts env (Join Or a b)) ≡ max (truthNumber (meaning ts env a)) (truthNumber (meaning ts env b))
+
 -- the six truth tests on each of the three values, by SQL-92; and their outcome is never unknown
 pub record TruthTestsClaim : Type 0 where
-  pub table : map (λ u. map (unary3 u) truthValues) truthTests ≡ truthTable
+  pub table : map (λ u. map (unary3 u) truthValues) truthTests ≡ truthTestTable
   pub is-known : (t a : Truth) → isUnknown (unary3 (Is t) a) ≡ false
   pub is-not-known : (t a : Truth) → isUnknown (unary3 (IsNot t) a) ≡ false
 
@@ -120,7 +146,7 @@ CasesClaim = map judgedAt cases ≡ map expectedAt cases
 abbrev pub PartsCasesClaim : Type 0
 PartsCasesClaim = map partsRead partsCases ≡ map partsGiven partsCases
 
--- comparisons at less, equal and greater, negative numbers, blanks, precedence, and truth tests
+-- comparisons at less, equal and greater, negative numbers, blanks, precedence, AND and OR of each pair, and truth tests
 abbrev pub TestsClaim : Type 0
 TestsClaim = map judgedAt testCases ≡ map expectedAt testCases
 

@@ -6,7 +6,6 @@ use Prim.Native.Nat.{ℕ, _+_, _-_, _*_, _<_}
 use native.Mathlib.Omega.{arith}
 use lib.ListN.{getD}
 use borrow.Author.Needs.{needs}
-use borrow.Author.Tests.{eq-eqb, ne-eqb}
 use Rattle.tables.specs.Values.{And, Or, Some, All}
 use Rattle.rule.specs.Names.{mostParts}
 use Rattle.rule.specs.Condition.{Not}
@@ -15,7 +14,7 @@ use Rattle.rule.specs.Truth.{False, truthNumber}
 use Rattle.rule.proofs.Groups.{test-number}
 use Rattle.names.specs.Code.{partSize}
 use Rattle.parts.proofs.Parts.{kind-low, kind-high}
-use Rattle.evaluator.proofs.Truths.{over-none-by, quantifierOf, none-is, none-high, none-decides}
+use Rattle.evaluator.proofs.Truths.{takes-smaller, takes-greater, over-none-by, quantifierOf, none-is, none-high, none-decides}
 use Rattle.evaluator.proofs.Evaluating.{RowsPassed, passed-none, passed-more, start, test-left, truth-left, test-ready, test-evaluated, unary-inner, unary-room, unary-evaluated, next-bounds, left-inner, right-inner, decides-join, join-stops, join-evaluated, range-bounds, row-room, exists-ranging, exists-inner, exists-true, exists-lost, exists-false, listed-ranging, outer-ready, row-ready, row-valued, listed-decides, listed-ends, row-start, selected-ready, row-lost, row-compared}
 use borrow.Fn.Kinds.{PK, In}
 use borrow.Fn.PlainCycle.{Measures, is, falls, and}
@@ -43,7 +42,7 @@ use Rattle.evaluator.proofs.after.Reads as after-reads
 use Rattle.evaluator.proofs.compare.Reads as compare-reads
 use Rattle.evaluator.proofs.evaluate_test.Reads as evaluate-test-reads
 use Rattle.evaluator.proofs.greater.Reads as greater-reads
-use Rattle.evaluator.proofs.lesser.Reads as lesser-reads
+use Rattle.evaluator.proofs.smaller.Reads as smaller-reads
 use Rattle.evaluator.proofs.unary_value.Reads as unary-value-reads
 use Rattle.parts.proofs.part_value.Reads as part-value-reads
 use Rattle.values.proofs.look.Reads as look-reads
@@ -126,7 +125,7 @@ abbrev evaluate-list-claims : ℕ → evaluate-list-lts.Claims
 evaluate-list-claims t = (table-place-reads.Asked, table-place-reads.Learnt, part-value-reads.Asked, part-value-reads.Learnt, look-reads.Asked, look-reads.Learnt, evaluate-row-below t, evaluate-row.Post, after-reads.Asked, after-reads.Learnt)
 
 abbrev evaluate-pair-claims : ℕ → evaluate-pair-lts.Claims
-evaluate-pair-claims t = (evaluate-part-below t, evaluate-part.Post, lesser-reads.Asked, lesser-reads.Learnt, greater-reads.Asked, greater-reads.Learnt)
+evaluate-pair-claims t = (evaluate-part-below t, evaluate-part.Post, smaller-reads.Asked, smaller-reads.Learnt, greater-reads.Asked, greater-reads.Learnt)
 
 abbrev evaluate-part-claims : ℕ → evaluate-part-lts.Claims
 evaluate-part-claims t = (evaluate-pair-below t, evaluate-pair.Post, evaluate-part-below t, evaluate-part.Post, unary-value-reads.Asked, unary-value-reads.Learnt, evaluate-exists-below t, evaluate-exists.Post, evaluate-list-below t, evaluate-list.Post, evaluate-test-reads.Asked, evaluate-test-reads.Learnt, never-reads.Asked, never-reads.Learnt)
@@ -317,19 +316,19 @@ evaluate-pair-evaluate-part-requires-2 t c κs =
     let z = next-bounds (c .before .before .before .before .pre .1 .0) (c .before .before .before .before .pre .1 .1) in
     (omega arith, right-inner (c .before .before .before .before .pre .1 .0) (c .before .before .before .before .pre .1 .1))
 
-evaluate-pair-lesser-requires : (t : ℕ) → evaluate-pair-lts.Need-lesser-requires (evaluate-pair-claims t) (evaluate-pair-at t) evaluate-pair.Post
-evaluate-pair-lesser-requires t c κs = search needs
+evaluate-pair-smaller-requires : (t : ℕ) → evaluate-pair-lts.Need-smaller-requires (evaluate-pair-claims t) (evaluate-pair-at t) evaluate-pair.Post
+evaluate-pair-smaller-requires t c κs = search needs
 
 evaluate-pair-returns-2 : (t : ℕ) → evaluate-pair-lts.Need-returns-2 (evaluate-pair-claims t) (evaluate-pair-at t) evaluate-pair.Post
 evaluate-pair-returns-2 t c = λ h.
-    join-evaluated h (c .before .before .before .before .before .before .before .pre .1 .1) (c .before .before .before .before .before .evaluate-part .result) (c .before .before .before .before .before .evaluate-part .ensures) (c .before .before .evaluate-part2 .result) (c .before .before .evaluate-part2 .ensures) _ (simp (eq-eqb _ _ (c .before .if2 .taken)) (c .lesser .ensures))
+    join-evaluated h (c .before .before .before .before .before .before .before .pre .1 .1) (c .before .before .before .before .before .evaluate-part .result) (c .before .before .before .before .before .evaluate-part .ensures) (c .before .before .evaluate-part2 .result) (c .before .before .evaluate-part2 .ensures) _ (c .smaller .ensures ∙ takes-smaller _ _ _ (c .before .if2 .taken))
 
 evaluate-pair-greater-requires : (t : ℕ) → evaluate-pair-lts.Need-greater-requires (evaluate-pair-claims t) (evaluate-pair-at t) evaluate-pair.Post
 evaluate-pair-greater-requires t c κs = search needs
 
 evaluate-pair-returns-3 : (t : ℕ) → evaluate-pair-lts.Need-returns-3 (evaluate-pair-claims t) (evaluate-pair-at t) evaluate-pair.Post
 evaluate-pair-returns-3 t c = λ h.
-    join-evaluated h (c .before .before .before .before .before .before .before .pre .1 .1) (c .before .before .before .before .before .evaluate-part .result) (c .before .before .before .before .before .evaluate-part .ensures) (c .before .before .evaluate-part2 .result) (c .before .before .evaluate-part2 .ensures) _ (simp (ne-eqb _ _ (c .before .if2 .left)) (c .greater .ensures))
+    join-evaluated h (c .before .before .before .before .before .before .before .pre .1 .1) (c .before .before .before .before .before .evaluate-part .result) (c .before .before .before .before .before .evaluate-part .ensures) (c .before .before .evaluate-part2 .result) (c .before .before .evaluate-part2 .ensures) _ (c .greater .ensures ∙ takes-greater _ _ _ (c .before .if2 .left))
 
 evaluate-part-mul-kind : (t : ℕ) → evaluate-part-lts.Need-mul-kind (evaluate-part-claims t) (evaluate-part-at t) evaluate-part.Post
 evaluate-part-mul-kind t c = let z = start (c .before .pre .1) in omega arith
@@ -549,7 +548,7 @@ pub +evaluate-exists+evaluate-list+evaluate-pair+evaluate-part+evaluate-row+eval
     (evaluate-pair-mul-next-2 t)
     (evaluate-pair-element-copy-out-next t)
     (evaluate-pair-evaluate-part-requires-2 t)
-    (evaluate-pair-lesser-requires t)
+    (evaluate-pair-smaller-requires t)
     (evaluate-pair-returns-2 t)
     (evaluate-pair-greater-requires t)
     (evaluate-pair-returns-3 t))

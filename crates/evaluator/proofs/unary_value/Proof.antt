@@ -1,13 +1,14 @@
 -- The number of each one-place part has an arm, and so none is left for the last one.
-use mathlib.Core.Path.{refl}
+use mathlib.Core.Path.{sym}
 use Prim.Native.Nat.{_-_}
 use native.Mathlib.Omega.{arith}
 use borrow.Author.Needs.{needs}
 use Rattle.rule.specs.Condition.{Not}
-use Rattle.rule.specs.Truth.{False, Unknown, True, truthNumber}
+use Rattle.rule.specs.Truth.{False, Unknown, True}
 use Rattle.rule.proofs.Groups.{some-unary}
+use Rattle.rule.proofs.Arithmetic.{arithmetic-claim}
 use Rattle.parts.proofs.Arms.{beyond}
-use Rattle.evaluator.proofs.Truths.{unary-valued, not-rank, is-valued, is-not-valued}
+use Rattle.evaluator.proofs.Truths.{unary-valued, is-valued, is-not-valued}
 use Rattle.evaluator.proofs.unary_value.Statement.{statement}
 use Rattle.evaluator.proofs.unary_value.Tie as tie
 
@@ -16,7 +17,7 @@ never-requires c κs =
     some-unary (c .before .pre .0) (c .match .rest .0 .0 .0 .0 .0 .0 .1) (λ b. omega (arith, beyond _ _ 10 6 (c .match .rest) (b .0)))
 
 returns : tie.Need-returns
-returns c = unary-valued Not (c .match .keys1) (truthNumber True -_) not-rank refl
+returns c = unary-valued Not (c .before .match .keys1) (2 -_) (λ a. sym (arithmetic-claim .not-is a)) (c .opposite .ensures)
 
 returns-2 : tie.Need-returns-2
 returns-2 c = is-valued True (c .before .match .keys2) (c .truth-of .ensures)
