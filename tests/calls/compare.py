@@ -52,6 +52,16 @@ def refusal_sorts(*numbers):
     return tuple(f"refused {number}" for number in numbers)
 
 
+def given_sorts(*refusals):
+    """The sorts of answer that a call which writes has to have given: an answer, and these refusals."""
+    return ("given",) + refusal_sorts(*refusals)
+
+
+def sorts_of(call):
+    """For refusals, the sorts of answer that this call, which writes, has to have given."""
+    return lambda *refusals: {call: given_sorts(*refusals)}
+
+
 def refusal_sets(call, given):
     """Every set of a call's refusals together, of which the first in the call's order is given; without any, the answer is of the sort `given`."""
     refusals = cases.REFUSALS_OF[call]

@@ -208,6 +208,9 @@ class Calls:
         return meanings[number]
 
 
+TRUTHS = {0: model.FALSE, 1: model.UNKNOWN, 2: model.TRUE}  # by the number that JUDGE gives
+
+
 class Rules(Calls):
     """READ, JUDGE and CARD of the library, answering as the model does."""
 
@@ -224,7 +227,7 @@ class Rules(Calls):
         return result, after
 
     def judge(self, text, file, row):
-        return self.ask(self.judge_call, text, file, row, {0: model.FALSE, 1: model.UNKNOWN, 2: model.TRUE})
+        return self.ask(self.judge_call, text, file, row, TRUTHS)
 
     def card(self, text, file, buffer):
         """CARD's answer, a length or a refusal, and the lent buffer afterwards."""

@@ -23,13 +23,8 @@ def run_sorts(*refusals):
     return ("given True", "given False") + compare.refusal_sorts(*refusals)
 
 
-def list_sorts(*refusals):
-    """The sorts of answer that LIST has to have given: rows, and these refusals."""
-    return ("given",) + compare.refusal_sorts(*refusals)
-
-
 CHECK_SORTS = ("given sound",) + compare.refusal_sorts(9)
-WANTED = {"CHECK": CHECK_SORTS, "RUN": run_sorts(1, 2, 9, 10, 11), "LIST": list_sorts(1, 2, 9, 10, 12)}
+WANTED = {"CHECK": CHECK_SORTS, "RUN": run_sorts(1, 2, 9, 10, 11), "LIST": compare.given_sorts(1, 2, 9, 10, 12)}
 
 
 def answer_of(gate, case):
@@ -178,13 +173,13 @@ def drawn_cases():
 
 
 GROUPS = (
-    (damaged_cards, {"CHECK": CHECK_SORTS, "RUN": run_sorts(9, 10), "LIST": list_sorts(9, 10)}),
-    (damaged_files, {"RUN": run_sorts(1, 2), "LIST": list_sorts(1, 2)}),
-    (limit_cases, {"RUN": run_sorts(1, 2, 11), "LIST": list_sorts(1, 2, 12)}),
-    (end_cases, {"RUN": run_sorts(), "LIST": list_sorts()}),
-    (room_cases, {"LIST": list_sorts(12)}),
-    (largest_cards, {"LIST": list_sorts(9)}),
-    (refusal_cases, {"RUN": ("given True",) + compare.refusal_sorts(1, 2, 9, 10, 11), "LIST": list_sorts(1, 2, 9, 10, 12)}),
+    (damaged_cards, {"CHECK": CHECK_SORTS, "RUN": run_sorts(9, 10), "LIST": compare.given_sorts(9, 10)}),
+    (damaged_files, {"RUN": run_sorts(1, 2), "LIST": compare.given_sorts(1, 2)}),
+    (limit_cases, {"RUN": run_sorts(1, 2, 11), "LIST": compare.given_sorts(1, 2, 12)}),
+    (end_cases, {"RUN": run_sorts(), "LIST": compare.given_sorts()}),
+    (room_cases, {"LIST": compare.given_sorts(12)}),
+    (largest_cards, {"LIST": compare.given_sorts(9)}),
+    (refusal_cases, {"RUN": ("given True",) + compare.refusal_sorts(1, 2, 9, 10, 11), "LIST": compare.given_sorts(1, 2, 9, 10, 12)}),
     (drawn_cases, WANTED),
 )
 

@@ -32,17 +32,7 @@ DRAWS_FOR_CSV = 3000
 DRAWS_THERE_AND_BACK = 3000
 UNTOUCHED = cases.UNTOUCHED_NUMBER
 
-
-def import_sorts(*refusals):
-    """The sorts of answer that IMPORT has to have given: a file, and these refusals."""
-    return {"IMPORT": ("given",) + compare.refusal_sorts(*refusals)}
-
-
-def export_sorts(*refusals):
-    """The sorts of answer that EXPORT has to have given: lines, and these refusals."""
-    return {"EXPORT": ("given",) + compare.refusal_sorts(*refusals)}
-
-
+import_sorts, export_sorts = compare.sorts_of("IMPORT"), compare.sorts_of("EXPORT")
 WANTED = import_sorts(*cases.REFUSALS_OF["IMPORT"]) | export_sorts(*cases.REFUSALS_OF["EXPORT"])
 
 

@@ -28,12 +28,7 @@ MISPLACED_TRUTHS = 1500
 ROOM = 70
 TABLES = cases.SOME_TABLES
 
-
-def read_sorts(*refusals):
-    """The sorts of answer that READ has to have given: parts, and these refusals."""
-    return {"READ": ("given",) + compare.refusal_sorts(*refusals)}
-
-
+read_sorts = compare.sorts_of("READ")
 WANTED = read_sorts(*cases.REFUSALS_OF["READ"])
 
 

@@ -1,7 +1,7 @@
 """JUDGE and CARD as built, against answers worked out by hand from documents 01 and 02, stored answers, and the reference model: both sides of every limit,
 sums of entries around theirs, buffers of every length, numbers at their ends, levels and letters, every set of refusals together, damaged texts and tables,
-random draws. And what demand 3 compares, from end to end: the cards that CARD makes, checked, run and listed as built with later tables, against the model's
-values of the rule.
+random draws. AND, OR and NOT of drawn conditions, against arithmetic on the numbers that JUDGE gives these. And what demand 3 compares, from end to end: the
+cards that CARD makes, checked, run and listed as built with later tables, against the model's values of the rule.
 
 Exit status 0 when all answers and all lent buffers agree, and every sort of answer was seen, in each group those that belong to it.
 """
@@ -26,6 +26,7 @@ SEED = 20261118
 DRAWS_OF_EACH_CALL = 5000
 DRAWS_OF_EACH_TRUTH = 300
 SUMMED_RULES = 400
+ARITHMETIC_PAIRS = 1200
 LATER_RULES = 1200
 LATER_SUMMED_RULES = 100
 LATER_FILES = 3
@@ -37,17 +38,12 @@ def judge_sorts(*refusals):
     return tuple(f"given {value}" for value in stored.TRUTHS.values()) + compare.refusal_sorts(*refusals)
 
 
-def card_sorts(*refusals):
-    """The sorts of answer that CARD has to have given: a card, and these refusals."""
-    return ("given",) + compare.refusal_sorts(*refusals)
-
-
 def both_sorts(*refusals):
     """Answers of every sort and the same refusals, from both calls."""
-    return {"JUDGE": judge_sorts(*refusals), "CARD": card_sorts(*refusals)}
+    return {"JUDGE": judge_sorts(*refusals), "CARD": compare.given_sorts(*refusals)}
 
 
-WANTED = {call: sorts(*cases.REFUSALS_OF[call]) for call, sorts in (("JUDGE", judge_sorts), ("CARD", card_sorts))}
+WANTED = {call: sorts(*cases.REFUSALS_OF[call]) for call, sorts in (("JUDGE", judge_sorts), ("CARD", compare.given_sorts))}
 
 
 def answer_of(rules, case):
@@ -252,7 +248,7 @@ def check_rooms(rules):
     for text, longest in ((LARGEST, 3 + 8 + 15 * (64 + 2 * 39)), (MOST_ENTRIES, 3 + 8 + 15 * 192)):
         written.card(text, EIGHT_TABLES, longest - 1, model.Refused(12))
         written.card(text, EIGHT_TABLES, longest, model.card(text, EIGHT_TABLES, longest))
-    compare.agreed("buffers of every length", written.seen, {"CARD": card_sorts(12)})
+    compare.agreed("buffers of every length", written.seen, {"CARD": compare.given_sorts(12)})
 
 
 def large_rules():
@@ -326,8 +322,8 @@ def drawn_cases():
 
 GROUPS = (
     (limit_cases, both_sorts(1, 3, 4, 5, 6, 7, 8, 13)),
-    (sum_cases, {"JUDGE": judge_sorts(11, 13), "CARD": card_sorts(12, 13)}),
-    (size_cases, {"JUDGE": ("given true", "given false") + compare.refusal_sorts(1, 2, 11), "CARD": card_sorts(1, 2)}),
+    (sum_cases, {"JUDGE": judge_sorts(11, 13), "CARD": compare.given_sorts(12, 13)}),
+    (size_cases, {"JUDGE": ("given true", "given false") + compare.refusal_sorts(1, 2, 11), "CARD": compare.given_sorts(1, 2)}),
     (row_cases, {"JUDGE": judge_sorts(11)}),
     (cell_cases, {"JUDGE": ("given true", "given false")}),
     (end_cases, both_sorts()),
@@ -398,6 +394,35 @@ def check_later(rules, gate):
     compare.agreed("later tables", seen, GATE_WANTED | RUN_WANTED)
 
 
+# ---- connectives by arithmetic
+
+def arithmetic(rules, left, right, file, row):
+    """The numbers that JUDGE gives two conditions, and for each connective the number that arithmetic gives and the one that JUDGE gives."""
+    numbers = {truth: number for number, truth in library.TRUTHS.items()}
+
+    def judged(form):
+        return numbers[rules.judge(form % {b"left": left, b"right": right}, file, row)]
+
+    a, b = judged(b"%(left)b"), judged(b"%(right)b")
+    yield "NOT", (a,), 2 - a, judged(b"NOT(%(left)b)")
+    yield "AND", (a, b), min(a, b), judged(b"(%(left)b)AND(%(right)b)")
+    yield "OR", (a, b), max(a, b), judged(b"(%(left)b)OR(%(right)b)")
+
+
+def check_arithmetic(rules):
+    """AND, OR and NOT of drawn conditions, by JUDGE's numbers of these conditions; no value here comes from the model. Each value and each pair occurs."""
+    draw, seen = random.Random(SEED), collections.Counter()
+    for _ in range(ARITHMETIC_PAIRS):
+        file = generate.random_tables(draw)
+        left, right = (accepted_rule(draw, file, [1, 2, 3, 5]) for _ in range(2))
+        for row in range(cases.row_count(file)):
+            for connective, given, wanted, got in arithmetic(rules, left, right, file, row):
+                compare.same((left, right, file, row, connective), got, wanted)
+                seen[connective, given] += 1
+    pairs = tuple(itertools.product(library.TRUTHS, repeat=2))
+    compare.agreed("connectives by arithmetic", seen, {"NOT": tuple((number,) for number in library.TRUTHS), "AND": pairs, "OR": pairs})
+
+
 LONG_RULES = (
     b"m.1<m.2 OR NOT m.1 IS NULL AND m.2>=0", b"m.1 IN(SELECT v.1 FROM 2 v WHERE v.1<>m.2)", b"NOT EXISTS(FROM 2 v WHERE v.1>m.1)", b"m.2 IS NULL", b"1=1",
     b"(m.1<m.2)IS UNKNOWN", b"NOT(m.1 NOT IN(SELECT v.1 FROM 2 v WHERE(v.1<>m.2)IS NOT FALSE))IS FALSE")
@@ -413,7 +438,7 @@ def check_long(rules, gate):
     compare.agreed("long tables", seen, GATE_WANTED | RUN_WANTED)
 
 
-CHECKS = (check_paper, check_stored, check_rooms, check_groups)
+CHECKS = (check_paper, check_stored, check_rooms, check_groups, check_arithmetic)
 CHECKS_WITH_GATE = (check_small, check_later, check_long)
 
 

@@ -51,6 +51,7 @@ AMPLE_FILE_ROOM = 65000
 AMPLE_COMMA_ROOM = 100000
 TRUTHS = {"T": model.TRUE, "U": model.UNKNOWN, "F": model.FALSE}
 TESTS = {"T": "1 = 1", "U": "m.1 = 1", "F": "1 = 2"}  # with these values where m.1 is blank
+NUMBERS = {letter: number for number, truth in library.TRUTHS.items() for letter in TRUTHS if TRUTHS[letter] == truth}  # of the letters, as JUDGE gives them
 TRUTH_TESTS = tuple(f"IS{' NOT' * has_not} {word}" for word in model.TRUTH_WORDS for has_not in (False, True))
 READING_REFUSALS = (*range(1, 9), 13)
 
@@ -58,7 +59,7 @@ READING_REFUSALS = (*range(1, 9), 13)
 AT_LEAST = {
     "Start": {"values": 4},
     "How a rule is written": {"tokens": 26, "answers": 19, "grammar": 1, "readings": 11, "limits": 8, "parts": 10, "entries": 10, "hints": 6},
-    "Blanks": {"values": 28, "cases": 12, "connectives": 21, "lists": 42, "truth tests": 18},
+    "Blanks": {"values": 28, "cases": 12, "connectives": 21, "connectives as numbers": 21, "lists": 42, "truth tests": 18},
     "NOT IN with a blank in the list": {"values": 8},
     "Blanks that IS UNKNOWN does not find": {"values": 8, "worked rows": 5},
     "Refusals": {"refusals": 15, "answers": 53, "written instead": 11, "hints": 1, "same values": 5},
@@ -419,6 +420,13 @@ EXCEPTION_SENTENCE = r"The numbers rise in it, but for (\d+), which comes right 
 NOT_THE_TEXT_SENTENCE = r"Refusals (\d+) to (\d+) concern the card, the row and the room, not the text"
 LINES_SENTENCE = r"Refusals (\d+) and (\d+) concern the comma lines that a tables file is made of"
 FEW_ENTRIES_SENTENCE = "A rule with neither of them never has too many."
+ARITHMETIC_SENTENCE = (
+    r"with false as (\d), unknown as (\d) and true as (\d), `NOT` is (\d) minus the value, `AND` the (smaller|greater) of two values and `OR` the "
+    r"(smaller|greater)\.")
+PROVED_SENTENCE = r"it is proved for each value and each pair that this gives what is said of them above: `(\w+)` in (crates/\S+\.antt)\."
+DECIDES_SENTENCE = (
+    r"Where (\d) stands in front of `AND`, or (\d) in front of `OR`, JUDGE does not look at the test behind it, and the same claim says that the value is "
+    r"the same whatever that test is\.")
 NEVER_UNKNOWN_SENTENCES = (
     "`(EXISTS (FROM ..)) IS UNKNOWN` is always false",
     "So is `IS UNKNOWN` behind every condition that has only `EXISTS`, `IS NULL`, `IS NOT NULL` and truth tests, with `AND`, `OR` and `NOT`.")
@@ -666,12 +674,13 @@ class Manual:
         self.section, self.sections = WHOLE, []
         self.file, self.first_file, self.rule = b"", b"", None
         self.letters, self.comparisons = set(), ()
-        self.most, self.refused, self.fronts, self.bracketed, self.order = {}, set(), set(), set(), []
+        self.most, self.refused, self.fronts, self.numbers, self.bracketed, self.order = {}, set(), set(), set(), set(), []
         self.worked_row, self.worked_rows = None, []
         self.lines, self.last_rule, self.mended = b"", b"", set()
         self.sorts = {
-            "Token": self.try_tokens, "Limit": self.try_limits, "In front": self.try_connectives, "In the brackets": self.try_truth_tests,
-            "Values in the list": self.try_lists, "Row of table 2": self.try_worked_rows, "Refusal": self.try_refusals, "Lines": self.try_comma_lines}
+            "Token": self.try_tokens, "Limit": self.try_limits, "In front": self.try_connectives, "In front, as a number": self.try_numbers,
+            "In the brackets": self.try_truth_tests, "Values in the list": self.try_lists, "Row of table 2": self.try_worked_rows, "Refusal": self.try_refusals,
+            "Lines": self.try_comma_lines}
 
     def fault(self, line, what):
         self.faults.append(f"{NAME}:{line}: {what}")
@@ -714,6 +723,7 @@ class Manual:
         self.tried(1, "sentences", self.try_few_entries)
         self.tried(1, "sentences", self.try_never_unknown)
         self.tried(1, "sentences", self.try_splits)
+        self.tried(1, "sentences", self.try_arithmetic_sentences)
         self.tried(1, "sentences", self.try_size_sentences)
         self.tried(1, "sentences", self.try_day_numbers)
         self.tried(1, "sentences", self.try_own_lines)
@@ -946,6 +956,23 @@ class Manual:
         for heading, text in forms.items():
             self.tried(line, "connectives", self.values, text.encode(), file, [cells.get(heading)])
         self.fronts.add(cells["In front"])
+
+    def try_numbers(self, line, cells):
+        """What a heading makes of a number in front: what arithmetic gives, and the number of what the connective makes of tests with these values."""
+        file = generate.tables_file([(1, [[None]])])
+        letters = {str(number): letter for letter, number in NUMBERS.items()}
+        letter = letters.get(cells["In front, as a number"], "")
+        forms = {"`NOT`": (2 - NUMBERS.get(letter, 0), f"NOT {TESTS.get(letter)}")}
+        for (word, taken), (behind, number) in itertools.product((("AND", min), ("OR", max)), NUMBERS.items()):
+            forms[f"`{word}` {number}"] = taken(NUMBERS.get(letter, 0), number), f"{TESTS.get(letter)} {word} {TESTS[behind]}"
+        for heading, (number, text) in forms.items():
+            self.tried(line, "connectives as numbers", self.try_number, text.encode(), file, cells.get(heading), number)
+        self.numbers.add(letter)
+
+    def try_number(self, text, file, written, number):
+        """A number that arithmetic gives is the one in the manual, and that of a rule's value."""
+        compare.same(text, written, str(number))
+        self.values(text, file, [letter for letter in NUMBERS if NUMBERS[letter] == number])
 
     def try_truth_tests(self, line, cells):
         """What a truth test says of the value in its brackets, on a row whose column is blank."""
@@ -1279,6 +1306,20 @@ class Manual:
                     seen[value] += 1
         compare.same("the values of drawn conditions", set(seen), set(TRUTHS.values()))
 
+    def try_arithmetic_sentences(self):
+        """The numbers of the truth values are those that JUDGE gives, and the words for NOT, AND and OR those of document 02; the claim stands where it is said
+        to; and with what decides in front, the value is the same with each test behind it."""
+        whole = " ".join(self.text.split())
+        false, unknown, true, most, smaller, greater = re.search(ARITHMETIC_SENTENCE, whole).groups()
+        compare.same("the numbers of the values", {"F": int(false), "U": int(unknown), "T": int(true)}, NUMBERS)
+        compare.same("what NOT, AND and OR are", (most, smaller, greater), ("2", "smaller", "greater"))
+        claim, path = re.search(PROVED_SENTENCE, whole).groups()
+        compare.same(f"{claim} in {path}", len(re.findall(rf"^pub record {claim} ", (ROOT / path).read_text(), re.MULTILINE)), 1)
+        for word, number in zip(("AND", "OR"), re.search(DECIDES_SENTENCE, whole).groups()):
+            letter = next(letter for letter in NUMBERS if NUMBERS[letter] == int(number))
+            for behind in TESTS.values():
+                self.values(f"{TESTS[letter]} {word} {behind}".encode(), generate.tables_file([(1, [[None]])]), [letter])
+
     def try_never_unknown(self):
         """Conditions that are said to be never unknown, alone and with IS UNKNOWN behind them, on drawn tables."""
         self.said_once(NEVER_UNKNOWN_SENTENCES)
@@ -1313,7 +1354,8 @@ class Manual:
             self.fault(1, f"no lines that are refused for {sorted(set(FAULTS) - self.mended)}")
         if not self.refused >= set(READING_REFUSALS):
             self.fault(1, f"no example of refusals {sorted(set(READING_REFUSALS) - self.refused)}")
-        for place, letters in (("in front of AND, OR and NOT", self.fronts), ("in the brackets of a truth test", self.bracketed)):
+        for place, letters in (("in front of AND, OR and NOT", self.fronts), ("in front of them as numbers", self.numbers),
+                               ("in the brackets of a truth test", self.bracketed)):
             if letters != set(TESTS):
                 self.fault(1, f"of the truth values, {sorted(letters)} alone stand {place}")
 
