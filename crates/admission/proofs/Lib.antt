@@ -6,3 +6,4 @@ pub mod Printed
 pub mod Whole
 pub mod Computed
 pub mod Promise
+pub mod Same

@@ -1,13 +1,16 @@
 -- What proofs/ shows of these definitions.
 use mathlib.Core.Path.{_≡_}
+use mathlib.Core.Bool.{false}
 use mathlib.Core.List.{List, _++_, map}
 use mathlib.Core.Option.{some}
 use Prim.Native.Nat.{ℕ, _≤_, _<_}
 use lib.ListN.{length, take, drop}
 use Rattle.tables.specs.Tables.{columnsOf}
 use Rattle.tables.specs.Refusals.{Refused, Given, firstApplying}
+use Rattle.tables.specs.Claims.{BlanksDiffer, DeclinedDiffer}
 use Rattle.rule.specs.Condition.{Rule}
 use Rattle.rule.specs.Calls.{ruleOf, readingRefusals, Accepted, trueRows, admitCall}
+use Rattle.translation.specs.Claims.{textAsksDeclined}
 use Rattle.admission.specs.Output.{output, readOfText, readOfTables}
 use Rattle.admission.specs.Promise.{Promised}
 use Rattle.admission.specs.Cases.{outputCases, printedOf}
@@ -30,6 +33,12 @@ PromiseClaim = (text file : List ℕ) → Accepted text file → Promised text f
 -- no file is cut: what is printed for the first bytes of two files, as many as the program reads, is what is printed for all of them
 abbrev pub WholeFilesClaim : Type 0
 WholeFilesClaim = (text file : List ℕ) → output (take readOfText text) (take readOfTables file) ≡ output text file
+
+-- the value bytes of blank and declined cells affect nothing that the program prints; nor do marks 1 in the place of marks 2, where the text's rule does not ask whether cells are declined
+-- (document 02, Point 4: declined 'is blank in every respect')
+pub record SamePrintedClaim : Type 0 where
+  pub blanks : (text file other : List ℕ) → BlanksDiffer file other → output text file ≡ output text other
+  pub declined : (text file other : List ℕ) → DeclinedDiffer file other → textAsksDeclined text file ≡ false → output text file ≡ output text other
 
 -- what is printed on some files, together
 abbrev pub OutputCasesClaim : Type 0

@@ -13,7 +13,7 @@ use lib.ListN.{length, getD, drop, length-append}
 use Rattle.tables.specs.Lists.{tabulate, numbered, all, only, _>>=_}
 use Rattle.tables.specs.Bytes.{between, byteAt, word32, bytes32, bits, inRange}
 use Rattle.tables.specs.Tables.{mostTables, mostColumns}
-use Rattle.tables.specs.Values.{mostEntries, constantTag, judgedLevels, Value, Constant, Column, unusedValue, Comparison, Eq, Ne, Lt, Le, Gt, Ge, comparisonNumber, And, Or, Some, All, Null, NotNull, valueFits}
+use Rattle.tables.specs.Values.{mostEntries, constantTag, judgedLevels, Value, Constant, Column, unusedValue, Comparison, Eq, Ne, Lt, Le, Gt, Ge, comparisonNumber, And, Or, Some, All, Null, NotNull, IsDeclined, NotDeclined, valueFits}
 use Rattle.card.specs.Card.{mostRowEntries, AsNo, AsYes, Leaf, CompareLeaf, MarkLeaf, Card, LeafEntry, PairEntry, RowEntry, entries, leafFits, rowEntryFits, cardFits}
 use Rattle.card.specs.Layout.{recordSize, valueSize, leftPlace, rightPlace, Kind, PairKind, RowKind, ComparisonKind, MarkKind, kindNumber, kindWith, uses, Head, LeafHead, PairHead, RowHead, kindOf, valueBytes, recordBytes, cardBytes, valueOf, valueFrom, zeros, recordFits, headIn, headFrom, inside, entryFrom, cardFrom}
 use Rattle.card.specs.Sound.{columnsFit, laid, sound, Sound}
@@ -87,6 +87,8 @@ kind-back (ComparisonKind AsNo) = refl
 kind-back (ComparisonKind AsYes) = refl
 kind-back (MarkKind Null) = refl
 kind-back (MarkKind NotNull) = refl
+kind-back (MarkKind IsDeclined) = refl
+kind-back (MarkKind NotDeclined) = refl
 
 -- the record of what an entry says is as its kind asks, and says the same
 record Back (h : Head) (r : List ℕ) : Type 0 where

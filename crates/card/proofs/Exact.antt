@@ -130,7 +130,9 @@ kind-number (suc (suc (suc (suc (suc zero))))) k e = numbered-as e
 kind-number (suc (suc (suc (suc (suc (suc zero)))))) k e = numbered-as e
 kind-number (suc (suc (suc (suc (suc (suc (suc zero))))))) k e = numbered-as e
 kind-number (suc (suc (suc (suc (suc (suc (suc (suc zero)))))))) k e = numbered-as e
-kind-number (suc (suc (suc (suc (suc (suc (suc (suc (suc n))))))))) k e = absurd (none-some e)
+kind-number (suc (suc (suc (suc (suc (suc (suc (suc (suc zero))))))))) k e = numbered-as e
+kind-number (suc (suc (suc (suc (suc (suc (suc (suc (suc (suc zero)))))))))) k e = numbered-as e
+kind-number (suc (suc (suc (suc (suc (suc (suc (suc (suc (suc (suc n))))))))))) k e = absurd (none-some e)
 
 -- what an entry says by its kind has that kind, and the fields that the kind uses
 module _ (t : ℕ) (op : Comparison) (l r : Value) where

@@ -4,3 +4,4 @@ pub mod Back
 pub mod Exact
 pub mod Opened
 pub mod Claims
+pub mod Declined

@@ -22,7 +22,7 @@ unknownSays AsNo = false
 unknownSays AsYes = true
 
 -- an entry without inner ones. CompareLeaf AsNo and AsYes: the comparisons of kinds 5 and 6. MarkLeaf Null and NotNull: blank and not blank, kinds 7
--- and 8.
+-- and 8. MarkLeaf IsDeclined and NotDeclined: declined and not declined, kinds 9 and 10 (document 02, Point 4).
 pub data Leaf : Type 0 where
   CompareLeaf : Interpretation → Comparison → Value → Value → Leaf
   MarkLeaf : MarkTest → Value → Leaf
@@ -35,7 +35,7 @@ pub data Card : Type 0 where
 
 -- ---- the answer
 
--- a comparison of two cells; one that is blank makes it unknown
+-- a comparison of two cells; one that is blank or declined makes it unknown
 abbrev pub compares : Interpretation → Comparison → Cell → Cell → Bool
 compares u op x y = byNumbers (unknownSays u) (holds op) x y
 

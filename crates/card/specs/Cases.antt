@@ -2,9 +2,10 @@
 use mathlib.Core.Bool.{Bool, true, false}
 use mathlib.Core.List.{List, [], _∷_, _++_, map}
 use Prim.Native.Nat.{ℕ, zero, suc}
+use lib.IntN.{pos}
 use lib.ListN.{length, take, drop, set}
 use Rattle.tables.specs.Refusals.{Answer, Refused, Given, Lent}
-use Rattle.tables.specs.Values.{Column, Or, Some, All, Null, NotNull}
+use Rattle.tables.specs.Values.{Value, Constant, Column, Or, Some, All, MarkTest, Null, NotNull, IsDeclined, NotDeclined}
 use Rattle.card.specs.Card.{MarkLeaf, Card, LeafEntry, PairEntry, RowEntry}
 use Rattle.card.specs.Layout.{cardBytes}
 use Rattle.card.specs.Calls.{runCall, listCall}
@@ -30,6 +31,10 @@ over c = cardBytes (3 ∷ 2 ∷ []) c
 
 abbrev null : ℕ → ℕ → Card
 null l c = LeafEntry (MarkLeaf Null (Column l c))
+
+-- a single test by the mark: its kind at byte 5, its record at 6
+abbrev alone : MarkTest → Value → List ℕ
+alone m v = over (LeafEntry (MarkLeaf m v))
 
 -- two tests joined by or: kinds at bytes 5 to 7, records of 14 bytes at 8, 22 and 36
 abbrev three : List ℕ
@@ -69,6 +74,13 @@ edges =
     -- no columns and 17 in another table; tables 0 and 3 of two; a level outside its row entry
     ∷ bad (cardBytes (3 ∷ 0 ∷ []) (null 0 1)) ∷ bad (cardBytes (3 ∷ 17 ∷ []) (null 0 1))
     ∷ bad (over (RowEntry All 0 (null 0 1))) ∷ bad (over (RowEntry All 3 (null 0 1))) ∷ good (over (PairEntry Or (null 0 1) (RowEntry All 1 (null 1 3)))) ∷ bad (over (PairEntry Or (RowEntry All 1 (null 1 3)) (null 1 1)))
+    -- declined and not declined, of a column and of a constant: kinds 9 and 10, and no kind 11; unused bytes of both: table, comparison, right value; absent columns and levels, a level
+    -- inside its row entry, and a wrong end
+    ∷ good (alone IsDeclined (Column 0 3)) ∷ good (alone NotDeclined (Column 0 3)) ∷ good (alone IsDeclined (Constant (pos 5))) ∷ good (alone NotDeclined (Constant (pos 5)))
+    ∷ good (set (alone Null (Column 0 3)) 5 9) ∷ good (set (alone Null (Column 0 3)) 5 10) ∷ bad (set (alone Null (Column 0 3)) 5 11) ∷ bad (set (alone Null (Column 0 3)) 5 0)
+    ∷ bad (set (alone IsDeclined (Column 0 3)) 8 1) ∷ bad (set (alone IsDeclined (Column 0 3)) 9 1) ∷ bad (set (alone IsDeclined (Column 0 3)) 15 255) ∷ bad (set (alone IsDeclined (Column 0 3)) 19 1)
+    ∷ bad (set (alone NotDeclined (Column 0 3)) 8 1) ∷ bad (set (alone NotDeclined (Column 0 3)) 9 1) ∷ bad (set (alone NotDeclined (Column 0 3)) 15 255) ∷ bad (set (alone NotDeclined (Column 0 3)) 16 1)
+    ∷ bad (alone IsDeclined (Column 0 4)) ∷ bad (alone NotDeclined (Column 1 1)) ∷ good (over (RowEntry All 2 (LeafEntry (MarkLeaf NotDeclined (Column 1 2))))) ∷ bad (set (alone IsDeclined (Column 0 3)) 6 2)
     ∷ []
 
 -- ---- a card and a file, and what RUN on row 0 and LIST with room for one row give
@@ -88,13 +100,17 @@ abbrev oneRow : List ℕ
 oneRow = 2 ∷ 3 ∷ 1 ∷ 0 ∷ 2 ∷ 0 ∷ 0 ∷ 4 ∷ 0 ∷ 0 ∷ 0 ∷ 5 ∷ 0 ∷ 0 ∷ 0 ∷ 6 ∷ 0 ∷ 0 ∷ 0 ∷ 0 ∷ 0 ∷ 1 ∷ []
 
 -- a wrong length, a wrong mark, an unsound card, columns that differ in table 1, in table 2 and in number, in the order in which they are
--- tried; then yes and no, a row entry over no rows, and a table 1 without rows
+-- tried; then yes and no, with the third cell blank and declined, of a column and of a constant, a row entry over no rows, and a table 1 without rows
 unfoldable pub gateEdges : List GateEdge
 gateEdges =
-    refuses [] [] 1 ∷ refuses three (oneRow ++ (0 ∷ [])) 1 ∷ refuses (0 ∷ []) (set oneRow 21 2) 2 ∷ refuses (0 ∷ []) oneRow 9
+    refuses [] [] 1 ∷ refuses three (oneRow ++ (0 ∷ [])) 1 ∷ refuses (0 ∷ []) (set oneRow 21 3) 2 ∷ refuses (0 ∷ []) oneRow 9
     ∷ refuses (set three 10 1) (set oneRow 4 1) 9 ∷ refuses (cardBytes (2 ∷ 2 ∷ []) (null 0 1)) oneRow 10 ∷ refuses three (set oneRow 4 1) 10
     ∷ refuses workedCard oneRow 10 ∷ refuses (cardBytes (3 ∷ 2 ∷ 1 ∷ []) (null 0 1)) oneRow 10
     ∷ record { card = over (null 0 3); file = oneRow; run = Given true; listing = record { result = Given 1; buffer = 0 ∷ [] } }
+    ∷ record { card = over (null 0 3); file = set oneRow 21 2; run = Given true; listing = record { result = Given 1; buffer = 0 ∷ [] } }
+    ∷ record { card = alone IsDeclined (Column 0 3); file = set oneRow 21 2; run = Given true; listing = record { result = Given 1; buffer = 0 ∷ [] } }
+    ∷ record { card = alone IsDeclined (Column 0 3); file = oneRow; run = Given false; listing = record { result = Given 0; buffer = 9 ∷ [] } }
+    ∷ record { card = alone IsDeclined (Constant (pos 5)); file = set oneRow 21 2; run = Given false; listing = record { result = Given 0; buffer = 9 ∷ [] } }
     ∷ record { card = over (null 0 2); file = oneRow; run = Given false; listing = record { result = Given 0; buffer = 9 ∷ [] } }
     ∷ record { card = over (RowEntry All 2 (null 1 1)); file = oneRow; run = Given true; listing = record { result = Given 1; buffer = 0 ∷ [] } }
     ∷ record { card = over (null 0 3); file = 2 ∷ 3 ∷ 0 ∷ 0 ∷ 2 ∷ 0 ∷ 0 ∷ []; run = Refused 11; listing = record { result = Given 0; buffer = 9 ∷ [] } }
@@ -129,14 +145,15 @@ pairOf kind = 3 ∷ 0 ∷ 2 ∷ 2 ∷ 1 ∷ kind ∷ 5 ∷ 8 ∷ fields 3 0 0 0 
 abbrev rowsWith : ℕ → ℕ → ℕ → ℕ → List ℕ
 rowsWith kind inner comparison column = 2 ∷ 0 ∷ 2 ∷ 2 ∷ 1 ∷ kind ∷ inner ∷ fields 2 2 0 0 0 0 0 ++ fields 2 0 comparison 1 1 0 column
 
--- table 1: (1, 5), (2, blank), (3, 0), (blank, blank); table 2: 1, blank. The numbers of blank cells are 7.
+-- table 1: (1, 5), (2, blank), (3, 0), (blank, declined); table 2: 1, blank. The numbers of blank and declined cells are 7.
 abbrev pub kindFile : List ℕ
 kindFile =
     (2 ∷ 2 ∷ 4 ∷ 0 ∷ 1 ∷ 2 ∷ 0 ∷ [])
     ++ (1 ∷ 0 ∷ 0 ∷ 0 ∷ 5 ∷ 0 ∷ 0 ∷ 0 ∷ 2 ∷ 0 ∷ 0 ∷ 0 ∷ 7 ∷ 0 ∷ 0 ∷ 0 ∷ 3 ∷ 0 ∷ 0 ∷ 0 ∷ 0 ∷ 0 ∷ 0 ∷ 0 ∷ 7 ∷ 0 ∷ 0 ∷ 0 ∷ 7 ∷ 0 ∷ 0 ∷ 0 ∷ 1 ∷ 0 ∷ 0 ∷ 0 ∷ 7 ∷ 0 ∷ 0 ∷ 0 ∷ [])
-    ++ (0 ∷ 0 ∷ 0 ∷ 1 ∷ 0 ∷ 0 ∷ 1 ∷ 1 ∷ 0 ∷ 1 ∷ [])
+    ++ (0 ∷ 0 ∷ 0 ∷ 1 ∷ 0 ∷ 0 ∷ 1 ∷ 2 ∷ 0 ∷ 1 ∷ [])
 
--- the kinds from 1 to 8; then some row with v.1 < m.2, where the two levels cannot be taken for one another
+-- the kinds from 1 to 10; then 10 of the constant 5, and of m.1, which is blank once and never declined; and some row with v.1 < m.2, where the two levels cannot be taken for one
+-- another
 unfoldable pub kindCases : List KindCase
 kindCases =
     record { card = pairOf 1; runs = true ∷ false ∷ false ∷ false ∷ []; admitted = 0 ∷ [] }
@@ -147,6 +164,10 @@ kindCases =
     ∷ record { card = oneEntry 6 (fields 1 0 5 0 2 255 0); runs = true ∷ true ∷ false ∷ true ∷ []; admitted = 0 ∷ 1 ∷ 3 ∷ [] }
     ∷ record { card = oneEntry 7 (fields 1 0 0 0 2 0 0); runs = false ∷ true ∷ false ∷ true ∷ []; admitted = 1 ∷ 3 ∷ [] }
     ∷ record { card = oneEntry 8 (fields 1 0 0 0 2 0 0); runs = true ∷ false ∷ true ∷ false ∷ []; admitted = 0 ∷ 2 ∷ [] }
+    ∷ record { card = oneEntry 9 (fields 1 0 0 0 2 0 0); runs = false ∷ false ∷ false ∷ true ∷ []; admitted = 3 ∷ [] }
+    ∷ record { card = oneEntry 10 (fields 1 0 0 0 2 0 0); runs = true ∷ true ∷ true ∷ false ∷ []; admitted = 0 ∷ 1 ∷ 2 ∷ [] }
+    ∷ record { card = oneEntry 10 (fields 1 0 0 255 5 0 0); runs = true ∷ true ∷ true ∷ true ∷ []; admitted = 0 ∷ 1 ∷ 2 ∷ 3 ∷ [] }
+    ∷ record { card = oneEntry 10 (fields 1 0 0 0 1 0 0); runs = true ∷ true ∷ true ∷ true ∷ []; admitted = 0 ∷ 1 ∷ 2 ∷ 3 ∷ [] }
     ∷ record { card = rowsWith 3 5 3 2; runs = true ∷ false ∷ false ∷ false ∷ []; admitted = 0 ∷ [] }
     ∷ []
 

@@ -1,14 +1,17 @@
 -- What proofs/ shows of these definitions.
 use mathlib.Core.Path.{_≡_}
 use mathlib.Core.Bool.{true, false}
-use mathlib.Core.List.{List, _++_, map}
+use mathlib.Core.List.{List, _++_, map, List·Memᴰ}
+use mathlib.Core.Logic.{_↔_, _⊎_}
 use mathlib.Core.Option.{none, some}
 use Prim.Native.Nat.{ℕ, _<_, _≤_}
 use lib.ListN.{length, getD, drop}
-use Rattle.tables.specs.Tables.{rowCount}
+use Rattle.tables.specs.Tables.{Tables, rowCount}
+use Rattle.tables.specs.Values.{Env}
+use Rattle.tables.specs.Claims.{asBlank, tablesAsBlank}
 use Rattle.tables.specs.Refusals.{numbers, firstApplying, Refused, Given, lendRefusals}
-use Rattle.card.specs.Card.{Card, entries}
-use Rattle.card.specs.Layout.{cardBytes, cardLength, columnsIn, cardFrom}
+use Rattle.card.specs.Card.{Card, answer, entries}
+use Rattle.card.specs.Layout.{kindBytes, asksDeclined, cardBytes, cardLength, columnsIn, cardFrom}
 use Rattle.card.specs.Sound.{sound, Sound}
 use Rattle.card.specs.Calls.{saysYes, yesRows, checkRefusals, gateRefusals, runRefusals, checkOrder, runOrder, listOrder, checkCall, runCall, listCall}
 use Rattle.card.specs.Cases.{edges, gateEdges, gateAnswers, gateExpected, kindCases, kindAnswers, kindExpected}
@@ -24,6 +27,15 @@ pub record SoundClaim : Type 0 where
 -- the length in bytes that the section Card gives
 abbrev pub LengthClaim : Type 0
 LengthClaim = (columns : List ℕ) (c : Card) → length (cardBytes columns c) ≡ cardLength (length columns) (entries c)
+
+-- document 02, Point 4: a card asks whether cells are declined exactly where one of its entries has kind 9 or kind 10
+abbrev pub AsksClaim : Type 0
+AsksClaim = (c : Card) → (asksDeclined c ≡ true) ↔ (List·Memᴰ 9 (kindBytes c) ⊎ List·Memᴰ 10 (kindBytes c))
+
+-- declined 'is blank in every respect': a card without such entries gives the same answer when every declined cell is taken for a blank one, whatever the tables hold and at whatever
+-- rows
+abbrev pub DeclinedBlankClaim : Type 0
+DeclinedBlankClaim = (ts : Tables) (env : Env) (c : Card) → asksDeclined c ≡ false → answer ts env c ≡ answer (tablesAsBlank ts) (map (map asBlank) env) c
 
 -- CHECK, RUN and LIST by cases: CHECK passes just the sound cards; what RUN and LIST look at first is passed up unchanged, with the buffer as it
 -- was; then RUN gives the card's answer unless table 1 has no such row, and LIST the rows unless the buffer has fewer elements

@@ -5,9 +5,9 @@ use mathlib.Core.Option.{Option, none, some}
 use Prim.Native.Nat.{ℕ, zero, suc, _+_, _-_, _*_}
 use lib.Dec.{eqb}
 use lib.ListN.{length, take, drop}
-use Rattle.tables.specs.Lists.{tabulate, numbered, all, only, _>>=_}
+use Rattle.tables.specs.Lists.{tabulate, numbered, any, all, only, _>>=_}
 use Rattle.tables.specs.Bytes.{between, byteAt, word16, word32, bytes16, bytes32, signed, bits}
-use Rattle.tables.specs.Values.{constantTag, Value, Constant, Column, unusedValue, anyValue, Uses, Comparison, Eq, comparisonNumber, comparisonOf, Connective, And, Or, Quantifier, Some, All, MarkTest, Null, NotNull}
+use Rattle.tables.specs.Values.{constantTag, Value, Constant, Column, unusedValue, anyValue, Uses, Comparison, Eq, comparisonNumber, comparisonOf, Connective, And, Or, Quantifier, Some, All, MarkTest, Null, NotNull, IsDeclined, NotDeclined}
 use Rattle.card.specs.Card.{Interpretation, AsNo, AsYes, Leaf, CompareLeaf, MarkLeaf, Card, LeafEntry, PairEntry, RowEntry, entries}
 
 -- the bytes of one record
@@ -39,7 +39,8 @@ pub data Kind : Type 0 where
   ComparisonKind : Interpretation → Kind
   MarkKind : MarkTest → Kind
 
--- 'Kinds: 1 and, 2 or, 3 some row, 4 every row, 5 comparison where unknown counts as no, 6 where unknown counts as yes, 7 blank, 8 not blank'
+-- 'Kinds: 1 and, 2 or, 3 some row, 4 every row, 5 comparison where unknown counts as no, 6 where unknown counts as yes, 7 blank, 8 not blank';
+-- and of document 02, Point 4: 'the card kinds 9 (declined) and 10 (not declined)'
 abbrev pub pairKind : Connective → ℕ
 pairKind And = 1
 pairKind Or = 2
@@ -55,6 +56,8 @@ comparisonKind AsYes = 6
 abbrev pub markKind : MarkTest → ℕ
 markKind Null = 7
 markKind NotNull = 8
+markKind IsDeclined = 9
+markKind NotDeclined = 10
 
 abbrev pub kindNumber : Kind → ℕ
 kindNumber (PairKind j) = pairKind j
@@ -65,12 +68,13 @@ kindNumber (MarkKind m) = markKind m
 -- the kinds in the order of their numbers, from 1 on; and the one with a number, if there is one
 abbrev pub kinds : List Kind
 kinds =
-    PairKind And ∷ PairKind Or ∷ RowKind Some ∷ RowKind All ∷ ComparisonKind AsNo ∷ ComparisonKind AsYes ∷ MarkKind Null ∷ MarkKind NotNull ∷ []
+    PairKind And ∷ PairKind Or ∷ RowKind Some ∷ RowKind All ∷ ComparisonKind AsNo ∷ ComparisonKind AsYes
+    ∷ MarkKind Null ∷ MarkKind NotNull ∷ MarkKind IsDeclined ∷ MarkKind NotDeclined ∷ []
 
 abbrev pub kindWith : ℕ → Option Kind
 kindWith n = numbered (map some kinds) n none
 
--- 'Kinds 3 and 4 use the table, 5 and 6 the comparison and both values, 7 and 8 the left value'
+-- 'Kinds 3 and 4 use the table, 5 and 6 the comparison and both values, 7 and 8 the left value'; 9 and 10 'use the left value as 7 and 8 do'
 abbrev pub uses : Kind → Uses
 uses (PairKind j) = record { table = false; comparison = false; left = false; right = false }
 uses (RowKind q) = record { table = true; comparison = false; left = false; right = false }
@@ -140,6 +144,14 @@ recordsFrom k (RowEntry q t c) = recordBytes (k + (1 + entries c)) (RowHead q t)
 -- the whole card: how many entries, how many tables, the columns of each, all kinds, all records
 unfoldable pub cardBytes : List ℕ → Card → List ℕ
 cardBytes columns c = bytes16 (entries c) ++ (length columns ∷ (columns ++ (kindBytes c ++ recordsFrom 0 c)))
+
+-- document 02, Point 4: whether a kind, 9 or 10, asks whether a cell is declined, and whether some entry of a card does (AsksClaim). To a card without such entries, as cards were before
+-- Point 4, a declined cell 'is blank in every respect' (DeclinedBlankClaim)
+abbrev pub kindAsksDeclined : ℕ → Bool
+kindAsksDeclined n = eqb n (markKind IsDeclined) || eqb n (markKind NotDeclined)
+
+abbrev pub asksDeclined : Card → Bool
+asksDeclined c = any kindAsksDeclined (kindBytes c)
 
 -- how long a card of n entries is: two bytes and one, the columns, and for each entry its kind and its record
 abbrev pub cardLength : ℕ → ℕ → ℕ

@@ -30,3 +30,7 @@ pub const COMPARISON_OR_YES: usize = 6;
 pub const BLANK: usize = 7;
 
 pub const NOT_BLANK: usize = 8;
+
+pub const DECLINED: usize = 9;
+
+pub const NOT_DECLINED: usize = 10;

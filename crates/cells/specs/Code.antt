@@ -1,12 +1,11 @@
 -- What the functions of src/ promise one another, in the terms of the code: places in bytes and in arrays. No contract of a
 -- public call cites this file.
 use mathlib.Core.Path.{_≡_}
-use mathlib.Core.Bool.{cond}
 use mathlib.Core.List.{List, [], _∷_}
 use Prim.Native.Nat.{ℕ, zero, suc, _+_, _*_, _/_, _%_, _-_, _<_, _≤_}
 use lib.IntN.{ℤ, pos, negsuc, subℕ}
 use lib.ListN.{length, getD}
-use Rattle.tables.specs.Tables.{mostTables, mostColumns, mostRows, mostCells, Cell, Blank, Present, tableCount, sizeAt, cellsBefore, cellCount, valuesAt, marksAt}
+use Rattle.tables.specs.Tables.{mostTables, mostColumns, mostRows, mostCells, Cell, cellMarked, tableCount, sizeAt, cellsBefore, cellCount, valuesAt, marksAt}
 use Rattle.cells.specs.declared.Seen.{Seen}
 use Rattle.cells.specs.declared.Place.{Place}
 
@@ -77,4 +76,4 @@ placeIn g t = record { values = getD g 0 0; marks = getD g 1 0; first = getD g (
 
 -- the cell that was seen
 abbrev pub seenCell : Seen → Cell
-seenCell s = cond (s .blank) Blank (Present (fromExcess (s .number)))
+seenCell s = cellMarked (s .mark) (fromExcess (s .number))

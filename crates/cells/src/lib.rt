@@ -18,7 +18,14 @@ pub const MOST_ROWS: usize = 1000;
 
 pub const MOST_CELLS: usize = 8192;
 
-pub const HIGHEST_MARK: u8 = 1;
+// The marks of a cell that is present with its number, of a blank one, and of a declined one; none is higher.
+pub const PRESENT_MARK: u8 = 0;
+
+pub const BLANK_MARK: u8 = 1;
+
+pub const DECLINED_MARK: u8 = 2;
+
+pub const HIGHEST_MARK: u8 = DECLINED_MARK;
 
 // How many numbers tell where the tables of a file stand.
 pub const PLACES: usize = 3 * MOST_TABLES + 3;
@@ -294,8 +301,8 @@ pub fn table_place(g: &[usize; PLACES], t: usize) -> Place
     }
 }
 
-// What is seen of a cell: whether it is blank, and its number plus 2 ^ 31.
+// What is seen of a cell: its mark, and its number plus 2 ^ 31.
 pub struct Seen {
-    pub blank: bool,
+    pub mark: u8,
     pub number: usize,
 }

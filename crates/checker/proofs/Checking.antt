@@ -16,7 +16,7 @@ use lib.ListN.{length, getD, set, take, length-set}
 use lib.Seq.{length-take-le, getD-take, getD-set-same, getD-set-other, take-suc-set}
 use Rattle.tables.specs.Lists.{numbered}
 use Rattle.tables.specs.Bytes.{between, byteAt, inRange}
-use Rattle.tables.specs.Values.{constantTag, judgedLevels, And, NotNull, valueFits}
+use Rattle.tables.specs.Values.{constantTag, judgedLevels, And, NotDeclined, valueFits}
 use Rattle.cells.specs.Code.{words32, excessAdded, fromExcess}
 use Rattle.card.specs.Card.{mostRowEntries, Leaf, Card, LeafEntry, PairEntry, RowEntry, leafFits, rowEntryFits, cardFits}
 use Rattle.card.specs.Layout.{ComparisonKind, MarkKind, pairKind, markKind, kindWith, LeafHead, entryCount, tablesIn, columnsIn, kindAt, recordAt, endAt, headFrom, cardFrom}
@@ -109,7 +109,7 @@ module _ {d columns levels : List ℕ} {s e : ℕ} where
   pub kind-before : kindIn d s < pairKind And → Checks d columns levels s e false
   kind-before l = no-kind (none-before (kindIn d s) l)
 
-  pub kind-behind : markKind NotNull < kindIn d s → Checks d columns levels s e false
+  pub kind-behind : markKind NotDeclined < kindIn d s → Checks d columns levels s e false
   kind-behind l = no-kind (none-behind (kindIn d s) l)
 
 -- ---- what checking asks, of values and of inner entries

@@ -17,9 +17,11 @@ use card::AND_ENTRY;
 use card::BLANK;
 use card::COMPARISON_OR_NO;
 use card::COMPARISON_OR_YES;
+use card::DECLINED;
 use card::EVERY_ROW;
 use card::MOST_ROW_ENTRIES;
 use card::NOT_BLANK;
+use card::NOT_DECLINED;
 use card::OR_ENTRY;
 use card::SOME_ROW;
 use cells::Reason;
@@ -85,7 +87,7 @@ fn check_leaf(
         COMPARISON_OR_NO | COMPARISON_OR_YES => {
             value_fits(card, w, depth, held_at(d, FIELDS * s + RIGHT))
         }
-        BLANK | NOT_BLANK => true,
+        BLANK | NOT_BLANK | DECLINED | NOT_DECLINED => true,
         _ => {
             cells::never();
             false
@@ -113,7 +115,7 @@ fn check_entry(
     match k {
         AND_ENTRY | OR_ENTRY => check_pair(card, d, s, e, w, depth),
         SOME_ROW | EVERY_ROW => check_rows(card, d, s, e, w, depth),
-        COMPARISON_OR_NO | COMPARISON_OR_YES | BLANK | NOT_BLANK => {
+        COMPARISON_OR_NO | COMPARISON_OR_YES | BLANK | NOT_BLANK | DECLINED | NOT_DECLINED => {
             check_leaf(card, d, s, e, w, depth)
         }
         _ => false,

@@ -14,7 +14,7 @@ use lib.Seq.{length-take-le, getD-take, getD-drop, getD-append-add}
 use Rattle.tables.specs.Lists.{all, only, placed, _>>=_}
 use Rattle.tables.specs.Bytes.{between, byteAt, word16, word32, signed, bits}
 use Rattle.tables.specs.Tables.{mostTables, mostColumns}
-use Rattle.tables.specs.Values.{mostEntries, constantTag, Constant, Column, And, NotNull}
+use Rattle.tables.specs.Values.{mostEntries, constantTag, Constant, Column, And, NotDeclined}
 use Rattle.cells.specs.Code.{words32, excess, fromExcess, Holds}
 use Rattle.cells.proofs.Holding.{holds-more, holds-same}
 use Rattle.cells.proofs.Signed.{signed-excess, signed-in}
@@ -201,7 +201,7 @@ module _ (r : List ℕ) (kind : ℕ) where
   pub fits-before : kind < pairKind And → false ≡ fieldsFit kind r
   fits-before l = fits-none (none-before kind l)
 
-  pub fits-behind : markKind NotNull < kind → false ≡ fieldsFit kind r
+  pub fits-behind : markKind NotDeclined < kind → false ≡ fieldsFit kind r
   fits-behind l = fits-none (none-behind kind l)
 
   fits-kind : (k : Kind) → kind ≡ kindNumber k → (x : Bool) → x ≡ recordFits (uses k) r → x ≡ fieldsFit kind r

@@ -10,7 +10,7 @@ use native.Mathlib.Omega.{arith}
 use borrow.Author.Tests.{ltb-true, ltb-false}
 use lib.Dec.{ltb}
 use lib.ListN.{List·getD-eq-default}
-use Rattle.tables.specs.Values.{And, Or, Some, All, Null, NotNull}
+use Rattle.tables.specs.Values.{And, Or, Some, All, Null, NotNull, IsDeclined, NotDeclined}
 use Rattle.card.specs.Card.{AsNo, AsYes}
 use Rattle.card.specs.Layout.{Kind, pairKind, rowKind, comparisonKind, markKind, kindNumber, kinds, kindWith}
 use Rattle.card.specs.Groups.{PairNumber, RowNumber, ComparisonNumber, MarkNumber, LeafNumber}
@@ -36,17 +36,21 @@ module _ (k : ℕ) where
   pub comparison-number : comparisonKind AsNo ≤ k → k ≤ comparisonKind AsYes → ComparisonNumber k
   comparison-number low high = one-of-two (comparisonKind AsNo) k low high (λ e. (AsNo, e)) (λ e. (AsYes, e))
 
-  pub mark-number : markKind Null ≤ k → k ≤ markKind NotNull → MarkNumber k
-  mark-number low high = one-of-two (markKind Null) k low high (λ e. (Null, e)) (λ e. (NotNull, e))
+  pub mark-number : markKind Null ≤ k → k ≤ markKind NotDeclined → MarkNumber k
+  mark-number low high =
+      ⊎-elim
+      (λ l. one-of-two (markKind Null) k low (omega arith) (λ e. (Null, e)) (λ e. (NotNull, e)))
+      (λ l. one-of-two (markKind IsDeclined) k l high (λ e. (IsDeclined, e)) (λ e. (NotDeclined, e)))
+      (below-or-not k (markKind IsDeclined))
 
-  pub leaf-number : comparisonKind AsNo ≤ k → k ≤ markKind NotNull → LeafNumber k
+  pub leaf-number : comparisonKind AsNo ≤ k → k ≤ markKind NotDeclined → LeafNumber k
   leaf-number low high =
       ⊎-elim (λ l. inl (comparison-number low (omega arith))) (λ l. inr (mark-number l high)) (below-or-not k (markKind Null))
 
   pub none-before : k < pairKind And → kindWith k ≡ none
   none-before l = let e : k ≡ 0 = omega arith in ap kindWith e
 
-  pub none-behind : markKind NotNull < k → kindWith k ≡ none
+  pub none-behind : markKind NotDeclined < k → kindWith k ≡ none
   none-behind l = let e : k ≡ suc (k - 1) = omega arith in ap kindWith e ∙ List·getD-eq-default (map some kinds) none {n = k - 1} (omega arith)
 
 -- and back: where the numbers of a group stand
@@ -62,11 +66,13 @@ pub comparison-bounds : {k : ℕ} → ComparisonNumber k → (comparisonKind AsN
 comparison-bounds (AsNo, e) = (omega arith, omega arith)
 comparison-bounds (AsYes, e) = (omega arith, omega arith)
 
-pub mark-bounds : {k : ℕ} → MarkNumber k → (markKind Null ≤ k) × (k ≤ markKind NotNull)
+pub mark-bounds : {k : ℕ} → MarkNumber k → (markKind Null ≤ k) × (k ≤ markKind NotDeclined)
 mark-bounds (Null, e) = (omega arith, omega arith)
 mark-bounds (NotNull, e) = (omega arith, omega arith)
+mark-bounds (IsDeclined, e) = (omega arith, omega arith)
+mark-bounds (NotDeclined, e) = (omega arith, omega arith)
 
-pub leaf-bounds : {k : ℕ} → LeafNumber k → (comparisonKind AsNo ≤ k) × (k ≤ markKind NotNull)
+pub leaf-bounds : {k : ℕ} → LeafNumber k → (comparisonKind AsNo ≤ k) × (k ≤ markKind NotDeclined)
 leaf-bounds (inl c) = let b = comparison-bounds c in (omega arith, omega arith)
 leaf-bounds (inr m) = let b = mark-bounds m in (omega arith, omega arith)
 

@@ -16,9 +16,11 @@ use card::BLANK;
 use card::COMPARISON_OR_NO;
 use card::COMPARISON_OR_YES;
 use card::COMPARISON_PLACE;
+use card::DECLINED;
 use card::EVERY_ROW;
 use card::LEFT_PLACE;
 use card::NOT_BLANK;
+use card::NOT_DECLINED;
 use card::OR_ENTRY;
 use card::RECORD_SIZE;
 use card::RIGHT_PLACE;
@@ -147,7 +149,7 @@ fn fields_fit(card: &[u8], r: usize, kind: usize) -> bool
             }
             zero_bytes(card, r, TABLE_PLACE, COMPARISON_PLACE)
         }
-        BLANK | NOT_BLANK => {
+        BLANK | NOT_BLANK | DECLINED | NOT_DECLINED => {
             let before = zero_bytes(card, r, TABLE_PLACE, LEFT_PLACE);
             if !before {
                 return false;

@@ -83,7 +83,7 @@ mark-left n (((_, not), compare), exists) low high = mark-number n (omega arith)
 pub list-left : (n : ℕ) → Others n → existsKind ≤ n → n ≤ listKind All → ListNumber n
 list-left n (others, exists) low high = list-number n (omega arith) high
 
--- IS UNKNOWN or IS NOT UNKNOWN, the last two kinds
+-- IS UNKNOWN or IS NOT UNKNOWN
 pub unknown-left : (n : ℕ) → unaryKind (Is Unknown) ≤ n → n ≤ unaryKind (IsNot Unknown) → UnknownNumber n
 unknown-left n low high = ⊎-elim (λ e. inl (sym e)) (λ l. inr (omega arith)) (eq-or-lt-of-le low)
 

@@ -27,6 +27,7 @@ use records::LeafNumbers;
 use rule::ALL_PART;
 use rule::AND_PART;
 use rule::COMPARISON_PART;
+use rule::DECLINED_PART;
 use rule::EXISTS_PART;
 use rule::IS_FALSE_PART;
 use rule::IS_NOT_FALSE_PART;
@@ -34,6 +35,7 @@ use rule::IS_NOT_TRUE_PART;
 use rule::IS_NOT_UNKNOWN_PART;
 use rule::IS_TRUE_PART;
 use rule::IS_UNKNOWN_PART;
+use rule::NOT_DECLINED_PART;
 use rule::NOT_NULL_PART;
 use rule::NOT_PART;
 use rule::NULL_PART;
@@ -73,7 +75,7 @@ fn write_comparison(
     k + 1
 }
 
-// IS NULL or IS NOT NULL.
+// A test by the mark: IS NULL, IS DECLINED, or one of their negations. It is never unknown, so its entry is the same in either interpretation.
 fn write_mark(
     p: &[usize; PART_NUMBERS],
     s: usize,
@@ -201,6 +203,7 @@ pub fn write_part(
         IS_UNKNOWN_PART | IS_NOT_UNKNOWN_PART => {
             write_unknown(p, s, negate, unknown, kinds, records, k)
         }
+        DECLINED_PART | NOT_DECLINED_PART => write_mark(p, s, negate, kinds, records, k),
         _ => {
             cells::never();
             k

@@ -17,9 +17,9 @@ use Rattle.cells.specs.declared.Place.{Place}
 use Rattle.values.specs.Code.{heldAt, rowFrom, Readable, ValueReady, Sees}
 use Rattle.values.proofs.Rows.{TableAt}
 use Rattle.values.proofs.Ranging.{NextRow, next-none, next-more, table-bounds, table-here, row-deep, row-room as room-at, row-readable}
-use Rattle.rule.specs.Condition.{Not, From, Single, Atom, Join, Apply, Exists, Listed, Rule, parts, fromsDeep}
+use Rattle.rule.specs.Condition.{Not, IsNot, From, Single, Atom, Join, Apply, Exists, Listed, Rule, parts, fromsDeep}
 use Rattle.rule.specs.Names.{mostParts, within, ValueFits, TestFits, FromFits, Fits}
-use Rattle.rule.specs.Truth.{Truth, False, True, truth, isTrue, truthNumber}
+use Rattle.rule.specs.Truth.{Truth, False, Unknown, True, truth, isTrue, truthNumber}
 use Rattle.rule.specs.Meaning.{compare3, over3, meaning}
 use Rattle.rule.specs.Parts.{joinKind, unaryKind, markKind, existsKind, listKind, tableOf}
 use Rattle.rule.specs.Groups.{UnaryNumber, TestNumber}
@@ -28,7 +28,7 @@ use Rattle.parts.specs.Parts.{Stands}
 use Rattle.rule.proofs.Parts.{from-back}
 use Rattle.rule.proofs.Groups.{truth-number, test-number}
 use Rattle.rule.proofs.Arithmetic.{number-high}
-use Rattle.parts.proofs.Parts.{parts-low, kind-low, kind-high, part-comparison, part-table, part-left, part-right, IsTest, IsJoin, IsUnary, IsExists, IsListed, is-test, is-join, is-unary, is-exists, is-listed}
+use Rattle.parts.proofs.Parts.{parts-low, kind-low, part-comparison, part-table, part-left, part-right, IsTest, IsJoin, IsUnary, IsExists, IsListed, is-test, is-join, is-unary, is-exists, is-listed}
 use Rattle.evaluator.specs.Code.{decidedBy, Decides, UnaryValued, unlessUnknown, emptyTruth, emptyOver, OverNone, TestReady, TestEvaluated, Evaluable, Evaluates, RowReady, RowEvaluated}
 use Rattle.evaluator.proofs.Truths.{taken, taken-meant, left-stop, is-kept, not-kept, overRows, over-none, over-more, over-stop, over-on, none-open, more-open, quantifierOf, kind-is, none-is, none-decides}
 use Rattle.evaluator.proofs.Rows.{exists-rows, listed-rows}
@@ -150,12 +150,12 @@ module _ {p g file w : List ℕ} {s depth : ℕ} (h : Evaluable p g file w s dep
   Others =
       (((((Unit {0} × NotKind (joinKind And)) × NotKind (joinKind Or)) × NotKind (unaryKind Not)) × NotKind existsKind) × NotKind (listKind Some)) × NotKind (listKind All)
 
-  -- of those that are left, the lower ones are tests, and the others truth tests
+  -- of those that are left, the lowest ones are tests, the next ones truth tests, and the last two tests again
   pub test-left : Others → kindHere ≤ markKind NotNull → TestNumber kindHere
   test-left ((((((_, and), or), not), exists), some), all) l = test-number _ (omega (arith, kind-low p s (h .rule) (h .stands))) l
 
-  pub truth-left : Others → markKind NotNull < kindHere → UnaryNumber kindHere
-  truth-left ((((((_, and), or), not), exists), some), all) l = truth-number _ (omega arith) (kind-high p s (h .rule) (h .stands))
+  pub truth-left : Others → markKind NotNull < kindHere → kindHere ≤ unaryKind (IsNot Unknown) → UnaryNumber kindHere
+  truth-left ((((((_, and), or), not), exists), some), all) l m = truth-number _ (omega arith) m
 
   module _ (k : TestNumber kindHere) where
     test-here : IsTest p s (h .rule)

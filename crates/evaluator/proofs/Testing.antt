@@ -1,14 +1,15 @@
 -- Values and tests from the numbers of a part: what looking at a value asks and sees, and what a test comes to.
 use mathlib.Core.Path.{_≡_, refl, sym, ap, ap₂, subst, _∙_}
+use mathlib.Core.Bool.{Bool, true, false, not, Bool·beq}
 use mathlib.Core.List.{List}
-use mathlib.Core.Logic.{inl, inr}
-use Prim.Native.Nat.{ℕ, _+_, _*_, _≤_}
+use mathlib.Core.Logic.{_⊎_, inl, inr}
+use Prim.Native.Nat.{ℕ, _+_, _*_, _<_, _≤_}
 use native.Mathlib.Omega.{arith}
 use borrow.Author.Tests.{ne-eqb}
-use lib.Dec.{T}
+use lib.Dec.{T, eqb, leb}
 use lib.ListN.{length, getD}
 use Rattle.tables.specs.Tables.{columnsOf}
-use Rattle.tables.specs.Values.{mostLevels, constantTag, Value, Constant, Column, comparisonOf, MarkTest, Env, cellOf, markPasses, valueFits}
+use Rattle.tables.specs.Values.{mostLevels, constantTag, Value, Constant, Column, comparisonOf, MarkTest, Null, NotNull, IsDeclined, NotDeclined, Env, cellOf, markPasses, valueFits}
 use Rattle.tables.proofs.Values.{comparison-back}
 use Rattle.cells.specs.Code.{seenCell}
 use Rattle.cells.specs.declared.Seen.{Seen}
@@ -17,14 +18,16 @@ use Rattle.values.specs.Code.{heldAt, valueIn, Readable, ValueReady, Sees}
 use Rattle.rule.specs.Condition.{Test, Compare, Mark, Atom, Rule}
 use Rattle.rule.specs.Names.{ValueFits, TestFits}
 use Rattle.rule.specs.Parts.{compareKind, markKind, kindNumber, kindOf, taggedOf, AtomHead, partOf}
-use Rattle.rule.specs.Groups.{TestNumber}
+use Rattle.rule.specs.Groups.{MarkNumber, TestNumber}
 use Rattle.names.specs.Code.{partSize, partComparison, partLeft, partRight}
 use Rattle.rule.specs.Truth.{truth, truthNumber}
 use Rattle.rule.specs.Meaning.{compare3, test3}
 use Rattle.scopes.specs.Code.{heldOf}
 use Rattle.parts.specs.Parts.{Stands}
 use Rattle.rule.proofs.Fits.{value-tested}
+use Rattle.rule.proofs.Groups.{some-mark}
 use Rattle.cells.proofs.Signed.{from-to}
+use Rattle.values.proofs.Numbers.{seen-blank, seen-declined}
 use Rattle.parts.proofs.Parts.{kind-stands, IsCompare, is-compare, is-mark, part-comparison, part-left, part-right}
 use Rattle.evaluator.specs.Code.{TestReady}
 
@@ -50,6 +53,38 @@ module _ {g file w levels : List ℕ} {env : Env} (readable : Readable g file w 
   pub value-seen : (x : Seen) → Sees g file w u x → seenCell x ≡ cellOf env v
   unfolding value-ready
   value-seen x sees = sees value-ready ∙ ap (cellOf env) value-is
+
+-- ---- a cell's mark
+
+as-asked : (b : Bool) → (Bool·beq b true ≡ b) × (Bool·beq b false ≡ not b)
+as-asked true = (refl, refl)
+as-asked false = (refl, refl)
+
+-- a test by the mark from what is seen of a cell; the kinds of these tests stand in two ranges
+module _ {kind : ℕ} where
+  pub no-mark : (kind < markKind Null) ⊎ (((markKind NotNull < kind) × (kind < markKind IsDeclined)) ⊎ (markKind NotDeclined < kind)) → MarkNumber kind → ⊥
+  no-mark (inl l) m = some-mark m (λ e. omega arith) (λ e. omega arith) (λ e. omega arith) (λ e. omega arith)
+  no-mark (inr (inl (l, h))) m = some-mark m (λ e. omega arith) (λ e. omega arith) (λ e. omega arith) (λ e. omega arith)
+  no-mark (inr (inr l)) m = some-mark m (λ e. omega arith) (λ e. omega arith) (λ e. omega arith) (λ e. omega arith)
+
+  module _ (m : MarkTest) (is : kind ≡ markKind m) (x : Seen) where
+    pub blank-told : kind ≤ markKind NotNull → Bool·beq (not (eqb (x .mark) 0)) (eqb kind (markKind Null)) ≡ markPasses m (seenCell x)
+    blank-told h = go m is
+      where
+        go : (m : MarkTest) → kind ≡ markKind m → Bool·beq (not (eqb (x .mark) 0)) (eqb kind (markKind Null)) ≡ markPasses m (seenCell x)
+        go Null e = rw (e) (as-asked (not (eqb (x .mark) 0)) .0 ∙ seen-blank x)
+        go NotNull e = rw (e) (as-asked (not (eqb (x .mark) 0)) .1 ∙ ap not (seen-blank x))
+        go IsDeclined e = absurd (omega arith)
+        go NotDeclined e = absurd (omega arith)
+
+    pub declined-told : markKind IsDeclined ≤ kind → Bool·beq (leb 2 (x .mark)) (eqb kind (markKind IsDeclined)) ≡ markPasses m (seenCell x)
+    declined-told h = go m is
+      where
+        go : (m : MarkTest) → kind ≡ markKind m → Bool·beq (leb 2 (x .mark)) (eqb kind (markKind IsDeclined)) ≡ markPasses m (seenCell x)
+        go Null e = absurd (omega arith)
+        go NotNull e = absurd (omega arith)
+        go IsDeclined e = rw (e) (as-asked (leb 2 (x .mark)) .0 ∙ seen-declined x)
+        go NotDeclined e = rw (e) (as-asked (leb 2 (x .mark)) .1 ∙ ap not (seen-declined x))
 
 -- ---- a test
 

@@ -14,7 +14,9 @@ ghost use Rattle.rule.specs.Parts.{existsKind};
 ghost use Rattle.rule.specs.Groups.{UnaryNumber};
 ghost use Rattle.names.specs.Code.{partSize};
 ghost use Rattle.evaluator.specs.Code.{UnaryValued, unlessUnknown, TestReady, TestEvaluated, Evaluable, Evaluates, Decides, RowReady, RowEvaluated, OverNone};
+use cells::DECLINED_MARK;
 use cells::PLACES;
+use cells::PRESENT_MARK;
 use cells::Seen;
 use names::PART_COMPARISON;
 use names::PART_END;
@@ -27,6 +29,7 @@ use parts::part_value;
 use rule::ALL_PART;
 use rule::AND_PART;
 use rule::COMPARISON_PART;
+use rule::DECLINED_PART;
 use rule::EXISTS_PART;
 use rule::IS_FALSE_PART;
 use rule::IS_NOT_FALSE_PART;
@@ -34,6 +37,7 @@ use rule::IS_NOT_TRUE_PART;
 use rule::IS_NOT_UNKNOWN_PART;
 use rule::IS_TRUE_PART;
 use rule::IS_UNKNOWN_PART;
+use rule::NOT_DECLINED_PART;
 use rule::NOT_NULL_PART;
 use rule::NOT_PART;
 use rule::NULL_PART;
@@ -84,18 +88,19 @@ fn opposite(a: usize) -> usize
     TRUE - a
 }
 
-// A comparison of two cells: unknown where one of them is blank.
+// A comparison of two cells: unknown where one of them is blank or declined.
 fn compare(op: usize, x: Seen, y: Seen) -> usize
     ensures { λ r. ⌜ r ≡ truthNumber (compare3 (comparisonOf op) (seenCell x) (seenCell y)) ⌝ }
 {
     let holds = values::numbers_hold(op, x.number, y.number);
-    if x.blank | y.blank {
+    if (x.mark != PRESENT_MARK) | (y.mark != PRESENT_MARK) {
         return UNKNOWN;
     }
     truth_of(holds)
 }
 
-// A comparison, IS NULL or IS NOT NULL.
+// A comparison or a test by the mark: a declined cell is blank too, so that IS NULL holds of every cell that is not present. A test and its negation share an arm: with an
+// arm for each kind the compiler jumped by a table, and JUDGE of a WHERE with IS NULL in it took a fourth longer.
 fn evaluate_test(
     p: &[usize; PART_NUMBERS],
     g: &[usize; PLACES],
@@ -113,8 +118,10 @@ fn evaluate_test(
             let y = values::look(g, file, w, part_value(p, s, PART_RIGHT));
             compare(p[PART_FIELDS * s + PART_COMPARISON], x, y)
         }
-        NULL_PART => truth_of(x.blank),
-        NOT_NULL_PART => truth_of(!x.blank),
+        NULL_PART | NOT_NULL_PART => truth_of((x.mark != PRESENT_MARK) == (kind == NULL_PART)),
+        DECLINED_PART | NOT_DECLINED_PART => {
+            truth_of((DECLINED_MARK <= x.mark) == (kind == DECLINED_PART))
+        }
         _ => {
             cells::never();
             FALSE
@@ -162,7 +169,9 @@ pub fn evaluate_part(
             let inner = evaluate_part(p, g, file, s + 1, w, depth);
             unary_value(kind, inner)
         }
-        COMPARISON_PART | NULL_PART | NOT_NULL_PART => evaluate_test(p, g, file, s, w),
+        COMPARISON_PART | NULL_PART | NOT_NULL_PART | DECLINED_PART | NOT_DECLINED_PART => {
+            evaluate_test(p, g, file, s, w)
+        }
         EXISTS_PART => evaluate_exists(p, g, file, s, w, depth),
         SOME_PART => evaluate_list(p, g, file, s, w, depth, FALSE),
         ALL_PART => evaluate_list(p, g, file, s, w, depth, TRUE),
@@ -222,7 +231,9 @@ fn evaluate_where(
 {
     let kind = p[PART_FIELDS * s];
     match kind {
-        COMPARISON_PART | NULL_PART | NOT_NULL_PART => evaluate_test(p, g, file, s, v),
+        COMPARISON_PART | NULL_PART | NOT_NULL_PART | DECLINED_PART | NOT_DECLINED_PART => {
+            evaluate_test(p, g, file, s, v)
+        }
         _ => evaluate_part(p, g, file, s, v, depth),
     }
 }

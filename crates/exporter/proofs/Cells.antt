@@ -1,14 +1,14 @@
 -- A cell of table 1, seen through the window on it, and its field.
-use mathlib.Core.Path.{_≡_, sym, ap, _∙_}
-use mathlib.Core.Bool.{true, false}
+use mathlib.Core.Path.{_≡_, refl, sym, ap, _∙_}
 use mathlib.Core.List.{List, []}
-use Prim.Native.Nat.{ℕ, _<_, _≤_}
+use Prim.Native.Nat.{ℕ, zero, suc, _<_, _≤_}
 use native.Mathlib.Omega.{arith}
+use lib.IntN.{ℤ}
 use lib.ListN.{length, getD}
 use Rattle.tables.specs.Bytes.{signed}
-use Rattle.tables.specs.Tables.{mostColumns, Blank, sizeAt}
+use Rattle.tables.specs.Tables.{mostColumns, Blank, Declined, cellMarked, sizeAt}
 use Rattle.numerals.specs.Numerals.{numeral}
-use Rattle.lines.specs.Lines.{fieldText}
+use Rattle.lines.specs.Lines.{declinedField, fieldText}
 use Rattle.lines.proofs.Written.{rows-count, row-count}
 use Rattle.cells.specs.Code.{words32, fromExcess, Sized, seenCell}
 use Rattle.cells.specs.declared.Seen.{Seen}
@@ -21,14 +21,24 @@ use Rattle.exporter.specs.Code.{FirstTableAt, firstRows, firstRow}
 
 -- ---- the field of what is seen
 
-module _ (x : Seen) where
-  pub blank-field : x .blank ≡ true → fieldText (seenCell x) ≡ []
-  unfolding fieldText
-  blank-field e = rw e
+-- a mark that is neither 0 nor 1
+marked-declined : (mark : ℕ) (k : ℤ) → (mark ≡ 0 → ⊥) → (mark ≡ 1 → ⊥) → cellMarked mark k ≡ Declined
+marked-declined zero k f g = absurd (f refl)
+marked-declined (suc zero) k f g = absurd (g refl)
+marked-declined (suc (suc mark)) k f g = refl
 
-  pub number-field : x .blank ≡ false → fieldText (seenCell x) ≡ numeral (fromExcess (x .number))
+module _ (x : Seen) where
+  pub number-field : x .mark ≡ 0 → fieldText (seenCell x) ≡ numeral (fromExcess (x .number))
   unfolding fieldText
-  number-field e = rw e
+  number-field e = ap (λ (mark : ℕ). fieldText (cellMarked mark (fromExcess (x .number)))) e
+
+  pub blank-field : x .mark ≡ 1 → fieldText (seenCell x) ≡ []
+  unfolding fieldText
+  blank-field e = ap (λ (mark : ℕ). fieldText (cellMarked mark (fromExcess (x .number)))) e
+
+  pub declined-field : (x .mark ≡ 0 → ⊥) → (x .mark ≡ 1 → ⊥) → fieldText (seenCell x) ≡ declinedField
+  unfolding fieldText
+  declined-field f g = ap fieldText (marked-declined (x .mark) (fromExcess (x .number)) f g)
 
 -- ---- table 1
 

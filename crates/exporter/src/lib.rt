@@ -12,8 +12,10 @@ ghost use Rattle.cells.specs.Code.{words32, seenCell};
 ghost use Rattle.lines.specs.Lines.{fieldText, lineText, linesText};
 ghost use Rattle.lines.specs.Calls.{exportCall};
 ghost use Rattle.exporter.specs.Code.{FirstTableAt, firstRows, firstRow};
+use cells::BLANK_MARK;
 use cells::Made;
 use cells::PLACES;
+use cells::PRESENT_MARK;
 use cells::Place;
 use cells::Reason;
 use cells::Seen;
@@ -22,27 +24,34 @@ use cells::Validity;
 // The most bytes that a cell takes: a minus, ten digits, and a comma or LF.
 const CELL_BYTES: usize = 12;
 
-// How many bytes the field of a cell takes: none if it is blank.
+// How many bytes the field of a cell takes: those of its number, none if it is blank, and one if it is declined.
 fn field_length(x: Seen) -> usize
     requires { ⌜ x .number < words32 ⌝ }
     ensures { λ r. ⌜ r ≡ length (fieldText (seenCell x)) ⌝ }
 {
-    if x.blank {
+    if x.mark == PRESENT_MARK {
+        return digits::numeral_length(x.number);
+    }
+    if x.mark == BLANK_MARK {
         return 0;
     }
-    digits::numeral_length(x.number)
+    1
 }
 
-// The field of a cell, from place i on; the next place.
+// The field of a cell, from place i on: its number, nothing if it is blank, and a `!` if it is declined; the next place.
 fn put_field(out: &mut [u8], i: usize, x: Seen) -> usize
     requires { ⌜ x .number < words32 ⌝ ∗ ⌜ i + length (fieldText (seenCell x)) ≤ length (now out) ⌝ }
     ensures written { λ r. ⌜ now (out .exit) ≡ placed (now (out .entry)) i (fieldText (seenCell x)) ⌝ }
     ensures next { λ r. ⌜ r ≡ i + length (fieldText (seenCell x)) ⌝ }
 {
-    if x.blank {
+    if x.mark == PRESENT_MARK {
+        return digits::put_numeral(out, i, x.number);
+    }
+    if x.mark == BLANK_MARK {
         return i;
     }
-    digits::put_numeral(out, i, x.number)
+    out[i] = b'!';
+    i + 1
 }
 
 // How many bytes the line of a row takes: each field, and the comma or LF behind it.

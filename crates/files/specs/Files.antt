@@ -10,7 +10,7 @@ use Rattle.tables.specs.Lists.{tabulate, all, placed, total}
 use Rattle.tables.specs.Bytes.{between, bytes16, bytes32}
 use Rattle.tables.specs.Tables.{mostTables, mostCells, highestMark, Size, cellsIn, cellCount, valueBits, markOf, sizeFits, Cell, cellFrom, Table, Tables}
 
--- a cell as it stands in a file: the 32 bits of its value, and its mark; the bits of a blank cell are kept
+-- a cell as it stands in a file: the 32 bits of its value, and its mark; the bits of a blank or declined cell are kept
 pub record RawCell : Type 0 where
   pub bits : ℕ
   pub mark : ℕ

@@ -11,23 +11,23 @@ use lib.IntN.{ℤ, pos}
 use lib.ListN.{length, take, drop, getD, length-append, take-append-drop}
 use lib.Seq.{length-take-le, drop-append-seam, drop-append-add, drop-drop}
 use Rattle.tables.specs.Lists.{only}
-use Rattle.tables.specs.Tables.{Cell, Present, Row}
+use Rattle.tables.specs.Tables.{Cell, Blank, Declined, Present, Row}
 use Rattle.numerals.specs.Numerals.{isDigit, minus, numberOf, firstNumber}
 use Rattle.numerals.specs.Claims.{isNumeralByte}
 use Rattle.numerals.proofs.Runs.{run-nil}
 use Rattle.numerals.proofs.Reading.{first-other, first-told, first-whole, number-ends-claim, exactly}
-use Rattle.lines.specs.Lines.{comma, lineFeed, carriageReturn}
-use Rattle.lines.specs.Grammar.{IsField, number, empty, IsLine, one-field, more-fields, IsLineEnd, lf, crlf}
-use Rattle.lines.proofs.Grammar.{field-first}
-use Rattle.importer.specs.Code.{numberCell, fieldFrom, feedFrom, endFrom, commaFrom, behindFrom, lineFrom}
+use Rattle.lines.specs.Lines.{comma, lineFeed, carriageReturn, exclamation}
+use Rattle.lines.specs.Grammar.{IsField, number, empty, declined, IsLine, one-field, more-fields, IsLineEnd, lf, crlf}
+use Rattle.lines.proofs.Grammar.{field-first, isFieldByte, no-field-byte}
+use Rattle.importer.specs.Code.{loneCell, otherCell, numberCell, fieldFrom, feedFrom, endFrom, commaFrom, behindFrom, lineFrom}
 use Rattle.importer.proofs.Behind.{end-feed, end-return, feed-there}
 use Rattle.importer.proofs.Reading.{continued, line-step, line-bad}
 
 -- ---- what may stand behind a field
 
--- a text begins with no byte of a number; an empty one does not
+-- a text begins with no byte of a field; an empty one does not
 abbrev pub Parted : List ℕ → Type 0
-Parted text = isNumeralByte (getD text 0 0) ≡ false
+Parted text = isFieldByte (getD text 0 0) ≡ false
 
 -- the end of a line and what stands behind it: nothing behind the last line without an end
 pub data Closes : List ℕ → List ℕ → Type 0 where
@@ -60,11 +60,11 @@ end-told (b ∷ bs) n e = go (eqb b lineFeed) refl (eqb b carriageReturn) refl e
     go true h u g f =
         let z : n ≡ 1 = cc in
         let is = eqb-true b lineFeed h in
-        record { end = lineFeed ∷ []; rest = bs; is = ap (λ (x : ℕ). x ∷ bs) is; size = z; closes = by-end lf; parted = ap isNumeralByte is }
+        record { end = lineFeed ∷ []; rest = bs; is = ap (λ (x : ℕ). x ∷ bs) is; size = z; closes = by-end lf; parted = ap isFieldByte is }
     go false h true g f =
         let (rest, next, z) = feed-told bs n f in
         let is = eqb-true b carriageReturn g in
-        record { end = carriageReturn ∷ lineFeed ∷ []; rest = rest; is = ap₂ _∷_ is next; size = z; closes = by-end crlf; parted = ap isNumeralByte is }
+        record { end = carriageReturn ∷ lineFeed ∷ []; rest = rest; is = ap₂ _∷_ is next; size = z; closes = by-end crlf; parted = ap isFieldByte is }
     go false h false g f = let z : _≡_ {A = ℕ} 0 1 = cc in absurd (omega arith)
 
 comma-told : (text : List ℕ) (n : ℕ) → commaFrom text ≡ some n → (text ≡ comma ∷ drop 1 text) × (n ≡ 1) × Parted text
@@ -73,7 +73,7 @@ comma-told [] n e = let z : _≡_ {A = ℕ} 0 1 = cc in absurd (omega arith)
 comma-told (b ∷ bs) n e = go (eqb b comma) refl e
   where
     go : (t : Bool) → eqb b comma ≡ t → only t 1 ≡ some n → (b ∷ bs ≡ comma ∷ bs) × (n ≡ 1) × Parted (b ∷ bs)
-    go true h f = let z : n ≡ 1 = cc in let is = eqb-true b comma h in (ap (λ (x : ℕ). x ∷ bs) is, z, ap isNumeralByte is)
+    go true h f = let z : n ≡ 1 = cc in let is = eqb-true b comma h in (ap (λ (x : ℕ). x ∷ bs) is, z, ap isFieldByte is)
     go false h f = let z : _≡_ {A = ℕ} 0 1 = cc in absurd (omega arith)
 
 -- and the other way round
@@ -95,7 +95,7 @@ no-digit b e = go (isDigit b) (eqb b minus) e
 no-minus : (b : ℕ) → isNumeralByte b ≡ false → b ≡ minus → ⊥
 no-minus b e h = let z : true ≡ false = sym (ap isNumeralByte h) ∙ e in let y : _≡_ {A = ℕ} 0 1 = cc in absurd (omega arith)
 
--- what stands before a byte that is none of a number's is a field, if a line goes on there
+-- what stands before a byte that is none of a field's is a field, if a line goes on there
 pub field-sound : (text : List ℕ) → Parted (drop (fieldFrom text .1) text) → IsField (take (fieldFrom text .1) text) (fieldFrom text .0)
 unfolding fieldFrom
 field-sound text h = go (firstNumber text) refl h
@@ -105,23 +105,37 @@ field-sound text h = go (firstNumber text) refl h
     whole (b ∷ bs) rest k n d f l s =
         number (exactly (b ∷ bs) k .0 (first-whole (b ∷ bs) k (sym (number-ends-claim b bs rest d) ∙ f ∙ ap (λ (m : ℕ). some (k, m)) l)))
 
-    go : (o : Option (ℤ × ℕ)) → firstNumber text ≡ o → Parted (drop (numberCell o .1) text) → IsField (take (numberCell o .1) text) (numberCell o .0)
-    go none e p = empty
+    other : (t : List ℕ) → IsField (take (otherCell t .1) t) (otherCell t .0)
+    other [] = empty
+    other (b ∷ bs) = lone (eqb b exclamation) refl
+      where
+        lone : (u : Bool) → eqb b exclamation ≡ u → IsField (take (loneCell u .1) (b ∷ bs)) (loneCell u .0)
+        lone true f = subst (λ (c : ℕ). IsField (c ∷ []) Declined) (sym (eqb-true b exclamation f)) declined
+        lone false f = empty
+
+    go : (o : Option (ℤ × ℕ)) → firstNumber text ≡ o → Parted (drop (numberCell (otherCell text) o .1) text)
+        → IsField (take (numberCell (otherCell text) o .1) text) (numberCell (otherCell text) o .0)
+    go none e p = other text
     go (some x) e p =
         let told = first-told text (x .0) (x .1) e in
-        whole (take (x .1) text) (drop (x .1) text) (x .0) (x .1) (no-digit (getD (drop (x .1) text) 0 0) p) (ap firstNumber (take-append-drop (x .1) text) ∙ e)
+        whole (take (x .1) text) (drop (x .1) text) (x .0) (x .1) (no-digit (getD (drop (x .1) text) 0 0) (no-field-byte (getD (drop (x .1) text) 0 0) p .0)) (ap firstNumber (take-append-drop (x .1) text) ∙ e)
         (sym (length-take-le (x .1) text (told .within))) (told .some-byte)
 
-first-missing : (text : List ℕ) → Parted text → firstNumber text ≡ none
+first-missing : (text : List ℕ) → isNumeralByte (getD text 0 0) ≡ false → firstNumber text ≡ none
 unfolding firstNumber numberOf
 first-missing [] p = refl
 first-missing (b ∷ bs) p = first-other b bs (no-minus b p) ∙ ap (numberOf pos 0) (run-nil isDigit b bs (no-digit b p))
 
+other-missing : (text : List ℕ) → Parted text → otherCell text ≡ (Blank, 0)
+other-missing [] p = refl
+other-missing (b ∷ bs) p = rw (no-field-byte b p .1)
+
 -- and each field before such a byte is found
 pub field-complete : (t rest : List ℕ) (x : Cell) → IsField t x → Parted rest → fieldFrom (t ++ rest) ≡ (x, length t)
 unfolding fieldFrom
-field-complete t rest x empty p = ap numberCell (first-missing rest p)
-field-complete t rest x (number {k = k} n) p = ap numberCell (field-first t rest k (number n) (no-digit (getD rest 0 0) p))
+field-complete t rest x empty p = ap₂ numberCell (other-missing rest p) (first-missing rest (no-field-byte (getD rest 0 0) p .0))
+field-complete t rest x declined p = ap (numberCell (otherCell (exclamation ∷ rest))) (first-missing (exclamation ∷ rest) refl)
+field-complete t rest x (number {k = k} n) p = ap (numberCell (otherCell (t ++ rest))) (field-first t rest k (number n) (no-digit (getD rest 0 0) (no-field-byte (getD rest 0 0) p .0)))
 
 -- ---- a line
 
@@ -157,8 +171,16 @@ module _ (text : List ℕ) where
   unfolding fieldFrom
   field-within = go (firstNumber text) refl
     where
-      go : (o : Option (ℤ × ℕ)) → firstNumber text ≡ o → numberCell o .1 ≤ length text
-      go none e = omega arith
+      other : (t : List ℕ) → otherCell t .1 ≤ length t
+      other [] = omega arith
+      other (b ∷ bs) = lone (eqb b exclamation)
+        where
+          lone : (u : Bool) → loneCell u .1 ≤ length (b ∷ bs)
+          lone true = omega arith
+          lone false = omega arith
+
+      go : (o : Option (ℤ × ℕ)) → firstNumber text ≡ o → numberCell (otherCell text) o .1 ≤ length text
+      go none e = other text
       go (some x) e = first-told text (x .0) (x .1) e .within
 
   field-length : length (take m text) ≡ m

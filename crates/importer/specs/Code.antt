@@ -1,7 +1,7 @@
 -- What the functions of src/ promise one another: a line read from the left, where the number of its fields is known, and the cells that are kept. The
 -- contract of IMPORT cites nothing of this file.
 use mathlib.Core.Path.{_≡_}
-use mathlib.Core.Bool.{cond}
+use mathlib.Core.Bool.{Bool, true, false, cond}
 use mathlib.Core.List.{List, [], _∷_, _++_, map, flatMap}
 use mathlib.Core.Option.{Option, none, some}
 use Prim.Native.Nat.{ℕ, zero, suc, _+_, _*_, _<_, _≤_}
@@ -9,11 +9,11 @@ use lib.Dec.{eqb}
 use lib.IntN.{ℤ}
 use lib.ListN.{length, take, drop}
 use Rattle.tables.specs.Lists.{_>>=_, only}
-use Rattle.tables.specs.Tables.{mostRows, mostCells, Cell, Blank, Present, Row, Table}
+use Rattle.tables.specs.Tables.{mostRows, mostCells, Cell, Blank, Declined, Present, Row, Table}
 use Rattle.cells.specs.Code.{words32}
 use Rattle.files.specs.Files.{RawCell, rawCell, valueBytes, markBytes}
 use Rattle.numerals.specs.Numerals.{firstNumber}
-use Rattle.lines.specs.Lines.{comma, lineFeed, carriageReturn, tableRead}
+use Rattle.lines.specs.Lines.{comma, lineFeed, carriageReturn, exclamation, tableRead}
 use Rattle.lines.specs.Calls.{storedCell, fieldsCounted}
 use Rattle.importer.specs.declared.Field.{Field}
 use Rattle.importer.specs.declared.After.{After}
@@ -23,13 +23,23 @@ use Rattle.importer.specs.declared.Rows.the-variants.{Read, Unread}
 
 -- ---- one field
 
--- the cell of the number that a text begins with, and how many bytes it takes; a blank cell of no bytes where it begins with none
-abbrev pub numberCell : Option (ℤ × ℕ) → Cell × ℕ
-numberCell none = (Blank, 0)
-numberCell (some x) = (Present (x .0), x .1)
+-- a declined cell of one byte where a `!` stands, else a blank cell of no bytes
+abbrev pub loneCell : Bool → Cell × ℕ
+loneCell true = (Declined, 1)
+loneCell false = (Blank, 0)
+
+-- the cell of a text that begins with no number, and how many bytes it takes
+abbrev pub otherCell : List ℕ → Cell × ℕ
+otherCell [] = (Blank, 0)
+otherCell (b ∷ bs) = loneCell (eqb b exclamation)
+
+-- the cell of the number that a text begins with, and how many bytes it takes; the other cell where it begins with none
+abbrev pub numberCell : Cell × ℕ → Option (ℤ × ℕ) → Cell × ℕ
+numberCell other none = other
+numberCell other (some x) = (Present (x .0), x .1)
 
 unfoldable pub fieldFrom : List ℕ → Cell × ℕ
-fieldFrom text = numberCell (firstNumber text)
+fieldFrom text = numberCell (otherCell text) (firstNumber text)
 
 -- the field at place i: its cell as it is stored, and the place behind it, which is in the text
 pub record FieldAt (text : List ℕ) (i : ℕ) (f : Field) : Type 0 where
@@ -37,7 +47,6 @@ pub record FieldAt (text : List ℕ) (i : ℕ) (f : Field) : Type 0 where
   pub ends : f .end ≡ i + fieldFrom (drop i text) .1
   pub inside : f .end ≤ length text
   pub bits-small : f .bits < words32
-  pub mark-small : f .mark < 256
 
 -- ---- what stands behind a field
 

@@ -3,6 +3,7 @@
 // arrays, values and marks, and they are copied to the lent buffer when they are known to fit it.
 ghost use mathlib.Core.Path.{_≡_};
 ghost use mathlib.Core.List.{_∷_, [], _++_};
+ghost use mathlib.Core.Option.{none};
 ghost use Prim.Native.Nat.{_+_, _*_, _<_, _≤_};
 ghost use lib.ListN.{length, take, drop};
 ghost use Rattle.tables.specs.Lists.{placed};
@@ -10,13 +11,17 @@ ghost use Rattle.tables.specs.Tables.{mostColumns, mostRows};
 ghost use Rattle.cells.specs.Reasons.{madeAnswer};
 ghost use Rattle.cells.specs.Code.{words32};
 ghost use Rattle.files.specs.Files.{rawCell, sizeOf, sizesPart};
+ghost use Rattle.numerals.specs.Numerals.{firstNumber};
 ghost use Rattle.lines.specs.Calls.{importCall};
 ghost use Rattle.importer.specs.Code.{FieldAt, behindFrom, placeAfter, Room, MoreKept, LineKept, TableKept, Few};
+use cells::BLANK_MARK;
+use cells::DECLINED_MARK;
 use cells::EXCESS;
 use cells::MOST_CELLS;
 use cells::MOST_COLUMNS;
 use cells::MOST_ROWS;
 use cells::Made;
+use cells::PRESENT_MARK;
 use cells::Reason;
 use cells::byte;
 use digits::Found;
@@ -29,11 +34,33 @@ const SHORT: usize = 1023;
 // A field: the bits of its cell's value, the mark, and the place behind the field.
 struct Field {
     bits: usize,
-    mark: usize,
+    mark: u8,
     end: usize,
 }
 
-// The field from place i on: a number, or else nothing. Behind the nothing that is found in place of a bad field stands no comma and no line end.
+// The field from place i on, where no number stands: a `!`, or else nothing.
+fn other_field(text: &[u8], i: usize) -> Field
+    requires { ⌜ i ≤ length (now text) ⌝ ∗ ⌜ firstNumber (drop i (now text)) ≡ none ⌝ }
+    ensures { λ r. ⌜ FieldAt (now (text .entry)) i r ⌝ }
+{
+    if i < text.len() {
+        if byte(text, i) == 33 {
+            return Field {
+                bits: 0,
+                mark: DECLINED_MARK,
+                end: i + 1,
+            };
+        }
+    }
+    Field {
+        bits: 0,
+        mark: BLANK_MARK,
+        end: i,
+    }
+}
+
+// The field from place i on: a number, which is looked for first, or a `!`, or else nothing. Behind a `!` that is not alone, and behind the nothing that is
+// found in place of another bad field, stands no comma and no line end.
 fn field_at(text: &[u8], i: usize) -> Field
     requires { ⌜ i ≤ length (now text) ⌝ }
     ensures { λ r. ⌜ FieldAt (now (text .entry)) i r ⌝ }
@@ -42,14 +69,10 @@ fn field_at(text: &[u8], i: usize) -> Field
     match found {
         Found::Number { number, end } => Field {
             bits: (number + EXCESS) % 4294967296,
-            mark: 0,
+            mark: PRESENT_MARK,
             end,
         },
-        Found::NoNumber => Field {
-            bits: 0,
-            mark: 1,
-            end: i,
-        },
+        Found::NoNumber => other_field(text, i),
     }
 }
 
@@ -101,13 +124,13 @@ fn after_field(text: &[u8], i: usize, left: usize) -> After
 }
 
 // Keeps a cell as number k, if there is room.
-fn keep_cell(values: &mut [u8], marks: &mut [u8], k: usize, bits: usize, mark: usize)
-    requires { ⌜ Room (now values) (now marks) ⌝ ∗ ⌜ bits < words32 ⌝ ∗ ⌜ mark < 256 ⌝ }
+fn keep_cell(values: &mut [u8], marks: &mut [u8], k: usize, bits: usize, mark: u8)
+    requires { ⌜ Room (now values) (now marks) ⌝ ∗ ⌜ bits < words32 ⌝ }
     ensures { λ _. ⌜ MoreKept (now (values .entry)) (now (marks .entry)) k (rawCell bits mark ∷ []) (now (values .exit)) (now (marks .exit)) ⌝ }
 {
     if k < marks.len() {
         storing::put32(values, 4 * k, bits);
-        marks[k] = mark as u8;
+        marks[k] = mark;
     }
 }
 

@@ -15,10 +15,10 @@ other a run f = ne-eqb a run (λ z. f (sym z))
 pub no-word : (run : ℕ)
     → (run ≡ 4279876 → ⊥) → (run ≡ 20306 → ⊥) → (run ≡ 5132116 → ⊥) → (run ≡ 76245489636435 → ⊥) → (run ≡ 18766 → ⊥) → (run ≡ 1397706053 → ⊥)
     → (run ≡ 4279372 → ⊥) → (run ≡ 18771 → ⊥) → (run ≡ 1314212940 → ⊥) → (run ≡ 91557097456468 → ⊥) → (run ≡ 1179799373 → ⊥) → (run ≡ 374874657349 → ⊥)
-    → (run ≡ 1414681925 → ⊥) → (run ≡ 301743231813 → ⊥) → (run ≡ 24011458363742030 → ⊥)
+    → (run ≡ 1414681925 → ⊥) → (run ≡ 301743231813 → ⊥) → (run ≡ 24011458363742030 → ⊥) → (run ≡ 4919412162898576708 → ⊥)
     → 0 ≡ wordCode words run
 unfolding wordCode words bytes
-no-word run f1 f2 f3 f4 f5 f6 f7 f8 f9 f10 f11 f12 f13 f14 f15 =
+no-word run f1 f2 f3 f4 f5 f6 f7 f8 f9 f10 f11 f12 f13 f14 f15 f16 =
     rw (
       other 4279876 run f1,
       other 20306 run f2,
@@ -35,4 +35,5 @@ no-word run f1 f2 f3 f4 f5 f6 f7 f8 f9 f10 f11 f12 f13 f14 f15 =
       other 1414681925 run f13,
       other 301743231813 run f14,
       other 24011458363742030 run f15,
+      other 4919412162898576708 run f16,
     )

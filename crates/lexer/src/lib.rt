@@ -64,6 +64,8 @@ pub const FALSE: usize = 17;
 
 pub const UNKNOWN: usize = 18;
 
+pub const DECLINED: usize = 19;
+
 pub const COMPARES: usize = 64;
 
 pub const NUMBER: usize = 256;
@@ -123,6 +125,7 @@ fn long_word(spelled: usize) -> usize
         0x54525545 => TRUE,
         0x46414C5345 => FALSE,
         0x554E4B4E4F574E => UNKNOWN,
+        0x4445434C494E4544 => DECLINED,
         _ => 0,
     }
 }

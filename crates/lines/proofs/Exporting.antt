@@ -1,6 +1,6 @@
 -- EXPORT: the lines that it writes are those of table 1, by the productions; and what IMPORT makes of them.
 use mathlib.Core.Path.{_≡_, refl, sym, ap, ap₂, _∙_}
-use mathlib.Core.Bool.{Bool, true, _&&_}
+use mathlib.Core.Bool.{Bool, true, false, _&&_, _||_}
 use mathlib.Core.List.{List, [], _∷_, _++_, map, flatMap, append-assoc}
 use Prim.Native.Nat.{ℕ, zero, suc, _+_, _*_, _<_, _≤_}
 use native.Mathlib.Nat.{suc-mul}
@@ -9,9 +9,9 @@ use borrow.Author.Tests.{leb-true, le-leb, eq-eqb, eqb-true}
 use lib.Dec.{leb, eqb}
 use lib.ListN.{length, take, drop, length-drop, length-map}
 use lib.Seq.{length-take-le, take-add}
-use Rattle.tables.specs.Lists.{tabulate, all, isThereOne}
+use Rattle.tables.specs.Lists.{tabulate, all, isThereOne, same}
 use Rattle.tables.specs.Bytes.{between}
-use Rattle.tables.specs.Tables.{mostTables, mostColumns, mostRows, mostCells, highestMark, Size, tableCount, sizeAt, sizes, cellsIn, sizeFits as tableFits, Cell, Blank, Present, cellFrom, Row, Table, Tables, tablesOf, rowsOf}
+use Rattle.tables.specs.Tables.{mostTables, mostColumns, mostRows, mostCells, highestMark, Size, tableCount, sizeAt, sizes, cellsIn, sizeFits as tableFits, Cell, Blank, Declined, Present, cellFrom, Row, Table, Tables, tablesOf, rowsOf}
 use Rattle.tables.specs.Refusals.{Refusal, firstApplying, Given, tablesRefusals, lend}
 use Rattle.tables.proofs.Tests.{is-true, is-so, bounds, between-yes}
 use Rattle.tables.proofs.Bytes.{in-range}
@@ -27,8 +27,8 @@ use Rattle.files.proofs.Valid.{validity-claim}
 use Rattle.files.proofs.Cut.{cut-claim}
 use Rattle.numerals.specs.Numerals.{numeral, isPlain}
 use Rattle.numerals.proofs.Numerals.{numerals-claim}
-use Rattle.lines.specs.Lines.{comma, lineFeed, carriageReturn, joined, fieldsOf, linesOf, fieldText, lineText, linesText}
-use Rattle.lines.specs.Grammar.{IsField, number, empty, IsLine, one-field, more-fields, lf, IsLines, no-line, ended-line}
+use Rattle.lines.specs.Lines.{comma, lineFeed, carriageReturn, declinedField, joined, fieldsOf, linesOf, fieldText, lineText, linesText}
+use Rattle.lines.specs.Grammar.{IsField, number, empty, declined, IsLine, one-field, more-fields, lf, IsLines, no-line, ended-line}
 use Rattle.lines.specs.Calls.{fieldsCounted, countsFit, importRefusals, storedCell, tableFile, importedFile, importCall, exportedLines, exportCall}
 use Rattle.lines.specs.Claims.{TableLines, Valid, fieldPlain, blankCleared, firstTableFile, RoundTripClaim, ExportClaim}
 use Rattle.lines.proofs.Split.{lacks, lacks-append, split-whole, split-next}
@@ -42,6 +42,7 @@ use Rattle.lines.proofs.Importing.{file-is, none-left, table-held}
 field-written : (x : Cell) → cellFits x ≡ true → IsField (fieldText x) x
 unfolding fieldText
 field-written Blank e = empty
+field-written Declined e = declined
 field-written (Present k) e = number (numerals-claim .exactly (numeral k) k .0 (numerals-claim .written-then-read k e))
 
 pub line-written : (x : Cell) (xs : Row) → all cellFits (x ∷ xs) ≡ true → IsLine (joined comma (map fieldText (x ∷ xs))) (x ∷ xs)
@@ -65,11 +66,16 @@ lines-written ((x ∷ xs) ∷ rows) e f =
 plain-field : (x : Cell) → cellFits x ≡ true → fieldPlain (fieldText x) ≡ true
 unfolding fieldText
 plain-field Blank e = refl
+plain-field Declined e = refl
 plain-field (Present k) e = go (numeral k) (numerals-claim .written-plain k e)
   where
+    either : (t u : Bool) → u ≡ true → (t || u) ≡ true
+    either true u f = refl
+    either false u f = f
+
     go : (t : List ℕ) → isPlain t ≡ true → fieldPlain t ≡ true
     go [] f = refl
-    go (b ∷ bs) f = f
+    go (b ∷ bs) f = either (same (b ∷ bs) declinedField) (isPlain (b ∷ bs)) f
 
 -- the fields of a line that was written
 fields-back : (x : Cell) (xs : Row) → all cellFits (x ∷ xs) ≡ true → fieldsOf (joined comma (map fieldText (x ∷ xs))) ≡ map fieldText (x ∷ xs)
@@ -148,16 +154,18 @@ read-fits c e = go (c .mark) (c .bits) (bits-small c e)
   where
     go : (m b : ℕ) → b < 4294967296 → cellFits (cellFrom m b) ≡ true
     go zero b h = is-true _ (in-range b h .1)
-    go (suc m) b h = refl
+    go (suc zero) b h = refl
+    go (suc (suc m)) b h = refl
 
--- a cell that is read and stored again: as it was, with 0 as value if it is blank
+-- a cell that is read and stored again: as it was, with 0 as value if it is blank or declined
 stored-cleared : (c : RawCell) → cellStorable c ≡ true → leb (c .mark) highestMark ≡ true → storedCell (cellRead c) ≡ blankCleared c
 stored-cleared c e f = go (c .mark) (c .bits) (bits-small c e) f
   where
     go : (m b : ℕ) → b < 4294967296 → leb m highestMark ≡ true → storedCell (cellFrom m b) ≡ blankCleared (rawCell b m)
     go zero b h f = ap (λ (n : ℕ). rawCell n 0) (in-range b h .0)
     go (suc zero) b h f = refl
-    go (suc (suc m)) b h f = absurd (omega (arith, leb-true (suc (suc m)) highestMark f))
+    go (suc (suc zero)) b h f = refl
+    go (suc (suc (suc m))) b h f = absurd (omega (arith, leb-true (suc (suc (suc m))) highestMark f))
 
 cells-cleared : (cs : List RawCell) → all cellStorable cs ≡ true → marksAllowed cs ≡ true → map storedCell (map cellRead cs) ≡ map blankCleared cs
 cells-cleared [] e f = refl

@@ -1,6 +1,6 @@
 -- The table that is read of a text is the one that the productions give it: field by field, line by line, and lines.
 use mathlib.Core.Path.{_≡_, refl, sym, ap, subst, _∙_}
-use mathlib.Core.Bool.{Bool, true, false, not}
+use mathlib.Core.Bool.{Bool, true, false, not, _||_, cond}
 use mathlib.Core.List.{List, [], _∷_, _++_, append-assoc}
 use mathlib.Core.Logic.{_↔_, _⊎_, inl, inr}
 use mathlib.Core.Option.{some}
@@ -10,31 +10,53 @@ use borrow.Author.Tests.{eqb-true, ne-eqb}
 use lib.Dec.{eqb}
 use lib.IntN.{ℤ}
 use lib.ListN.{length, getD}
-use Rattle.tables.specs.Tables.{Cell, Blank, Present, Row, Table}
-use Rattle.tables.proofs.Tabulated.{all-weaker}
+use Rattle.tables.specs.Lists.{same, _>>=_}
+use Rattle.tables.specs.Tables.{Cell, Blank, Declined, Present, Row, Table}
+use Rattle.tables.proofs.Tabulated.{all-weaker, and-parts}
 use Rattle.numerals.specs.Numerals.{isDigit, firstNumber, numeralOf}
 use Rattle.numerals.specs.Claims.{isNumeralByte}
 use Rattle.numerals.proofs.Reading.{whole-first, number-ends-claim}
 use Rattle.numerals.proofs.Numerals.{numerals-claim}
-use Rattle.lines.specs.Lines.{comma, lineFeed, carriageReturn, split, joined, fieldRead, each, fieldsOf, lineRead, withoutReturn, ended, linesOf, tableRead}
-use Rattle.lines.specs.Grammar.{IsField, number, empty, IsLine, one-field, more-fields, IsLineEnd, lf, crlf, IsLines, no-line, last-line, ended-line}
+use Rattle.lines.specs.Lines.{comma, lineFeed, carriageReturn, exclamation, declinedField, split, joined, fieldRead, each, fieldsOf, lineRead, withoutReturn, ended, linesOf, tableRead}
+use Rattle.lines.specs.Grammar.{IsField, number, empty, declined, IsLine, one-field, more-fields, IsLineEnd, lf, crlf, IsLines, no-line, last-line, ended-line}
 use Rattle.lines.specs.Claims.{LineGrammarClaim}
 use Rattle.lines.proofs.Split.{lacks, lacks-cons, lacks-append, lacks-told, split-first, split-whole, split-next, split-joined, next-told, each-cons, each-told, each-nil, each-length}
 
 -- ---- a field
 
+differ : true ≡ false → ⊥
+differ e = let z : _≡_ {A = ℕ} 0 1 = cc in absurd (omega arith)
+
+-- a lone `!`
+lone-is : (t : List ℕ) → same t declinedField ≡ true → t ≡ declinedField
+lone-is [] e = absurd (differ (sym e))
+lone-is (b ∷ []) e = ap (λ (n : ℕ). n ∷ []) (eqb-true b exclamation (and-parts (eqb b exclamation) true e .0))
+lone-is (b ∷ c ∷ bs) e = absurd (differ (sym (and-parts (eqb b exclamation) false e .1)))
+
+-- no number is one: each byte of a number is a digit or the minus
+number-not-lone : (t : List ℕ) (k : ℤ) → numeralOf t ≡ some k → same t declinedField ≡ false
+number-not-lone t k e = go (same t declinedField) refl
+  where
+    go : (b : Bool) → same t declinedField ≡ b → same t declinedField ≡ false
+    go true f = absurd (differ (sym (numerals-claim .read-bytes declinedField k (ap numeralOf (sym (lone-is t f)) ∙ e))))
+    go false f = f
+
 -- what a field that is not empty is read as
 field-some : (b : ℕ) (bs : List ℕ) (k : ℤ) → numeralOf (b ∷ bs) ≡ some k → fieldRead (b ∷ bs) ≡ some (Present k)
 unfolding fieldRead
-field-some b bs k e = rw e
+field-some b bs k e = rw (number-not-lone (b ∷ bs) k e, e)
 
 field-told : (t : List ℕ) (x : Cell) → fieldRead t ≡ some x → IsField t x
 unfolding fieldRead
-field-told [] x e = let same : Blank ≡ x = cc in subst (IsField []) same empty
-field-told (b ∷ bs) x e =
-    let (k, p, q) = next-told (numeralOf (b ∷ bs)) (λ k. some (Present k)) x e in
-    let same : Present k ≡ x = cc in
-    subst (IsField (b ∷ bs)) same (number (numerals-claim .exactly (b ∷ bs) k .0 p))
+field-told [] x e = let is : Blank ≡ x = cc in subst (IsField []) is empty
+field-told (b ∷ bs) x e = go (same (b ∷ bs) declinedField) refl e
+  where
+    go : (t : Bool) → same (b ∷ bs) declinedField ≡ t → cond t (some Declined) (numeralOf (b ∷ bs) >>= λ k. some (Present k)) ≡ some x → IsField (b ∷ bs) x
+    go true f g = let is : Declined ≡ x = cc in subst (λ (t : List ℕ). IsField t x) (sym (lone-is (b ∷ bs) f)) (subst (IsField declinedField) is declined)
+    go false f g =
+        let (k, p, q) = next-told (numeralOf (b ∷ bs)) (λ k. some (Present k)) x g in
+        let is : Present k ≡ x = cc in
+        subst (IsField (b ∷ bs)) is (number (numerals-claim .exactly (b ∷ bs) k .0 p))
 
 -- a number has a byte
 number-read : (t : List ℕ) (k : ℤ) → numeralOf t ≡ some k → fieldRead t ≡ some (Present k)
@@ -45,6 +67,7 @@ field-is : (t : List ℕ) (x : Cell) → IsField t x → fieldRead t ≡ some x
 unfolding fieldRead
 field-is t x (number {k = k} n) = number-read t k (numerals-claim .exactly t k .1 n)
 field-is t x empty = refl
+field-is t x declined = refl
 
 pub field-exactly : (t : List ℕ) (x : Cell) → (fieldRead t ≡ some x) ↔ IsField t x
 field-exactly t x = (field-told t x, field-is t x)
@@ -60,15 +83,24 @@ field-first t rest k f h = go t (field-number t k f)
     go [] e = let l = numerals-claim .read-length [] k e .0 in absurd (omega arith)
     go (b ∷ bs) e = number-ends-claim b bs rest h ∙ whole-first (b ∷ bs) k e
 
--- each byte of a field is one of a number, and so none of the others
-pub field-lacks : (at : ℕ) (t : List ℕ) (x : Cell) → isNumeralByte at ≡ false → IsField t x → lacks at t ≡ true
-field-lacks at t x h empty = refl
-field-lacks at t x h (number {k = k} n) =
-    all-weaker isNumeralByte (λ b. not (eqb b at)) (λ b e. ap not (ne-eqb b at (λ same. differ (sym e ∙ ap isNumeralByte same ∙ h)))) t
-    (numerals-claim .read-bytes t k (numerals-claim .exactly t k .1 n))
+-- the bytes of fields: those of numbers, and `!`
+abbrev pub isFieldByte : ℕ → Bool
+isFieldByte b = isNumeralByte b || eqb b exclamation
+
+pub no-field-byte : (b : ℕ) → isFieldByte b ≡ false → (isNumeralByte b ≡ false) × (eqb b exclamation ≡ false)
+no-field-byte b e = go (isNumeralByte b) (eqb b exclamation) e
   where
-    differ : true ≡ false → ⊥
-    differ e = let z : _≡_ {A = ℕ} 0 1 = cc in absurd (omega arith)
+    go : (t u : Bool) → (t || u) ≡ false → (t ≡ false) × (u ≡ false)
+    go true u f = absurd (differ f)
+    go false u f = (refl, f)
+
+-- each byte of a field is one of those, and so none of the others
+pub field-lacks : (at : ℕ) (t : List ℕ) (x : Cell) → isFieldByte at ≡ false → IsField t x → lacks at t ≡ true
+field-lacks at t x h empty = refl
+field-lacks at t x h declined = lacks-cons at exclamation [] (λ is. differ (ap isFieldByte is ∙ h)) refl
+field-lacks at t x h (number {k = k} n) =
+    all-weaker isNumeralByte (λ b. not (eqb b at)) (λ b e. ap not (ne-eqb b at (λ is. differ (sym e ∙ ap isNumeralByte is ∙ no-field-byte at h .0)))) t
+    (numerals-claim .read-bytes t k (numerals-claim .exactly t k .1 n))
 
 -- ---- a line
 
@@ -99,8 +131,8 @@ line-is t row (more-fields {t = f} {u = u} {x = x} {xs = xs} p l) =
 pub line-exactly : (t : List ℕ) (row : Row) → (lineRead t ≡ some row) ↔ IsLine t row
 line-exactly t row = (line-told t row, line-is t row)
 
--- each byte of a line is one of a number or a comma
-pub line-lacks : (at : ℕ) (t : List ℕ) (row : Row) → isNumeralByte at ≡ false → (comma ≡ at → ⊥) → IsLine t row → lacks at t ≡ true
+-- each byte of a line is one of a field or a comma
+pub line-lacks : (at : ℕ) (t : List ℕ) (row : Row) → isFieldByte at ≡ false → (comma ≡ at → ⊥) → IsLine t row → lacks at t ≡ true
 line-lacks at t row h n (one-field {x = x} f) = field-lacks at t x h f
 line-lacks at t row h n (more-fields {t = f} {u = u} {x = x} {xs = xs} p l) =
     lacks-append at f (comma ∷ u) (field-lacks at f x h p) (lacks-cons at comma u n (line-lacks at u xs h n l))

@@ -23,7 +23,7 @@ use Rattle.files.proofs.Valid.{valid-file}
 use Rattle.files.proofs.Cut.{tables-held, rows-joined}
 use Rattle.numerals.proofs.Numerals.{numerals-claim}
 use Rattle.lines.specs.Lines.{fieldRead, fieldsOf, lineRead, linesOf, tableRead}
-use Rattle.lines.specs.Grammar.{IsField, number, empty, IsLine, one-field, more-fields, IsLines, no-line, last-line, ended-line}
+use Rattle.lines.specs.Grammar.{IsField, number, empty, declined, IsLine, one-field, more-fields, IsLines, no-line, last-line, ended-line}
 use Rattle.lines.specs.Calls.{columnsAllowed, fieldsCounted, fieldsFit, countsFit, importRefusals, storedCell, tableFile, rowsRead, importedFile, importCall}
 use Rattle.lines.specs.Claims.{TableLines, importedLength, ImportClaim, mostImported, Valid, ImportedClaim}
 use Rattle.lines.proofs.Split.{each-length, each-at}
@@ -35,6 +35,7 @@ use Rattle.lines.proofs.Rows.{cellFits, cellsFit, cells-count, cells-re
 field-fits : (t : List ℕ) (x : Cell) → IsField t x → cellFits x ≡ true
 field-fits t x (number {k = k} n) = numerals-claim .read-in-range t k (numerals-claim .exactly t k .1 n)
 field-fits t x empty = refl
+field-fits t x declined = refl
 
 line-fits : (t : List ℕ) (row : Row) → IsLine t row → all cellFits row ≡ true
 line-fits t row (one-field {x = x} f) = and-yes (cellFits x) true (field-fits t x f) refl

@@ -10,7 +10,7 @@ use lib.Dec.{eqb, leb, ltb}
 use lib.ListN.{length, length-append, length-map}
 use Rattle.tables.specs.Lists.{all}
 use Rattle.tables.specs.Bytes.{bits, inRange}
-use Rattle.tables.specs.Tables.{highestMark, Cell, Blank, Present, Row, Table}
+use Rattle.tables.specs.Tables.{highestMark, Cell, Blank, Declined, Present, Row, Table}
 use Rattle.tables.proofs.Tests.{is-so}
 use Rattle.tables.proofs.Bytes.{bits-small, signed-bits}
 use Rattle.tables.proofs.Tabulated.{and-yes, and-parts, all-append, all-map}
@@ -20,6 +20,7 @@ use Rattle.lines.specs.Calls.{fieldsCounted, storedCell}
 -- 32 bits can hold the number of a cell, if it has one
 abbrev pub cellFits : Cell → Bool
 cellFits Blank = true
+cellFits Declined = true
 cellFits (Present k) = inRange k
 
 -- and of each cell of a table
@@ -60,10 +61,12 @@ cells-count f w (row ∷ rows) e =
 
 pub stored-read : (x : Cell) → cellFits x ≡ true → cellRead (storedCell x) ≡ x
 stored-read Blank e = refl
+stored-read Declined e = refl
 stored-read (Present k) e = ap Present (signed-bits k (is-so (inRange k) e))
 
 pub stored-small : (x : Cell) → cellFits x ≡ true → cellStorable (storedCell x) ≡ true
 stored-small Blank e = refl
+stored-small Declined e = refl
 stored-small (Present k) e =
     and-yes (ltb (bits k) 4294967296) (ltb 0 256) (lt-ltb (bits k) 4294967296 (bits-small k (is-so (inRange k) e))) refl
 
@@ -87,4 +90,5 @@ marks-low rows e = cells-all storedCell cellFits (λ (c : RawCell). leb (c .mark
   where
     low : (x : Cell) → cellFits x ≡ true → leb (storedCell x .mark) highestMark ≡ true
     low Blank e = refl
+    low Declined e = refl
     low (Present k) e = refl

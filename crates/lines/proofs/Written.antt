@@ -14,7 +14,7 @@ use lib.ListN.{length, getD, take, drop, length-append, length-map, take-append-
 use lib.Seq.{length-take-le, take-suc}
 use Rattle.tables.specs.Lists.{tabulate, all, total}
 use Rattle.tables.specs.Bytes.{between}
-use Rattle.tables.specs.Tables.{mostTables, mostColumns, mostRows, mostCells, Cell, Blank, Present, Row, Table, tableCount, sizeAt, sizes, cellsBefore, cellCount, marksAt, cellAt, sizeFits, sizesFit, tableFrom, tablesOf, rowsOf}
+use Rattle.tables.specs.Tables.{mostTables, mostColumns, mostRows, mostCells, Cell, Blank, Declined, Present, Row, Table, tableCount, sizeAt, sizes, cellsBefore, cellCount, marksAt, cellAt, sizeFits, sizesFit, tableFrom, tablesOf, rowsOf}
 use Rattle.tables.specs.Refusals.{Refused, Lent, firstApplying, filledWith, tablesRefusals}
 use Rattle.tables.proofs.Numbering.{cells-within}
 use Rattle.tables.proofs.Refusals.{none-first, lend-short, lend-long}
@@ -33,6 +33,7 @@ use Rattle.lines.specs.Claims.{fieldRoom, lineRoom, mostLines, Valid}
 pub field-short : (x : Cell) → length (fieldText x) ≤ 11
 unfolding fieldText
 field-short Blank = omega arith
+field-short Declined = omega arith
 field-short (Present (pos n)) = omega (arith, digits-few mostDigits n)
 field-short (Present (negsuc n)) = omega (arith, digits-few mostDigits (suc n))
 

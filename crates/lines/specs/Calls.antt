@@ -7,7 +7,7 @@ use lib.Dec.{eqb, leb}
 use lib.ListN.{length}
 use Rattle.tables.specs.Lists.{all}
 use Rattle.tables.specs.Bytes.{between, bits}
-use Rattle.tables.specs.Tables.{mostColumns, mostRows, mostCells, Cell, Blank, Present, Table, tablesOf, rowsOf}
+use Rattle.tables.specs.Tables.{mostColumns, mostRows, mostCells, Cell, Blank, Declined, Present, Table, tablesOf, rowsOf}
 use Rattle.tables.specs.Refusals.{Refusal, _if_, Lent, lend, tablesRefusals}
 use Rattle.files.specs.Files.{RawCell, rawCell, sizeOf, fileBytes}
 use Rattle.lines.specs.Lines.{linesOf, tableRead, linesText}
@@ -35,9 +35,10 @@ countsFit columns rows = leb rows mostRows && leb (rows * columns) mostCells
 unfoldable pub importRefusals : List ℕ → ℕ → List Refusal
 importRefusals text columns = (14 if not (fieldsFit columns (tableRead text))) ∷ (15 if not (countsFit columns (length (linesOf text)))) ∷ []
 
--- a cell as it is stored: a present one with its number, a blank one 'with 0 as value'
+-- a cell as it is stored: a present one with its number, a blank one 'with 0 as value', and of Point 4 a declined one: 'read with 0 as its value'
 abbrev pub storedCell : Cell → RawCell
 storedCell Blank = rawCell 0 1
+storedCell Declined = rawCell 0 2
 storedCell (Present k) = rawCell (bits k) 0
 
 -- 'tables bytes with that single table': its cells row by row

@@ -36,7 +36,8 @@ file columns rows values marks = Given ((1 ∷ columns ∷ rows ∷ 0 ∷ []) ++
 abbrev present : ℕ → List ℕ
 present n = n ∷ 0 ∷ 0 ∷ 0 ∷ []
 
--- no line, and lines that are empty; a line without an end; both ends; spare zeros, −0 and the ends of the range
+-- no line, and lines that are empty; a line without an end; both ends; spare zeros, −0 and the ends of the range; declined cells, alone, before each end,
+-- beside others, and last
 unfoldable pub importGiven : List ImportCase
 importGiven =
     ("" by 1 gives file 1 0 [] [])
@@ -51,9 +52,14 @@ importGiven =
     ∷ ("-0,007\r\n," by 2 gives file 2 2 (present 0 ++ present 7 ++ present 0 ++ present 0) (0 ∷ 0 ∷ 1 ∷ 1 ∷ []))
     ∷ ("2147483647,-2147483648\n" by 2 gives file 2 1 (255 ∷ 255 ∷ 255 ∷ 127 ∷ 0 ∷ 0 ∷ 0 ∷ 128 ∷ []) (0 ∷ 0 ∷ []))
     ∷ ("0000000001,-1\n,256" by 2 gives file 2 2 (present 1 ++ (255 ∷ 255 ∷ 255 ∷ 255 ∷ []) ++ present 0 ++ (0 ∷ 1 ∷ 0 ∷ 0 ∷ [])) (0 ∷ 0 ∷ 1 ∷ 0 ∷ []))
+    ∷ ("!" by 1 gives file 1 1 (present 0) (2 ∷ []))
+    ∷ ("!\n" by 1 gives file 1 1 (present 0) (2 ∷ []))
+    ∷ ("!\r\n!" by 1 gives file 1 2 (present 0 ++ present 0) (2 ∷ 2 ∷ []))
+    ∷ ("!,!,!\n" by 3 gives file 3 1 (present 0 ++ present 0 ++ present 0) (2 ∷ 2 ∷ 2 ∷ []))
+    ∷ ("1,!,\r\n,5,!" by 3 gives file 3 2 (present 1 ++ present 0 ++ present 0 ++ present 0 ++ present 5 ++ present 0) (0 ∷ 2 ∷ 1 ∷ 1 ∷ 0 ∷ 2 ∷ []))
     ∷ []
 
--- columns; too few and too many fields; a CR that ends no line; what is no number
+-- columns; too few and too many fields; a CR that ends no line; what is no number; a `!` that is not alone, and one field too many behind it
 unfoldable pub importRefused : List ImportCase
 importRefused =
     ("" by 0 gives Refused 14)
@@ -80,6 +86,14 @@ importRefused =
     ∷ ("2147483648" by 1 gives Refused 14)
     ∷ ("-2147483649" by 1 gives Refused 14)
     ∷ ("1;2" by 2 gives Refused 14)
+    ∷ ("!1" by 1 gives Refused 14)
+    ∷ ("1!" by 1 gives Refused 14)
+    ∷ ("! " by 1 gives Refused 14)
+    ∷ (" !" by 1 gives Refused 14)
+    ∷ ("!!" by 1 gives Refused 14)
+    ∷ ("-!" by 1 gives Refused 14)
+    ∷ ("!\r" by 1 gives Refused 14)
+    ∷ ("!," by 1 gives Refused 14)
     ∷ []
 
 abbrev pub importCaseAnswer : ImportCase → Answer (List ℕ)
@@ -141,16 +155,19 @@ bs lines t = record { tables = bs; answer = Given (bytes t) }
 abbrev refused : List ℕ → ℕ → ExportCase
 refused bs n = record { tables = bs; answer = Refused n }
 
--- table 1 of the sample file alone; the lowest number, 0 and a blank; a blank with other bytes below it, and 10; no rows; and refusals 1 and 2
+-- table 1 of the sample file alone; the lowest number, 0 and a blank; a blank with other bytes below it, and 10; marks 0, 1 and 2, over 0 and over other
+-- bytes; no rows; and refusals 1 and 2
 unfoldable pub exportCases : List ExportCase
 exportCases =
     (sampleFile lines "67305985,-1\n-2147483648,2147483647\n")
     ∷ ((1 ∷ 3 ∷ 1 ∷ 0 ∷ 0 ∷ 0 ∷ 0 ∷ 128 ∷ 0 ∷ 0 ∷ 0 ∷ 0 ∷ 0 ∷ 0 ∷ 0 ∷ 0 ∷ 0 ∷ 0 ∷ 1 ∷ []) lines "-2147483648,0,\n")
     ∷ ((1 ∷ 1 ∷ 2 ∷ 0 ∷ 9 ∷ 9 ∷ 9 ∷ 9 ∷ 10 ∷ 0 ∷ 0 ∷ 0 ∷ 1 ∷ 0 ∷ []) lines "\n10\n")
+    ∷ ((1 ∷ 3 ∷ 1 ∷ 0 ∷ 7 ∷ 0 ∷ 0 ∷ 0 ∷ 0 ∷ 0 ∷ 0 ∷ 0 ∷ 0 ∷ 0 ∷ 0 ∷ 0 ∷ 0 ∷ 1 ∷ 2 ∷ []) lines "7,,!\n")
+    ∷ ((1 ∷ 1 ∷ 2 ∷ 0 ∷ 9 ∷ 9 ∷ 9 ∷ 9 ∷ 0 ∷ 0 ∷ 0 ∷ 0 ∷ 2 ∷ 0 ∷ []) lines "!\n0\n")
     ∷ ((1 ∷ 16 ∷ 0 ∷ 0 ∷ []) lines "")
     ∷ refused [] 1
     ∷ refused (1 ∷ 1 ∷ 1 ∷ 0 ∷ 0 ∷ 0 ∷ 0 ∷ 0 ∷ []) 1
-    ∷ refused (1 ∷ 1 ∷ 1 ∷ 0 ∷ 0 ∷ 0 ∷ 0 ∷ 0 ∷ 2 ∷ []) 2
+    ∷ refused (1 ∷ 1 ∷ 1 ∷ 0 ∷ 0 ∷ 0 ∷ 0 ∷ 0 ∷ 3 ∷ []) 2
     ∷ []
 
 abbrev pub exportCaseAnswer : ExportCase → Answer (List ℕ)

@@ -1,13 +1,13 @@
 -- What proofs/ shows of these definitions.
 use mathlib.Core.Path.{_≡_}
-use mathlib.Core.Bool.{Bool, true, false, not, cond}
+use mathlib.Core.Bool.{Bool, true, false, not, _||_, cond}
 use mathlib.Core.List.{List, [], _∷_, map, flatMap, IsChain}
 use mathlib.Core.Logic.{_↔_}
 use mathlib.Core.Option.{none, some}
 use Prim.Native.Nat.{ℕ, suc, _+_, _*_, _<_, _≤_}
 use lib.Dec.{eqb}
 use lib.ListN.{length, getD, take}
-use Rattle.tables.specs.Lists.{all, total}
+use Rattle.tables.specs.Lists.{all, total, same}
 use Rattle.tables.specs.Bytes.{byteAt}
 use Rattle.tables.specs.Tables.{mostCells, Cell, Row, Table, cellsIn, sizes, sizeAt, tablesOf, rowsOf, cellIn}
 use Rattle.tables.specs.Refusals.{Refused, Given, numbers, firstApplying, tablesRefusals, refusedWith, filledWith, lend, lendRefusals}
@@ -15,7 +15,7 @@ use Rattle.tables.specs.Exports.{isGiven, ZeroIsSuccess}
 use Rattle.tables.specs.Claims.{BlanksDiffer}
 use Rattle.numerals.specs.Numerals.{isPlain}
 use Rattle.files.specs.Files.{RawCell, rawCell, sizeOf, fileBytes, rawCells}
-use Rattle.lines.specs.Lines.{carriageReturn, fieldRead, fieldsOf, linesOf, tableRead, fieldText}
+use Rattle.lines.specs.Lines.{carriageReturn, declinedField, fieldRead, fieldsOf, linesOf, tableRead, fieldText}
 use Rattle.lines.specs.Grammar.{IsLines}
 use Rattle.lines.specs.Calls.{columnsAllowed, fieldsCounted, countsFit, importRefusals, importedFile, storedCell, tableFile, importCall, importOrder, exportedLines, exportCall, exportOrder}
 use Rattle.lines.specs.Cases.{importGiven, importRefused, importCaseAnswer, importEdges, edgeRefusal, exportCases, exportCaseAnswer}
@@ -62,7 +62,7 @@ pub record Valid (file : List ℕ) : Type 0 where
   pub accepted : firstApplying (tablesRefusals file) ≡ none
 
 -- the file that is imported: its length, for which 40,964 bytes are always enough; it is bytes, and gets neither 1 nor 2; it holds the rows as its single table, with
--- these columns; each cell is present with its number or blank with 0; and it is what its field says, in its line
+-- these columns; each cell is present with its number, or blank or declined with 0; and it is what its field says, in its line
 pub record Imported (text : List ℕ) (columns : ℕ) (rows : Table) : Type 0 where
   pub long : length (tableFile columns rows) ≡ importedLength columns (length rows)
   pub most : length (tableFile columns rows) ≤ mostImported
@@ -89,10 +89,10 @@ lineRoom row = total (map fieldRoom row)
 abbrev pub mostLines : ℕ
 mostLines = 12 * mostCells
 
--- of a field that is empty or a number, that it has no spare zeros
+-- of a field that is empty, a lone `!` or a number, that it has no spare zeros
 abbrev pub fieldPlain : List ℕ → Bool
 fieldPlain [] = true
-fieldPlain (b ∷ bs) = isPlain (b ∷ bs)
+fieldPlain (b ∷ bs) = same (b ∷ bs) declinedField || isPlain (b ∷ bs)
 
 -- the lines of table 1 of a file: their length, for which 98,304 bytes are always enough; the productions give them that table; 'LF after each line', which no
 -- CR and that length leave as the only end of each; and 'numbers without spare zeros'
@@ -104,7 +104,8 @@ pub record Exported (file : List ℕ) : Type 0 where
   pub plain : all (all fieldPlain) (map fieldsOf (linesOf (exportedLines file))) ≡ true
 
 -- EXPORT gives 1 or 2 where the tables get it; else 12 exactly where the buffer is shorter than the lines; else the lines, at the start of the buffer. A
--- refusal leaves the buffer as it was; and 'the value bytes of a blank cell may be anything and affect no answer' (document 01, Tables)
+-- refusal leaves the buffer as it was; and 'the value bytes of a blank cell may be anything and affect no answer' (document 01, Tables), those of a declined
+-- cell too ('It is blank in every respect')
 pub record ExportClaim : Type 0 where
   pub refused : (file buffer : List ℕ) (n : ℕ) → firstApplying (tablesRefusals file) ≡ some n → exportCall file buffer ≡ refusedWith n buffer
   pub exported : (file : List ℕ) → Valid file → Exported file
@@ -115,16 +116,16 @@ pub record ExportClaim : Type 0 where
 
 -- ---- there and back
 
--- a cell with 0 as value if it is blank
+-- a cell with 0 as value if it is blank or declined
 abbrev pub blankCleared : RawCell → RawCell
 blankCleared c = rawCell (cond (eqb (c .mark) 0) (c .bits) 0) (c .mark)
 
--- a file with table 1 of another alone: its sizes, its cells and marks, with 0 under each blank
+-- a file with table 1 of another alone: its sizes, its cells and marks, with 0 under each blank and each declined one
 abbrev pub firstTableFile : List ℕ → List ℕ
 firstTableFile file = fileBytes (sizeAt file 0 ∷ []) (map blankCleared (take (cellsIn (sizeAt file 0)) (rawCells file)))
 
--- 'Writing and importing again gives the same cells and marks, with 0 as value under each blank': what was exported is refused with 12 alone, and else gives
--- that file; and the table in it is the same
+-- 'Writing and importing again gives the same cells and marks, with 0 as value under each blank', and under each declined cell, which is 'read with 0 as its
+-- value': what was exported is refused with 12 alone, and else gives that file; and the table in it is the same
 pub record RoundTripClaim : Type 0 where
   pub again : (file lines buffer : List ℕ) (n : ℕ) → Valid file → exportCall file lines .result ≡ Given n
       → importCall (take n (exportCall file lines .buffer)) (sizeAt file 0 .columns) buffer ≡ lend [] (firstTableFile file) buffer

@@ -1,17 +1,19 @@
--- Document 02, Point 2: the grammar of comma lines, production by production, after RFC 4180: a field, a line, a line end, and lines.
+-- Document 02, Points 2 and 4: the grammar of comma lines, production by production, after RFC 4180: a field, a line, a line end, and lines.
 use mathlib.Core.List.{List, [], _∷_, _++_}
 use Prim.Native.Nat.{ℕ}
 use lib.IntN.{ℤ}
-use Rattle.tables.specs.Tables.{Cell, Blank, Present, Row, Table}
+use Rattle.tables.specs.Tables.{Cell, Blank, Declined, Present, Row, Table}
 use Rattle.numerals.specs.Claims.{IsNumeral}
-use Rattle.lines.specs.Lines.{comma, lineFeed, carriageReturn}
+use Rattle.lines.specs.Lines.{comma, lineFeed, carriageReturn, exclamation}
 
--- field: a number, or empty for blank
+-- field: a number, empty for blank, or a lone `!` for declined
 pub data IsField : List ℕ → Cell → Type 0 where
   -- number
   number : {t : List ℕ} {k : ℤ} → IsNumeral t k → IsField t (Present k)
   -- nothing
   empty : IsField [] Blank
+  -- !
+  declined : IsField (exclamation ∷ []) Declined
 
 -- line: fields with commas between them, one at least
 pub data IsLine : List ℕ → Row → Type 0 where

@@ -1,12 +1,12 @@
--- Document 02, Point 2: a table as comma lines (RFC 4180 without quotes), read and written. Which texts are such lines is said by productions as well, in
--- Grammar.antt.
-use mathlib.Core.Bool.{true, false}
+-- Document 02, Point 2: a table as comma lines (RFC 4180 without quotes), read and written; of Point 4 the field of a declined cell. Which texts are such
+-- lines is said by productions as well, in Grammar.antt.
+use mathlib.Core.Bool.{true, false, cond}
 use mathlib.Core.List.{List, [], _∷_, _++_, map, flatMap}
 use mathlib.Core.Option.{Option, some}
 use Prim.Native.Nat.{ℕ}
 use lib.Dec.{eqb}
-use Rattle.tables.specs.Lists.{_>>=_}
-use Rattle.tables.specs.Tables.{Cell, Blank, Present, Row, Table}
+use Rattle.tables.specs.Lists.{same, _>>=_}
+use Rattle.tables.specs.Tables.{Cell, Blank, Declined, Present, Row, Table}
 use Rattle.numerals.specs.Numerals.{numeralOf, numeral}
 
 -- ---- the bytes
@@ -22,6 +22,14 @@ lineFeed = 10
 -- CR
 abbrev pub carriageReturn : ℕ
 carriageReturn = 13
+
+-- `!`
+abbrev pub exclamation : ℕ
+exclamation = 33
+
+-- Point 4: 'In the comma files a declined cell is a lone `!`'
+abbrev pub declinedField : List ℕ
+declinedField = exclamation ∷ []
 
 -- ---- pieces of a text
 
@@ -43,10 +51,10 @@ joined at (piece ∷ next ∷ pieces) = piece ++ (at ∷ joined at (next ∷ pie
 
 -- ---- reading
 
--- 'A field is a number as in document 01, or empty for blank'
+-- 'A field is a number as in document 01, or empty for blank', or a lone `!` for declined
 unfoldable pub fieldRead : List ℕ → Option Cell
 fieldRead [] = some Blank
-fieldRead (b ∷ bs) = numeralOf (b ∷ bs) >>= λ k. some (Present k)
+fieldRead (b ∷ bs) = cond (same (b ∷ bs) declinedField) (some Declined) (numeralOf (b ∷ bs) >>= λ k. some (Present k))
 
 -- what is read of each of some pieces, where each can be read
 unfoldable pub each : {A B : Type 0} → (A → Option B) → List A → Option (List B)
@@ -83,9 +91,10 @@ tableRead text = each lineRead (linesOf text)
 
 -- ---- writing
 
--- 'numbers without spare zeros', and nothing for a blank
+-- 'numbers without spare zeros', nothing for a blank, and a lone `!` for a declined cell
 unfoldable pub fieldText : Cell → List ℕ
 fieldText Blank = []
+fieldText Declined = declinedField
 fieldText (Present k) = numeral k
 
 -- 'LF after each line'

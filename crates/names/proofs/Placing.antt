@@ -21,7 +21,7 @@ use Rattle.rule.specs.declared.Part.{Part}
 use Rattle.phrases.specs.Code.{noted}
 use Rattle.grammar.specs.Code.{noteSize, noteComparison, noteTable, noteLetter, noteLeft, noteRight}
 use Rattle.values.specs.Code.{heldNumbers, unusedHeld}
-use Rattle.scopes.specs.Code.{valueHeld, existingAs, scopeIn, binding, outerScope, ScopeFits, partFields, plainPartNumbers, leftWritten, rightWritten, comparedNumbers, nullNumbers, ownPartNumbers, comparedAs}
+use Rattle.scopes.specs.Code.{valueHeld, existingAs, scopeIn, binding, outerScope, ScopeFits, partFields, plainPartNumbers, leftWritten, rightWritten, comparedNumbers, markNumbers, ownPartNumbers, comparedAs}
 use Rattle.scopes.proofs.Looking.{none-there, some-there}
 use Rattle.scopes.proofs.Resolving.{map-none, Mapped, map-some}
 use Rattle.scopes.proofs.Owning.{own-mark, own-list}
@@ -148,10 +148,10 @@ module _ (columns : List ℕ) (outside inside : Scope) (t e : ℕ) where
   compared-map F g kind op m (some v) none = refl
   compared-map F g kind op m (some v) (some w) = ap some (m v w)
 
-  null-map : {A : Type 0} (F : Value → A) (g : A → List ℕ) (kind : ℕ) → ((v : Value) → kind ∷ 0 ∷ 0 ∷ e ∷ (heldNumbers (valueHeld v) ++ heldNumbers unusedHeld) ≡ g (F v))
-      → (a : Option Value) → nullNumbers kind e a ≡ Option·map g (a >>= (λ v. some (F v)))
-  null-map F g kind m none = refl
-  null-map F g kind m (some v) = ap some (m v)
+  mark-map : {A : Type 0} (F : Value → A) (g : A → List ℕ) (kind : ℕ) → ((v : Value) → kind ∷ 0 ∷ 0 ∷ e ∷ (heldNumbers (valueHeld v) ++ heldNumbers unusedHeld) ≡ g (F v))
+      → (a : Option Value) → markNumbers kind e a ≡ Option·map g (a >>= (λ v. some (F v)))
+  mark-map F g kind m none = refl
+  mark-map F g kind m (some v) = ap some (m v)
 
   own-outer : (o : Outer WrittenValue) (n : ℤ) (x : ℕ) (w : WrittenCondition) → Kept (enclosed o (Single (Over n x)) w)
       → ownIn (ownNumbers (enclosed o (Single (Over n x)) w)) ≡ Option·map (λ v. partNumbers (partOf e (outerHead v (Single t)))) (outerIn columns outside inside o)
@@ -174,8 +174,8 @@ own-test columns scope e (Compare op l r) kept =
     ∙ compared-map columns scope scope 0 e (Compare op) _ compareKind (comparisonNumber op) (λ v w. refl) (valueIn columns scope l) (valueIn columns scope r)
 own-test columns scope e (Mark m l) kept =
     own-mark (markKind m) 0 0 e _ _ m refl
-    ∙ ap (λ (l : WrittenValue). nullNumbers (markKind m) e (valueIn columns scope l)) (value-back l kept)
-    ∙ null-map columns scope scope 0 e (Mark m) _ (markKind m) (λ v. refl) (valueIn columns scope l)
+    ∙ ap (λ (l : WrittenValue). markNumbers (markKind m) e (valueIn columns scope l)) (value-back l kept)
+    ∙ mark-map columns scope scope 0 e (Mark m) _ (markKind m) (λ v. refl) (valueIn columns scope l)
 
 -- ---- a FROM whose table was found, and its letter bound
 

@@ -18,6 +18,7 @@ use grammar::NOTE_TABLE;
 use rule::ALL_PART;
 use rule::AND_PART;
 use rule::COMPARISON_PART;
+use rule::DECLINED_PART;
 use rule::EXISTS_PART;
 use rule::IS_FALSE_PART;
 use rule::IS_NOT_FALSE_PART;
@@ -25,6 +26,7 @@ use rule::IS_NOT_TRUE_PART;
 use rule::IS_NOT_UNKNOWN_PART;
 use rule::IS_TRUE_PART;
 use rule::IS_UNKNOWN_PART;
+use rule::NOT_DECLINED_PART;
 use rule::NOT_NULL_PART;
 use rule::NOT_PART;
 use rule::NULL_PART;
@@ -101,7 +103,7 @@ fn place(
     match kind {
         AND_PART | OR_PART => place_pair(file, notes, h, parts, e, scope, levels),
         NOT_PART => place_unary(file, notes, h, parts, e, scope, levels),
-        COMPARISON_PART | NULL_PART | NOT_NULL_PART => {
+        COMPARISON_PART | NULL_PART | NOT_NULL_PART | DECLINED_PART | NOT_DECLINED_PART => {
             place_test(file, notes, h, parts, e, scope, levels)
         }
         EXISTS_PART | SOME_PART | ALL_PART => {
@@ -170,7 +172,7 @@ fn place_unary(
     Placed::At(at)
 }
 
-// A comparison of two values, IS NULL and IS NOT NULL.
+// A comparison of two values, and the tests by the mark.
 fn place_test(
     file: &[u8],
     notes: &[usize],

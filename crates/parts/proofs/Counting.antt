@@ -1,6 +1,7 @@
 -- The entries of a rule's card, part by part: what is left to count are the entries of the rules whose parts stand from a number on.
 use mathlib.Core.Path.{_≡_, refl, sym, ap, subst, _∙_}
 use mathlib.Core.List.{List, [], _∷_}
+use mathlib.Core.Logic.{_⊎_, inl, inr}
 use Prim.Native.Nat.{ℕ, _+_, _*_, _<_, _≤_}
 use native.Mathlib.Omega.{arith}
 use lib.ListN.{length, getD}
@@ -9,27 +10,34 @@ use Rattle.rule.specs.Truth.{False, Unknown, True}
 use Rattle.rule.specs.Condition.{Compare, Mark, Unary, Not, Is, IsNot, From, Single, Atom, Join, Apply, Exists, Listed, Rule, letters, parts}
 use Rattle.rule.specs.Names.{mostParts}
 use Rattle.rule.specs.Parts.{Kind, unaryKind, kindNumber, kindOf}
-use Rattle.rule.specs.Groups.{KindNumber, UnaryNumber}
+use Rattle.rule.specs.Groups.{KindNumber, UnaryNumber, UnknownNumber}
 use Rattle.rule.specs.Sum.{unarySum, entrySum}
 use Rattle.rule.proofs.Groups.{same-kind, truth-number}
 use Rattle.names.specs.Code.{partSize, partEnd, partsSize}
 use Rattle.parts.specs.Parts.{Stands}
 use Rattle.parts.specs.Code.{ownEntries, Capped, exact, over, Countable, CountedTo}
-use Rattle.parts.proofs.Parts.{parts-low, headOf, part-end, kind-stands, end-stands, IsUnary, kind-high, is-unary}
+use Rattle.parts.proofs.Parts.{parts-low, headOf, part-end, kind-stands, end-stands, IsUnary, is-unary}
 
 -- two kinds with one number have the same entries
 pub own-same : (k l : Kind) (n : ℕ) → n ≡ kindNumber k → n ≡ kindNumber l → ownEntries k ≡ ownEntries l
 own-same k l n e f = ap ownEntries (same-kind k l (sym e ∙ f))
 
--- what a part makes of the entries of the condition in it, which it uses once, or twice if it is one of the last two
-unary-used : (u : Unary) (n : ℕ) → (unaryKind u < unaryKind (Is Unknown) → unarySum u 0 + n ≡ unarySum u n) × (unaryKind (Is Unknown) ≤ unaryKind u → 1 + 2 * n ≡ unarySum u n)
+-- a number beside those of IS UNKNOWN and IS NOT UNKNOWN
+pub not-unknown : (n : ℕ) → (n < unaryKind (Is Unknown)) ⊎ (unaryKind (IsNot Unknown) < n) → UnknownNumber n → ⊥
+not-unknown n (inl l) (inl e) = omega arith
+not-unknown n (inl l) (inr e) = omega arith
+not-unknown n (inr l) (inl e) = omega arith
+not-unknown n (inr l) (inr e) = omega arith
+
+-- what a part makes of the entries of the condition in it, which it uses once, or twice if it is one of these two
+unary-used : (u : Unary) (n : ℕ) → ((UnknownNumber (unaryKind u) → ⊥) → unarySum u 0 + n ≡ unarySum u n) × (unaryKind (Is Unknown) ≤ unaryKind u → 1 + 2 * n ≡ unarySum u n)
 unary-used Not n = (λ l. omega arith, λ l. omega arith)
 unary-used (Is True) n = (λ l. omega arith, λ l. omega arith)
 unary-used (Is False) n = (λ l. omega arith, λ l. omega arith)
-unary-used (Is Unknown) n = (λ l. omega arith, λ l. omega arith)
+unary-used (Is Unknown) n = (λ l. absurd (l (inl refl)), λ l. omega arith)
 unary-used (IsNot True) n = (λ l. omega arith, λ l. omega arith)
 unary-used (IsNot False) n = (λ l. omega arith, λ l. omega arith)
-unary-used (IsNot Unknown) n = (λ l. omega arith, λ l. omega arith)
+unary-used (IsNot Unknown) n = (λ l. absurd (l (inr refl)), λ l. omega arith)
 
 one-letter : {S : Type 0} (f : From S) → letters f ≡ 1
 one-letter (Single s) = refl
@@ -77,7 +85,7 @@ module _ (p : List ℕ) (n : ℕ) where
     stand : Rules (s + 1) later
     sum : k + sumOf later ≡ sumOf rs
 
-  step : (s : ℕ) (r : Rule) (rs : List Rule) → Stands p s r → Rules (s + parts r) rs → kindNumber (kindOf (headOf r)) < unaryKind (Is Unknown) → Stepped s (ownEntries (kindOf (headOf r))) (r ∷ rs)
+  step : (s : ℕ) (r : Rule) (rs : List Rule) → Stands p s r → Rules (s + parts r) rs → (UnknownNumber (kindNumber (kindOf (headOf r))) → ⊥) → Stepped s (ownEntries (kindOf (headOf r))) (r ∷ rs)
   unfolding Stands entrySum parts
   step s (Atom (Compare op l r)) rs h f k = record { later = rs; stand = f; sum = refl }
   step s (Atom (Mark m l)) rs h f k = record { later = rs; stand = f; sum = refl }
@@ -135,16 +143,16 @@ module _ (p : List ℕ) (n : ℕ) where
     known = (kind, kind-is)
 
     -- a part that uses its inner parts once
-    pub one-counted : getD p (partSize * s) 0 < unaryKind (Is Unknown)
+    pub one-counted : (UnknownNumber (getD p (partSize * s) 0) → ⊥)
         → (k : ℕ) → ((kind : Kind) → getD p (partSize * s) 0 ≡ kindNumber kind → k ≡ ownEntries kind) → Counted rule (s + 1) (entries + k)
-    one-counted low k own =
-        let t = step s (here .first) (here .others) (here .stands) (here .next) (omega (arith, kind-is)) in
+    one-counted other k own =
+        let t = step s (here .first) (here .others) (here .stands) (here .next) (λ z. other (subst UnknownNumber (sym kind-is) z)) in
         record { left = t .later; stand = t .stand; before = c .before + ownEntries kind; counted = both-counted (c .counted) (exact (own kind kind-is)); sum = omega (arith, t .sum, here .sum) }
 
     -- and one that uses them twice: they stand behind it, up to its end
-    module _ (high : unaryKind (Is Unknown) ≤ getD p (partSize * s) 0) where
+    module _ (low : unaryKind (Is Unknown) ≤ getD p (partSize * s) 0) (high : getD p (partSize * s) 0 ≤ unaryKind (IsNot Unknown)) where
       twice : UnaryNumber (getD p (partSize * s) 0)
-      twice = truth-number _ (omega arith) (kind-high p s (here .first) (here .stands))
+      twice = truth-number _ (omega arith) high
 
       inside : IsUnary p s (twice .0) (here .first)
       inside = is-unary p s (here .first) (here .stands) twice

@@ -251,7 +251,7 @@ module _ (p : List ℕ) (s : ℕ) where
     pub is-listed : (k : ListNumber kindHere) → IsListed (k .0) r
     is-listed k = told (ListKind (k .0)) (k .1)
 
-    -- a comparison, IS NULL or IS NOT NULL
+    -- a comparison or a test by the mark
     pub is-test : TestNumber kindHere → IsTest r
     is-test k =
         ⊎-elim

@@ -5,11 +5,9 @@ ghost use Prim.Native.Nat.{ℕ, _+_, _*_, _<_, _≤_};
 ghost use lib.ListN.{length};
 ghost use Rattle.tables.specs.Values.{mostEntries};
 ghost use Rattle.values.specs.Code.{heldSize, heldAt};
-ghost use Rattle.rule.specs.Truth.{Unknown};
-ghost use Rattle.rule.specs.Condition.{Is};
 ghost use Rattle.rule.specs.Names.{mostParts};
-ghost use Rattle.rule.specs.Parts.{Kind, kindNumber, unaryKind};
-ghost use Rattle.rule.specs.Groups.{KindNumber};
+ghost use Rattle.rule.specs.Parts.{Kind, kindNumber};
+ghost use Rattle.rule.specs.Groups.{KindNumber, UnknownNumber};
 ghost use Rattle.names.specs.Code.{partSize, partsSize};
 ghost use Rattle.parts.specs.Code.{ownEntries, Capped, Countable, CountedTo};
 use names::PART_END;
@@ -18,12 +16,15 @@ use names::PART_NUMBERS;
 use rule::ALL_PART;
 use rule::AND_PART;
 use rule::COMPARISON_PART;
+use rule::DECLINED_PART;
 use rule::EXISTS_PART;
 use rule::IS_FALSE_PART;
 use rule::IS_NOT_FALSE_PART;
 use rule::IS_NOT_TRUE_PART;
+use rule::IS_NOT_UNKNOWN_PART;
 use rule::IS_TRUE_PART;
 use rule::IS_UNKNOWN_PART;
+use rule::NOT_DECLINED_PART;
 use rule::NOT_NULL_PART;
 use rule::NOT_PART;
 use rule::NULL_PART;
@@ -46,7 +47,7 @@ pub fn part_value(p: &[usize; PART_NUMBERS], s: usize, k: usize) -> HeldValue
 // list has its row entry, its AND or OR, and its comparison. With an arm for each kind the compiler looks the number up in a table; with kinds that
 // follow one another in one arm it compares several times.
 fn own_entries(kind: usize) -> usize
-    requires { ⌜ KindNumber kind ⌝ ∗ ⌜ kind < unaryKind (Is Unknown) ⌝ }
+    requires { ⌜ KindNumber kind ⌝ ∗ ⌜ (UnknownNumber kind → ⊥) ⌝ }
     ensures is { λ r. ⌜ ((k : Kind) → kind ≡ kindNumber k → r ≡ ownEntries k) ⌝ }
     ensures small { λ r. ⌜ r ≤ 3 ⌝ }
 {
@@ -64,6 +65,8 @@ fn own_entries(kind: usize) -> usize
         IS_NOT_TRUE_PART => 0,
         IS_FALSE_PART => 0,
         IS_NOT_FALSE_PART => 0,
+        DECLINED_PART => 1,
+        NOT_DECLINED_PART => 1,
         _ => {
             cells::never();
             0
@@ -84,7 +87,7 @@ fn used_twice(inner: usize) -> usize
 }
 
 // The entries of the card of the rule whose parts are those from s up to n; or where they are over the limit, some number over it. They are added up part by
-// part, with a recursive call only for IS UNKNOWN and IS NOT UNKNOWN, the last kinds.
+// part, with a recursive call only for IS UNKNOWN and IS NOT UNKNOWN.
 pub fn count_entries(p: &[usize; PART_NUMBERS], s: usize, n: usize) -> usize
     requires { ⌜ Countable (now p) s n ⌝ }
     ensures { λ r. ⌜ CountedTo (now (p .entry)) s n r ⌝ }
@@ -93,14 +96,17 @@ pub fn count_entries(p: &[usize; PART_NUMBERS], s: usize, n: usize) -> usize
     let mut at = s;
     while at < n {
         let kind = p[PART_FIELDS * at];
-        if IS_UNKNOWN_PART <= kind {
-            let end = p[PART_FIELDS * at + PART_END];
-            let inner = count_entries(p, at + 1, end);
-            entries += used_twice(inner);
-            at = end;
-        } else {
-            entries += own_entries(kind);
-            at += 1;
+        match kind {
+            IS_UNKNOWN_PART | IS_NOT_UNKNOWN_PART => {
+                let end = p[PART_FIELDS * at + PART_END];
+                let inner = count_entries(p, at + 1, end);
+                entries += used_twice(inner);
+                at = end;
+            }
+            _ => {
+                entries += own_entries(kind);
+                at += 1;
+            }
         }
     }
     entries

@@ -6,10 +6,10 @@ use Prim.Native.Nat.{ℕ, _+_, _-_, _<_, _≤_}
 use native.Mathlib.Omega.{arith}
 use lib.ListN.{getD}
 use Rattle.tables.specs.Lists.{_>>=_, _<|>_}
-use Rattle.tables.specs.Values.{Comparison, Eq, Ne, comparisonNumber, comparisonOf, Quantifier, Some, All, MarkTest, Null, NotNull}
+use Rattle.tables.specs.Values.{Comparison, Eq, Ne, comparisonNumber, comparisonOf, Quantifier, Some, All, MarkTest, Null, NotNull, IsDeclined, NotDeclined}
 use Rattle.tables.proofs.Values.{comparison-number}
 use Rattle.cells.proofs.Signed.{to-from}
-use Rattle.rule.specs.Tokens.{Token, NOT, EXISTS, IN, SOME, ALL, IS, NULL, Open}
+use Rattle.rule.specs.Tokens.{Token, NOT, EXISTS, IN, SOME, ALL, IS, NULL, DECLINED, Open}
 use Rattle.rule.specs.Condition.{Compare, Mark, Atom, WrittenValue, parts, fromsDeep}
 use Rattle.rule.specs.Parts.{compareKind, markKind, existsKind, listKind}
 use Rattle.rule.specs.Reader.{expect, readValue, readFrom, Bracket, Start, Whole, Around, OfExists, startList, startValue, start}
@@ -54,12 +54,14 @@ word-positive Some = omega arith
 word-positive All = omega arith
 
 module _ (l : WrittenValue) (s : List ℕ) (at : ℕ) where
-  -- IS NULL, IS NOT NULL
+  -- IS NULL, IS DECLINED, IS NOT NULL, IS NOT DECLINED
   module _ (is : getD s at 0 ≡ codeOf IS) where
     behind-is :
         startValue l (tokensFrom s at)
         ≡ ((expect NULL (tokensFrom s (at + 1)) >>= (λ rest. some (Whole (Atom (Mark Null l)) rest)))
-        <|> (expect NOT (tokensFrom s (at + 1)) >>= (λ vs. expect NULL vs >>= (λ rest. some (Whole (Atom (Mark NotNull l)) rest)))))
+        <|> (expect NOT (tokensFrom s (at + 1)) >>= (λ vs. expect NULL vs >>= (λ rest. some (Whole (Atom (Mark NotNull l)) rest))))
+        <|> (expect DECLINED (tokensFrom s (at + 1)) >>= (λ rest. some (Whole (Atom (Mark IsDeclined l)) rest)))
+        <|> (expect NOT (tokensFrom s (at + 1)) >>= (λ vs. expect DECLINED vs >>= (λ rest. some (Whole (Atom (Mark NotDeclined l)) rest)))))
     unfolding startValue
     behind-is =
         rw (
@@ -73,18 +75,42 @@ module _ (l : WrittenValue) (s : List ℕ) (at : ℕ) where
     pub null-found : getD s (at + 1) 0 ≡ codeOf NULL → startValue l (tokensFrom s at) ≡ some (Whole (Atom (Mark Null l)) (tokensFrom s (at + 2)))
     null-found u = rw (behind-is, expect-to s (at + 1) (codeOf NULL) (at + 2) tt (omega arith) u)
 
-    pub no-null : (getD s (at + 1) 0 ≡ codeOf NULL → ⊥) → (getD s (at + 1) 0 ≡ codeOf NOT → ⊥) → startValue l (tokensFrom s at) ≡ none
-    no-null f g = rw (behind-is, expect-no s (at + 1) (codeOf NULL) f, expect-no s (at + 1) (codeOf NOT) g)
+    pub declined-found : getD s (at + 1) 0 ≡ codeOf DECLINED → startValue l (tokensFrom s at) ≡ some (Whole (Atom (Mark IsDeclined l)) (tokensFrom s (at + 2)))
+    declined-found u =
+        rw (
+          behind-is,
+          expect-no s (at + 1) (codeOf NULL) (λ e. omega arith),
+          expect-no s (at + 1) (codeOf NOT) (λ e. omega arith),
+          expect-to s (at + 1) (codeOf DECLINED) (at + 2) tt (omega arith) u,
+        )
+
+    pub no-mark : (getD s (at + 1) 0 ≡ codeOf NULL → ⊥) → (getD s (at + 1) 0 ≡ codeOf DECLINED → ⊥) → (getD s (at + 1) 0 ≡ codeOf NOT → ⊥)
+        → startValue l (tokensFrom s at) ≡ none
+    no-mark f g h = rw (behind-is, expect-no s (at + 1) (codeOf NULL) f, expect-no s (at + 1) (codeOf DECLINED) g, expect-no s (at + 1) (codeOf NOT) h)
 
     module _ (u : getD s (at + 1) 0 ≡ codeOf NOT) where
-      behind-not-is : startValue l (tokensFrom s at) ≡ (expect NULL (tokensFrom s (at + 2)) >>= (λ rest. some (Whole (Atom (Mark NotNull l)) rest)))
-      behind-not-is = rw (behind-is, expect-no s (at + 1) (codeOf NULL) (λ e. omega arith), expect-to s (at + 1) (codeOf NOT) (at + 2) tt (omega arith) u)
+      behind-not-is :
+          startValue l (tokensFrom s at)
+          ≡ ((expect NULL (tokensFrom s (at + 2)) >>= (λ rest. some (Whole (Atom (Mark NotNull l)) rest)))
+          <|> (expect DECLINED (tokensFrom s (at + 2)) >>= (λ rest. some (Whole (Atom (Mark NotDeclined l)) rest))))
+      behind-not-is =
+          rw (
+            behind-is,
+            expect-no s (at + 1) (codeOf NULL) (λ e. omega arith),
+            expect-no s (at + 1) (codeOf DECLINED) (λ e. omega arith),
+            expect-to s (at + 1) (codeOf NOT) (at + 2) tt (omega arith) u,
+          )
+          (simp or-none)
 
-      pub no-not-null : (getD s (at + 2) 0 ≡ codeOf NULL → ⊥) → startValue l (tokensFrom s at) ≡ none
-      no-not-null f = rw (behind-not-is, expect-no s (at + 2) (codeOf NULL) f)
+      pub no-not-mark : (getD s (at + 2) 0 ≡ codeOf NULL → ⊥) → (getD s (at + 2) 0 ≡ codeOf DECLINED → ⊥) → startValue l (tokensFrom s at) ≡ none
+      no-not-mark f g = rw (behind-not-is, expect-no s (at + 2) (codeOf NULL) f, expect-no s (at + 2) (codeOf DECLINED) g)
 
       pub not-null-found : getD s (at + 2) 0 ≡ codeOf NULL → startValue l (tokensFrom s at) ≡ some (Whole (Atom (Mark NotNull l)) (tokensFrom s (at + 3)))
       not-null-found w = rw (behind-not-is, expect-to s (at + 2) (codeOf NULL) (at + 3) tt (omega arith) w)
+
+      pub not-declined-found : getD s (at + 2) 0 ≡ codeOf DECLINED → startValue l (tokensFrom s at) ≡ some (Whole (Atom (Mark NotDeclined l)) (tokensFrom s (at + 3)))
+      not-declined-found w =
+          rw (behind-not-is, expect-no s (at + 2) (codeOf NULL) (λ e. omega arith), expect-to s (at + 2) (codeOf DECLINED) (at + 3) tt (omega arith) w)
 
   -- a comparison
   module _ (low : comparesCode < getD s at 0) (high : getD s at 0 < letterCode) where
@@ -174,11 +200,20 @@ module _ (l : NotedValue) (s : List ℕ) (at : ℕ) where
     pub a-null : getD s (at + 1) 0 ≡ codeOf NULL → noteNumbers note ≡ leftNumbers (markKind Null) l → WholeIs s at (startValue (writtenOf l) (tokensFrom s at)) note (at + 2)
     a-null u e = a-mark Null note (at + 2) (null-found (writtenOf l) s at is u) e (moved s at (at + 1) (at + 2) (omega arith) (omega arith) (omega arith))
 
-    pub a-not-null :
-        getD s (at + 1) 0 ≡ codeOf NOT → getD s (at + 2) 0 ≡ codeOf NULL → noteNumbers note ≡ leftNumbers (markKind NotNull) l
-        → WholeIs s at (startValue (writtenOf l) (tokensFrom s at)) note (at + 3)
-    a-not-null u w e =
-        a-mark NotNull note (at + 3) (not-null-found (writtenOf l) s at is u w) e (moved s at (at + 2) (at + 3) (omega arith) (omega arith) (omega arith))
+    pub a-declined :
+        getD s (at + 1) 0 ≡ codeOf DECLINED → noteNumbers note ≡ leftNumbers (markKind IsDeclined) l → WholeIs s at (startValue (writtenOf l) (tokensFrom s at)) note (at + 2)
+    a-declined u e =
+        a-mark IsDeclined note (at + 2) (declined-found (writtenOf l) s at is u) e (moved s at (at + 1) (at + 2) (omega arith) (omega arith) (omega arith))
+
+    module _ (u : getD s (at + 1) 0 ≡ codeOf NOT) where
+      pub a-not-null : getD s (at + 2) 0 ≡ codeOf NULL → noteNumbers note ≡ leftNumbers (markKind NotNull) l → WholeIs s at (startValue (writtenOf l) (tokensFrom s at)) note (at + 3)
+      a-not-null w e =
+          a-mark NotNull note (at + 3) (not-null-found (writtenOf l) s at is u w) e (moved s at (at + 2) (at + 3) (omega arith) (omega arith) (omega arith))
+
+      pub a-not-declined :
+          getD s (at + 2) 0 ≡ codeOf DECLINED → noteNumbers note ≡ leftNumbers (markKind NotDeclined) l → WholeIs s at (startValue (writtenOf l) (tokensFrom s at)) note (at + 3)
+      a-not-declined w e =
+          a-mark NotDeclined note (at + 3) (not-declined-found (writtenOf l) s at is u w) e (moved s at (at + 2) (at + 3) (omega arith) (omega arith) (omega arith))
 
   -- a comparison with the value that stands here
   module _ (c : ℕ) (op : IsComparison c) (r : NotedValue) (next : ℕ) (v : ValueIs s at r next) where

@@ -10,6 +10,7 @@ ghost use Rattle.lexer.specs.Code.{mostTokens, comparesCode, letterCode, codeOf
 ghost use Rattle.phrases.specs.Code.{notedSize, notedNumbers, notedAt, unusedNoted, noteNumbers, leftNumbers, ValueAt, FromAt, ListAt, ComparisonAt, FollowedAt, IsComparison, BehindAt, TestAt, TruthWordAt, TruthTestAt};
 use lexer::ALL;
 use lexer::COMPARES;
+use lexer::DECLINED;
 use lexer::EXISTS;
 use lexer::FALSE;
 use lexer::FROM;
@@ -27,6 +28,7 @@ use lexer::UNKNOWN;
 use lexer::WHERE;
 use rule::ALL_PART;
 use rule::COMPARISON_PART;
+use rule::DECLINED_PART;
 use rule::EXISTS_PART;
 use rule::IS_FALSE_PART;
 use rule::IS_NOT_FALSE_PART;
@@ -34,6 +36,7 @@ use rule::IS_NOT_TRUE_PART;
 use rule::IS_NOT_UNKNOWN_PART;
 use rule::IS_TRUE_PART;
 use rule::IS_UNKNOWN_PART;
+use rule::NOT_DECLINED_PART;
 use rule::NOT_NULL_PART;
 use rule::NULL_PART;
 use rule::SOME_PART;
@@ -212,8 +215,8 @@ fn start_list(s: &[usize], at: usize, kind: usize, comparison: usize, left: Note
     Start::Around { note, next }
 }
 
-// IS NULL or IS NOT NULL, from the IS on that follows a value.
-fn start_null(s: &[usize], at: usize, left: NotedValue) -> Start
+// IS NULL, IS DECLINED, IS NOT NULL or IS NOT DECLINED, from the IS on that follows a value.
+fn start_mark(s: &[usize], at: usize, left: NotedValue) -> Start
     requires { ⌜ length (now s) ≤ mostTokens ⌝ ∗ ⌜ at < length (now s) ⌝ ∗ ⌜ getD (now s) at 0 ≡ codeOf IS ⌝ }
     ensures { λ r. ⌜ FollowedAt (now (s .entry)) at left r ⌝ }
 {
@@ -224,19 +227,32 @@ fn start_null(s: &[usize], at: usize, left: NotedValue) -> Start
             next: at + 2,
         };
     }
+    if t == DECLINED {
+        return Start::Whole {
+            note: left_note(DECLINED_PART, left),
+            next: at + 2,
+        };
+    }
     if t != NOT {
         return Start::NoTest;
     }
-    if token(s, at + 2) != NULL {
+    let u = token(s, at + 2);
+    if u == NULL {
+        return Start::Whole {
+            note: left_note(NOT_NULL_PART, left),
+            next: at + 3,
+        };
+    }
+    if u != DECLINED {
         return Start::NoTest;
     }
     Start::Whole {
-        note: left_note(NOT_NULL_PART, left),
+        note: left_note(NOT_DECLINED_PART, left),
         next: at + 3,
     }
 }
 
-// What a part says that has a left value and no other, as IS NULL and IS NOT NULL.
+// What a part says that has a left value and no other, as the tests by the mark.
 pub fn left_note(kind: usize, left: NotedValue) -> Note
     ensures { λ r. ⌜ noteNumbers r ≡ leftNumbers kind left ⌝ }
 {
@@ -350,7 +366,7 @@ fn start_value(s: &[usize], at: usize, left: NotedValue) -> Start
     ensures { λ r. ⌜ FollowedAt (now (s .entry)) at left r ⌝ }
 {
     if token(s, at) == IS {
-        return start_null(s, at, left);
+        return start_mark(s, at, left);
     }
     let behind = read_behind(s, at);
     match behind {

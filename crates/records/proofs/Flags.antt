@@ -3,7 +3,7 @@ use mathlib.Core.Path.{_≡_, refl, sym, ap, _∙_}
 use mathlib.Core.Bool.{Bool, true, false, not, cond, Bool·beq, false≢true}
 use Prim.Native.Nat.{ℕ, _<_}
 use native.Mathlib.Omega.{arith}
-use Rattle.tables.specs.Values.{Comparison, Eq, Ne, Lt, Le, Gt, Ge, comparisonNumber, comparisonOf, Connective, MarkTest, Null, NotNull}
+use Rattle.tables.specs.Values.{Comparison, Eq, Ne, Lt, Le, Gt, Ge, comparisonNumber, comparisonOf, Connective, MarkTest, Null, NotNull, IsDeclined, NotDeclined}
 use Rattle.card.specs.Card.{AsNo, AsYes}
 use Rattle.card.specs.Layout.{pairKind, comparisonKind, markKind}
 use Rattle.rule.specs.Parts.{joinKind, markKind as partMark}
@@ -71,6 +71,8 @@ compare-kind-small true true = omega arith
 pub mark-small : (m : MarkTest) → markKind m < 256
 mark-small Null = omega arith
 mark-small NotNull = omega arith
+mark-small IsDeclined = omega arith
+mark-small NotDeclined = omega arith
 
 pub row-small : (every : Bool) → rowKindAs every < 256
 row-small false = omega arith

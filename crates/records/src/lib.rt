@@ -16,9 +16,11 @@ use card::BLANK;
 use card::COMPARISON_OR_NO;
 use card::COMPARISON_OR_YES;
 use card::COMPARISON_PLACE;
+use card::DECLINED;
 use card::EVERY_ROW;
 use card::LEFT_PLACE;
 use card::NOT_BLANK;
+use card::NOT_DECLINED;
 use card::OR_ENTRY;
 use card::RECORD_SIZE;
 use card::RIGHT_PLACE;
@@ -26,6 +28,8 @@ use card::SOME_ROW;
 use card::TABLE_PLACE;
 use cells::EXCESS;
 use rule::AND_PART;
+use rule::DECLINED_PART;
+use rule::NOT_DECLINED_PART;
 use rule::NOT_NULL_PART;
 use rule::NULL_PART;
 use rule::OR_PART;
@@ -169,7 +173,7 @@ pub fn compare_kind(negate: bool, unknown: bool) -> usize
     either(negate == unknown, COMPARISON_OR_NO, COMPARISON_OR_YES)
 }
 
-// Blank and not blank, from IS NULL and IS NOT NULL, which negating swaps.
+// Blank and not blank, from IS NULL and IS NOT NULL, which negating swaps; and declined and not declined likewise.
 pub fn mark_kind(kind: usize, negate: bool) -> usize
     requires { ⌜ MarkNumber kind ⌝ }
     ensures { λ r. ⌜ MarkedAs negate kind r ⌝ }
@@ -177,6 +181,8 @@ pub fn mark_kind(kind: usize, negate: bool) -> usize
     match kind {
         NULL_PART => either(negate, NOT_BLANK, BLANK),
         NOT_NULL_PART => either(negate, BLANK, NOT_BLANK),
+        DECLINED_PART => either(negate, NOT_DECLINED, DECLINED),
+        NOT_DECLINED_PART => either(negate, DECLINED, NOT_DECLINED),
         _ => {
             cells::never();
             BLANK

@@ -4,7 +4,7 @@ use Prim.Native.Nat.{ℕ}
 use lib.IntN.{ℤ}
 use Rattle.rule.specs.Tokens.{Token, Letter, Number}
 use Rattle.rule.specs.Condition.{Unary, From, WrittenValue, Plain, Named, Source, Over, WrittenCondition}
-use Rattle.rule.specs.Grammar.{Tokens, IsValue, number, column, IsFrom, single, IsTruthTest, is-truth, is-not-truth, IsCondition, one-conjunction, joined-by-or, IsConjunction, one-factor, joined-by-and, IsFactor, not-factor, one-test, IsTest, bracketed, truth-tested, exists, is-null, is-not-null, compared, some-of, all-of, is-in, not-in, IsList, list}
+use Rattle.rule.specs.Grammar.{Tokens, IsValue, number, column, IsFrom, single, IsTruthTest, is-truth, is-not-truth, IsCondition, one-conjunction, joined-by-or, IsConjunction, one-factor, joined-by-and, IsFactor, not-factor, one-test, IsTest, bracketed, truth-tested, exists, is-null, is-not-null, is-declined, is-not-declined, compared, some-of, all-of, is-in, not-in, IsList, list}
 use Rattle.rule.specs.Throughout.{FromThroughout, Throughout}
 
 abbrev pub EachToken : (Token → Type 0) → Tokens → Type 0
@@ -48,6 +48,8 @@ module _ (P : Token → Type 0) (Q : WrittenValue → Type 0) (R : Source → Ty
     test-carried (exists g r) f = let x = from-carried g (f .1 .1 .1) in let y = condition-carried r (x .1 .1) in ((x .0, y .0), y .1 .1)
     test-carried (is-null v) f = let x = value-carried v f in (x .0, x .1 .1 .1)
     test-carried (is-not-null v) f = let x = value-carried v f in (x .0, x .1 .1 .1 .1)
+    test-carried (is-declined v) f = let x = value-carried v f in (x .0, x .1 .1 .1)
+    test-carried (is-not-declined v) f = let x = value-carried v f in (x .0, x .1 .1 .1 .1)
     test-carried (compared v w) f = let x = value-carried v f in let y = value-carried w (x .1 .1) in ((x .0, y .0), y .1)
     test-carried (some-of v r) f = let x = value-carried v f in let y = list-carried r (x .1 .1 .1) in ((x .0, y .0, y .1, y .2), y .3)
     test-carried (all-of v r) f = let x = value-carried v f in let y = list-carried r (x .1 .1 .1) in ((x .0, y .0, y .1, y .2), y .3)

@@ -2,8 +2,8 @@
 use mathlib.Core.Path.{_≡_, refl}
 use mathlib.Core.Bool.{Bool, true, false, not}
 use Rattle.rule.specs.Truth.{truth, isUnknown, isThat}
-use Rattle.rule.specs.Cases.{judgedAt, partsRead, everyWord, chained, unknownOf, edges}
-use Rattle.rule.specs.Claims.{CasesClaim, PartsCasesClaim, TestsClaim, OrderClaim, WordsClaim, EdgesClaim, ConnectivesClaim, TruthTestsClaim}
+use Rattle.rule.specs.Cases.{judgedAt, declinedAt, partsRead, everyWord, chained, unknownOf, edges}
+use Rattle.rule.specs.Claims.{CasesClaim, PartsCasesClaim, TestsClaim, DeclinedTestsClaim, OrderClaim, WordsClaim, EdgesClaim, ConnectivesClaim, TruthTestsClaim}
 use Rattle.rule.proofs.Opened.{opened}
 
 -- "Cases 1 to 12 are proved together, as one tabulated fact over the definitions": from texts and bytes, through what JUDGE answers
@@ -32,6 +32,10 @@ words-claim = refl
 pub tests-claim : TestsClaim
 unfolding opened judgedAt
 tests-claim = refl
+
+pub declined-tests-claim : DeclinedTestsClaim
+unfolding opened declinedAt
+declined-tests-claim = refl
 
 pub order-claim : OrderClaim
 unfolding opened

@@ -63,7 +63,7 @@ number-fits text = go (firstNumber text) refl
 first-fits : (b : ℕ) (bs : List ℕ) → Every LexedFits (firstToken b bs)
 unfolding firstToken words signs
 first-fits b bs =
-    either LexedFits (isCapital b) (word-fits words (takeWhile isCapital (b ∷ bs)) (tt, (tt, (tt, (tt, (tt, (tt, (tt, (tt, (tt, (tt, (tt, (tt, (tt, (tt, (tt, tt))))))))))))))))
+    either LexedFits (isCapital b) (word-fits words (takeWhile isCapital (b ∷ bs)) (tt, (tt, (tt, (tt, (tt, (tt, (tt, (tt, (tt, (tt, (tt, (tt, (tt, (tt, (tt, (tt, tt)))))))))))))))))
     (either LexedFits (isSmall b) (there tt)
     (either LexedFits (isDigit b || eqb b minus) (number-fits (b ∷ bs)) (sign-fits signs (b ∷ bs) (tt, (tt, (tt, (tt, (tt, (tt, (tt, (tt, (tt, tt))))))))))))
 

@@ -9,11 +9,11 @@ use lib.Dec.{eqb}
 use lib.IntN.{ℤ}
 use borrow.Author.Tests.{eqb-true}
 use Rattle.tables.specs.Lists.{only, _>>=_, _<|>_}
-use Rattle.tables.specs.Values.{Comparison, Eq, Ne, Quantifier, Some, All, Null, NotNull}
-use Rattle.rule.specs.Tokens.{Token, Fixed, Compares, Letter, Number, AND, OR, NOT, EXISTS, IN, SOME, ALL, IS, NULL, SELECT, FROM, WHERE, Open, Close, Point, TRUE, FALSE, UNKNOWN}
+use Rattle.tables.specs.Values.{Comparison, Eq, Ne, Quantifier, Some, All, Null, NotNull, IsDeclined, NotDeclined}
+use Rattle.rule.specs.Tokens.{Token, Fixed, Compares, Letter, Number, AND, OR, NOT, EXISTS, IN, SOME, ALL, IS, NULL, SELECT, FROM, WHERE, Open, Close, Point, TRUE, FALSE, UNKNOWN, DECLINED}
 use Rattle.rule.specs.Truth.{Truth, False, Unknown, True}
 use Rattle.rule.specs.Condition.{Compare, Mark, Unary, Is, IsNot, From, Single, Atom, Apply, Listed, WrittenValue, Plain, Named, Source, Over, WrittenCondition}
-use Rattle.rule.specs.Grammar.{Tokens, IsValue, number, column, IsFrom, single, IsTruth, is-true, is-false, is-unknown, IsTruthTest, is-truth, is-not-truth, IsCondition, IsTest, bracketed, truth-tested, exists, is-null, is-not-null, compared, some-of, all-of, is-in, not-in, IsList, list}
+use Rattle.rule.specs.Grammar.{Tokens, IsValue, number, column, IsFrom, single, IsTruth, is-true, is-false, is-unknown, IsTruthTest, is-truth, is-not-truth, IsCondition, IsTest, bracketed, truth-tested, exists, is-null, is-not-null, is-declined, is-not-declined, compared, some-of, all-of, is-in, not-in, IsList, list}
 use Rattle.rule.specs.Reader.{expect, readNumber, readLetter, readComparison, readValue, readFrom, Opening, Bracket, OfList, closed, Start, Whole, Around, startList, startValue, start, Found, branch, readTruth, readTruthTest, truthTested, ended}
 
 module _ {A : Type 0} where
@@ -179,9 +179,11 @@ module _ (l : WrittenValue) where
   value-promised : (us : Tokens) → Behind us (startValue l us)
   unfolding startValue
   value-promised us =
-      or-ind (Behind us) _ _ (or-ind (Behind us) _ _ (or-ind (Behind us) _ _ (or-ind (Behind us) _ _ (or-ind (Behind us) _ _ (or-ind (Behind us) _ _
+      or-ind (Behind us) _ _ (or-ind (Behind us) _ _ (or-ind (Behind us) _ _ (or-ind (Behind us) _ _ (or-ind (Behind us) _ _ (or-ind (Behind us) _ _ (or-ind (Behind us) _ _ (or-ind (Behind us) _ _
       (expect-at Behind (λ _ _ _. nothing) 8 _ (λ vs. expect-at (λ ws o. Behind (IS ∷ ws) o) (λ _ _ _. nothing) 9 _ (λ rest ts v. whole (is-null v)) vs) us)
       (expect-at Behind (λ _ _ _. nothing) 8 _ (λ vs. expect-at (λ ws o. Behind (IS ∷ ws) o) (λ _ _ _. nothing) 3 _ (λ ws. expect-at (λ xs o. Behind (IS ∷ NOT ∷ xs) o) (λ _ _ _. nothing) 9 _ (λ rest ts v. whole (is-not-null v)) ws) vs) us))
+      (expect-at Behind (λ _ _ _. nothing) 8 _ (λ vs. expect-at (λ ws o. Behind (IS ∷ ws) o) (λ _ _ _. nothing) 19 _ (λ rest ts v. whole (is-declined v)) vs) us))
+      (expect-at Behind (λ _ _ _. nothing) 8 _ (λ vs. expect-at (λ ws o. Behind (IS ∷ ws) o) (λ _ _ _. nothing) 3 _ (λ ws. expect-at (λ xs o. Behind (IS ∷ NOT ∷ xs) o) (λ _ _ _. nothing) 19 _ (λ rest ts v. whole (is-not-declined v)) ws) vs) us))
       (comparison-at Behind (λ _ _ _. nothing) _ (λ op vs. value-at (λ ws o. Behind (Compares op ∷ ws) o) (λ _ _ _. nothing) _ (λ r ws rest is ts v. whole (compared v is)) vs) us))
       (comparison-at Behind (λ _ _ _. nothing) _ (λ op vs. expect-at (λ ws o. Behind (Compares op ∷ ws) o) (λ _ _ _. nothing) 6 _ (λ ws ts v. list-promised Some op l ts ws (λ s f w rest is. some-of v is)) vs) us))
       (comparison-at Behind (λ _ _ _. nothing) _ (λ op vs. expect-at (λ ws o. Behind (Compares op ∷ ws) o) (λ _ _ _. nothing) 7 _ (λ ws ts v. list-promised All op l ts ws (λ s f w rest is. all-of v is)) vs) us))
@@ -285,6 +287,14 @@ null-found v = start-value v is-after
 pub not-null-found : {ts rest : Tokens} {l : WrittenValue} → IsValue ts l (IS ∷ NOT ∷ NULL ∷ rest) → start ts ≡ some (Whole (Atom (Mark NotNull l)) rest)
 unfolding startValue expect
 not-null-found v = start-value v is-after
+
+pub declined-found : {ts rest : Tokens} {l : WrittenValue} → IsValue ts l (IS ∷ DECLINED ∷ rest) → start ts ≡ some (Whole (Atom (Mark IsDeclined l)) rest)
+unfolding startValue expect
+declined-found v = start-value v is-after
+
+pub not-declined-found : {ts rest : Tokens} {l : WrittenValue} → IsValue ts l (IS ∷ NOT ∷ DECLINED ∷ rest) → start ts ≡ some (Whole (Atom (Mark NotDeclined l)) rest)
+unfolding startValue expect
+not-declined-found v = start-value v is-after
 
 or-left : {A : Type 0} (o o′ : Option A) {x : A} → o ≡ some x → (o <|> o′) ≡ some x
 or-left o o′ e = ap (_<|> o′) e

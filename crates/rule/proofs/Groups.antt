@@ -6,11 +6,11 @@ use Prim.Native.Nat.{ℕ, _≤_}
 use native.Mathlib.Nat.{eq-or-lt-of-le}
 use native.Mathlib.Omega.{arith}
 use Rattle.tables.specs.Lists.{numbered}
-use Rattle.tables.specs.Values.{Connective, And, Or, Some, All, MarkTest, Null, NotNull}
+use Rattle.tables.specs.Values.{Connective, And, Or, Some, All, MarkTest, Null, NotNull, IsDeclined, NotDeclined}
 use Rattle.rule.specs.Truth.{False, Unknown, True}
 use Rattle.rule.specs.Condition.{Unary, Not, Is, IsNot}
 use Rattle.rule.specs.Parts.{Kind, JoinKind, UnaryKind, CompareKind, MarkKind, ExistsKind, ListKind, joinKind, unaryKind, compareKind, markKind, existsKind, listKind, kindNumber, kinds}
-use Rattle.rule.specs.Groups.{KindNumber, lastKind, JoinNumber, UnaryNumber, MarkNumber, TestNumber, ListNumber, FromNumber}
+use Rattle.rule.specs.Groups.{KindNumber, lastKind, JoinNumber, UnaryNumber, UnknownNumber, MarkNumber, TestNumber, ListNumber, FromNumber}
 use Rattle.rule.proofs.Parts.{kind-back}
 
 pub same-kind : (k l : Kind) → kindNumber k ≡ kindNumber l → k ≡ l
@@ -66,21 +66,47 @@ truth-number n low high =
 pub some-unary : {n : ℕ} → UnaryNumber n → (n ≡ unaryKind Not → ⊥) → (TruthBounds n → ⊥) → ⊥
 some-unary u f g = ⊎-elim f g (unary-is u)
 
--- tests
-mark-bounds : (n : ℕ) → MarkNumber n → (markKind Null ≤ n) × (n ≤ markKind NotNull)
-mark-bounds n (Null, e) = (omega arith, omega arith)
-mark-bounds n (NotNull, e) = (omega arith, omega arith)
+pub unknown-number : (n : ℕ) → unaryKind (Is Unknown) ≤ n → n ≤ unaryKind (IsNot Unknown) → UnknownNumber n
+unknown-number n low high = ⊎-elim (λ e. inl (sym e)) (λ l. inr (omega arith)) (eq-or-lt-of-le low)
+
+-- tests by the mark: those for blank cells, and those for declined ones
+abbrev NullBounds : ℕ → Type 0
+NullBounds n = (markKind Null ≤ n) × (n ≤ markKind NotNull)
+
+abbrev pub DeclinedBounds : ℕ → Type 0
+DeclinedBounds n = (markKind IsDeclined ≤ n) × (n ≤ markKind NotDeclined)
+
+mark-is : {n : ℕ} → MarkNumber n → NullBounds n ⊎ DeclinedBounds n
+mark-is (Null, e) = inl (omega arith, omega arith)
+mark-is (NotNull, e) = inl (omega arith, omega arith)
+mark-is (IsDeclined, e) = inr (omega arith, omega arith)
+mark-is (NotDeclined, e) = inr (omega arith, omega arith)
+
+mark-bounds : (n : ℕ) → MarkNumber n → (joinKind And ≤ n) × (n ≤ lastKind)
+mark-bounds n m = ⊎-elim (λ b. (omega arith, omega arith)) (λ b. (omega arith, omega arith)) (mark-is m)
 
 pub mark-number : (n : ℕ) → markKind Null ≤ n → n ≤ markKind NotNull → MarkNumber n
 mark-number n low high = ⊎-elim (λ e. (Null, sym e)) (λ l. (NotNull, omega arith)) (eq-or-lt-of-le low)
 
-pub some-mark : {n : ℕ} → MarkNumber n → (n ≡ markKind Null → ⊥) → (n ≡ markKind NotNull → ⊥) → ⊥
-some-mark (Null, e) f g = f e
-some-mark (NotNull, e) f g = g e
+pub declined-number : (n : ℕ) → markKind IsDeclined ≤ n → n ≤ markKind NotDeclined → MarkNumber n
+declined-number n low high = ⊎-elim (λ e. (IsDeclined, sym e)) (λ l. (NotDeclined, omega arith)) (eq-or-lt-of-le low)
 
-pub test-bounds : (n : ℕ) → TestNumber n → (compareKind ≤ n) × (n ≤ markKind NotNull)
-test-bounds n (inl e) = (omega arith, omega arith)
-test-bounds n (inr m) = (omega (arith, mark-bounds n m), omega (arith, mark-bounds n m))
+pub some-mark : {n : ℕ} → MarkNumber n → (n ≡ markKind Null → ⊥) → (n ≡ markKind NotNull → ⊥) → (n ≡ markKind IsDeclined → ⊥) → (n ≡ markKind NotDeclined → ⊥) → ⊥
+some-mark (Null, e) f g h k = f e
+some-mark (NotNull, e) f g h k = g e
+some-mark (IsDeclined, e) f g h k = h e
+some-mark (NotDeclined, e) f g h k = k e
+
+-- tests: the comparison and the tests for blank cells follow one another, and those for declined cells stand apart
+abbrev pub TestBounds : ℕ → Type 0
+TestBounds n = (compareKind ≤ n) × (n ≤ markKind NotNull)
+
+pub test-is : {n : ℕ} → TestNumber n → TestBounds n ⊎ DeclinedBounds n
+test-is (inl e) = inl (omega arith, omega arith)
+test-is (inr m) = ⊎-elim (λ b. inl (omega arith, omega arith)) (λ b. inr b) (mark-is m)
+
+pub some-test : {n : ℕ} → TestNumber n → (TestBounds n → ⊥) → (DeclinedBounds n → ⊥) → ⊥
+some-test t f g = ⊎-elim f g (test-is t)
 
 pub test-number : (n : ℕ) → compareKind ≤ n → n ≤ markKind NotNull → TestNumber n
 test-number n low high = ⊎-elim (λ e. inl (sym e)) (λ l. inr (mark-number n l high)) (eq-or-lt-of-le low)

@@ -14,3 +14,4 @@ pub mod Accepted
 pub mod Calls
 pub mod Truths
 pub mod Arithmetic
+pub mod Marks

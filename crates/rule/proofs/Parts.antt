@@ -7,7 +7,7 @@ use native.Mathlib.Omega.{arith}
 use borrow.Author.Tests.{ne-eqb}
 use lib.ListN.{length, length-append}
 use Rattle.tables.specs.Lists.{numbered}
-use Rattle.tables.specs.Values.{Value, Constant, Column, And, Or, Some, All, Null, NotNull}
+use Rattle.tables.specs.Values.{Value, Constant, Column, And, Or, Some, All, Null, NotNull, IsDeclined, NotDeclined}
 use Rattle.tables.proofs.Values.{comparison-back}
 use Rattle.rule.specs.Truth.{False, Unknown, True}
 use Rattle.rule.specs.Condition.{Compare, Mark, Not, Is, IsNot, From, Single, Atom, Join, Apply, Exists, Listed, Rule, parts, letters, fromsDeep}
@@ -35,6 +35,8 @@ kind-back (UnaryKind (IsNot Unknown)) = refl
 kind-back CompareKind = refl
 kind-back (MarkKind Null) = refl
 kind-back (MarkKind NotNull) = refl
+kind-back (MarkKind IsDeclined) = refl
+kind-back (MarkKind NotDeclined) = refl
 kind-back ExistsKind = refl
 kind-back (ListKind Some) = refl
 kind-back (ListKind All) = refl

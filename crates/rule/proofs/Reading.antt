@@ -13,10 +13,10 @@ use Rattle.tables.specs.Lists.{only, _>>=_, _<|>_}
 use Rattle.tables.specs.Values.{Comparison, Eq, Ne, And, Or, Quantifier, Some, All}
 use Rattle.rule.specs.Tokens.{Fixed, Compares, Letter, Number, AND, OR, NOT, EXISTS, FROM, WHERE, Open, Close}
 use Rattle.rule.specs.Condition.{Unary, Not, From, Join, Apply, WrittenValue, Source, WrittenCondition}
-use Rattle.rule.specs.Grammar.{Tokens, IsValue, number, column, IsFrom, single, IsTruthTest, is-truth, is-not-truth, IsCondition, one-conjunction, joined-by-or, IsConjunction, one-factor, joined-by-and, IsFactor, not-factor, one-test, IsTest, bracketed, truth-tested, exists, is-null, is-not-null, compared, some-of, all-of, is-in, not-in, IsList, list, Reads}
+use Rattle.rule.specs.Grammar.{Tokens, IsValue, number, column, IsFrom, single, IsTruthTest, is-truth, is-not-truth, IsCondition, one-conjunction, joined-by-or, IsConjunction, one-factor, joined-by-and, IsFactor, not-factor, one-test, IsTest, bracketed, truth-tested, exists, is-null, is-not-null, is-declined, is-not-declined, compared, some-of, all-of, is-in, not-in, IsList, list, Reads}
 use Rattle.rule.specs.Reader.{expect, readValue, Opening, Bracket, OfExists, OfList, closed, Start, Whole, Around, startList, start, Goal, condition, conjunction, factor, test, more-or, more-and, Found, branch, started, ended, closing, read, depthFor, reading, atEnd, readAll}
 use Rattle.rule.specs.Claims.{ReadingClaim}
-use Rattle.rule.proofs.Found.{bind-ind, expect-at, branch-at, TestFound, no-test, a-test, Promised, nothing, whole, around, start-promised, AfterCondition, end-after, close-after, or-after, AfterTest, condition-ends, and-after, no-and, untested, tested-found, null-found, not-null-found, compared-found, from-found, list-found, some-found, all-found, in-found, not-in-found}
+use Rattle.rule.proofs.Found.{bind-ind, expect-at, branch-at, TestFound, no-test, a-test, Promised, nothing, whole, around, start-promised, AfterCondition, end-after, close-after, or-after, AfterTest, condition-ends, and-after, no-and, untested, tested-found, null-found, not-null-found, declined-found, not-declined-found, compared-found, from-found, list-found, some-found, all-found, in-found, not-in-found}
 
 -- ---- a reading of the function is one of the grammar
 
@@ -113,6 +113,8 @@ mutual
   test-inside (exists f r) = omega (arith, from-inside f, condition-inside r)
   test-inside (is-null v) = omega (arith, value-inside v)
   test-inside (is-not-null v) = omega (arith, value-inside v)
+  test-inside (is-declined v) = omega (arith, value-inside v)
+  test-inside (is-not-declined v) = omega (arith, value-inside v)
   test-inside (compared v w) = omega (arith, value-inside v, value-inside w)
   test-inside (some-of v r) = omega (arith, value-inside v, list-inside r)
   test-inside (all-of v r) = omega (arith, value-inside v, list-inside r)
@@ -181,6 +183,10 @@ no-not (is-null number) = refl
 no-not (is-null column) = refl
 no-not (is-not-null number) = refl
 no-not (is-not-null column) = refl
+no-not (is-declined number) = refl
+no-not (is-declined column) = refl
+no-not (is-not-declined number) = refl
+no-not (is-not-declined column) = refl
 no-not (compared number w) = refl
 no-not (compared column w) = refl
 no-not (some-of number r) = refl
@@ -273,6 +279,8 @@ mutual
       around-step d (OfExists f) _ us h (omega (arith, from-inside is)) (exists-start is) (λ e g. closes (condition-goes r e g close-after))
   test-read {ts} (is-null v) d h k = whole-step d ts h (null-found v)
   test-read {ts} (is-not-null v) d h k = whole-step d ts h (not-null-found v)
+  test-read {ts} (is-declined v) d h k = whole-step d ts h (declined-found v)
+  test-read {ts} (is-not-declined v) d h k = whole-step d ts h (not-declined-found v)
   test-read {ts} (compared v w) d h k = whole-step d ts h (compared-found v w k)
   test-read {ts} (some-of {op = op} {l = l} {s = s} {f = f} v r) d h k =
       let q = list-read r in

@@ -9,7 +9,7 @@ use native.Mathlib.Omega.{arith}
 use lib.ListN.{length}
 use Rattle.tables.specs.Lists.{only, _>>=_}
 use Rattle.tables.specs.Values.{Comparison, Eq, Ne, Connective, And, Or, Quantifier, Some, All}
-use Rattle.rule.specs.Tokens.{Token, isFixed, Fixed, Compares, Letter, Number, AND, OR, NOT, EXISTS, IN, SOME, ALL, IS, NULL, SELECT, FROM, WHERE, Open, Point}
+use Rattle.rule.specs.Tokens.{Token, isFixed, Fixed, Compares, Letter, Number, AND, OR, NOT, EXISTS, IN, SOME, ALL, IS, NULL, DECLINED, SELECT, FROM, WHERE, Open, Point}
 use Rattle.rule.specs.Condition.{Not, Join, Apply, WrittenValue, WrittenCondition}
 use Rattle.rule.specs.Grammar.{Tokens}
 use Rattle.rule.specs.Reader.{expect, readNumber, readLetter, readComparison, readValue, readFrom, Opening, Start, Whole, Around, startList, startValue, start, Goal, condition, conjunction, factor, test, more-or, more-and, chain, operand, more, joinWord, Found, branch, started, closing, read, depthFor, reading, atEnd, readAll}
@@ -101,9 +101,11 @@ list-begun n q op l ts h =
 value-begun : (n : ℕ) (l : WrittenValue) (ts : Tokens) → length ts < n → Begun n (startValue l ts)
 unfolding startValue
 value-begun n l ts h =
-    or-ind (Begun n) _ _ (or-ind (Begun n) _ _ (or-ind (Begun n) _ _ (or-ind (Begun n) _ _ (or-ind (Begun n) _ _ (or-ind (Begun n) _ _
+    or-ind (Begun n) _ _ (or-ind (Begun n) _ _ (or-ind (Begun n) _ _ (or-ind (Begun n) _ _ (or-ind (Begun n) _ _ (or-ind (Begun n) _ _ (or-ind (Begun n) _ _ (or-ind (Begun n) _ _
     (bind-ind (Begun n) (expect IS ts) _ nothing (λ us e. bind-ind (Begun n) (expect NULL us) _ nothing (λ vs f. whole)))
     (bind-ind (Begun n) (expect IS ts) _ nothing (λ us e. bind-ind (Begun n) (expect NOT us) _ nothing (λ vs f. bind-ind (Begun n) (expect NULL vs) _ nothing (λ ws g. whole)))))
+    (bind-ind (Begun n) (expect IS ts) _ nothing (λ us e. bind-ind (Begun n) (expect DECLINED us) _ nothing (λ vs f. whole))))
+    (bind-ind (Begun n) (expect IS ts) _ nothing (λ us e. bind-ind (Begun n) (expect NOT us) _ nothing (λ vs f. bind-ind (Begun n) (expect DECLINED vs) _ nothing (λ ws g. whole)))))
     (bind-ind (Begun n) (readComparison ts) _ nothing (λ c e. bind-ind (Begun n) (readValue (c .1)) _ nothing (λ r f. whole))))
     (bind-ind (Begun n) (readComparison ts) _ nothing (λ c e. bind-ind (Begun n) (expect SOME (c .1)) _ nothing (λ us f.
     list-begun n Some (c .0) l us (omega (arith, under (length ts) (readComparison ts) c e (comparison-under ts), expect-under SOME (c .1) us f))))))

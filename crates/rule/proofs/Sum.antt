@@ -5,7 +5,7 @@ use mathlib.Core.List.{List, [], _∷_, _++_}
 use Prim.Native.Nat.{ℕ, _+_, _*_, _≤_, _<_, _-_}
 use native.Mathlib.Omega.{arith}
 use borrow.Author.Tests.{leb-true, leb-false, le-leb, lt-leb}
-use Rattle.tables.specs.Values.{mostEntries, Connective, And, Or, Some, All, Null, NotNull}
+use Rattle.tables.specs.Values.{mostEntries, Connective, And, Or, Some, All, Null, NotNull, IsDeclined, NotDeclined}
 use Rattle.rule.specs.Truth.{Truth, False, Unknown, True}
 use Rattle.rule.specs.Condition.{Compare, Mark, Unary, Not, Is, IsNot, Single, Atom, Join, Apply, Exists, Listed, Rule, parts}
 use Rattle.rule.specs.Parts.{UnaryHead, unaryKind, listKind, partOf, partsFrom}
@@ -94,6 +94,8 @@ unfolding ofKind partsFrom unaries lists
 kinds-are (Atom (Compare op l r)) k = (refl, refl)
 kinds-are (Atom (Mark Null l)) k = (refl, refl)
 kinds-are (Atom (Mark NotNull l)) k = (refl, refl)
+kinds-are (Atom (Mark IsDeclined l)) k = (refl, refl)
+kinds-are (Atom (Mark NotDeclined l)) k = (refl, refl)
 kinds-are (Join And a b) k = let h = both And a b k (kinds-are a (k + 1)) (kinds-are b (k + 1 + parts a)) in (omega arith, omega arith)
 kinds-are (Join Or a b) k = let h = both Or a b k (kinds-are a (k + 1)) (kinds-are b (k + 1 + parts a)) in (omega arith, omega arith)
 kinds-are (Apply u a) k = let h = kinds-are a (k + 1) in let q = unary-counted u (k + (1 + parts a)) (partsFrom (k + 1) a) in (omega arith, omega arith)

@@ -1,5 +1,5 @@
 -- Document 01, Proved cases: the texts and the tables' bytes, and what JUDGE is to answer; Meaning's AND, OR and NOT as tables; and texts at the edges of the
--- refusals of reading. The truth tests of document 02, Point 1: their table, and among the texts, the parts and the edges.
+-- refusals of reading. The truth tests of document 02, Point 1, and the tests for declined cells of Point 4: their tables, and among the texts, the parts and the edges.
 use mathlib.Core.List.{List, [], _∷_, _++_, map}
 use mathlib.Core.Option.{Option}
 use Prim.Native.Nat.{ℕ, zero, suc}
@@ -9,7 +9,8 @@ use Prim.Native.String.{String}
 use Rattle.tables.specs.Bytes.{bytes32}
 use Rattle.tables.specs.Cases.{Edge, _refused_, accepted}
 use Rattle.tables.specs.Refusals.{Answer, Given, firstApplying, Lent}
-use Rattle.tables.specs.Values.{Eq, Ne, Lt, Le, Gt, Ge}
+use Rattle.tables.specs.Tables.{Cell, Blank, Declined, Present}
+use Rattle.tables.specs.Values.{Eq, Ne, Lt, Le, Gt, Ge, MarkTest, Null, NotNull, IsDeclined, NotDeclined}
 use Rattle.rule.specs.Tokens.{bytes, Token, Fixed, Compares, Letter, Number}
 use Rattle.rule.specs.declared.TaggedValue.{TaggedValue}
 use Rattle.rule.specs.declared.Part.{Part}
@@ -57,6 +58,23 @@ truthTestTable =
     ∷ (T ∷ F ∷ T ∷ [])
     ∷ (F ∷ F ∷ T ∷ [])
     ∷ (T ∷ T ∷ F ∷ [])
+    ∷ []
+
+-- ---- the tests by the mark on each sort of cell: a line for each test, a column for a blank cell, a declined one and a present one. Point 4: declined 'is blank in every
+-- respect, IS NULL included', and IS DECLINED and IS NOT DECLINED are 'true or false by the mark; a number is never declined'
+
+abbrev pub markTests : List MarkTest
+markTests = Null ∷ NotNull ∷ IsDeclined ∷ NotDeclined ∷ []
+
+abbrev pub markedCells : List Cell
+markedCells = Blank ∷ Declined ∷ Present (pos 5) ∷ []
+
+abbrev pub markTestTable : List (List Truth)
+markTestTable =
+    (T ∷ T ∷ F ∷ [])
+    ∷ (F ∷ F ∷ T ∷ [])
+    ∷ (F ∷ T ∷ F ∷ [])
+    ∷ (T ∷ F ∷ T ∷ [])
     ∷ []
 
 -- ---- Meaning's sentences on NOT, AND and OR, tabulated: for each value, in the order of `truthValues`, and for each pair, a line for the left value and a column
@@ -149,7 +167,61 @@ testCases =
     ∷ ("m.1 = ALL (SELECT v.1 FROM 2 v WHERE (v.1 IS NULL) IS NOT UNKNOWN)" gives (U ∷ F ∷ F ∷ []))
     ∷ []
 
--- ---- the parts of three rules, in full: kind, comparison, table, end, left and right value
+-- ---- tests of declined cells (document 02, Point 4)
+
+-- as in the tables of the proved cases, but the second column of table 1 holds 5, a blank and a declined cell, and table 2 a 1 and a declined cell; the value bytes of that
+-- one are 1 too, and of the other two 7 and 9, so that a cell which is taken for present gives another value
+abbrev pub declinedTables : List ℕ
+declinedTables =
+    (3 ∷ 2 ∷ 3 ∷ 0 ∷ 1 ∷ 2 ∷ 0 ∷ 1 ∷ 0 ∷ 0 ∷ [])
+    ++ (bytes32 1 ++ bytes32 5 ++ bytes32 2 ++ bytes32 7 ++ bytes32 3 ++ bytes32 9 ++ bytes32 1 ++ bytes32 1)
+    ++ (0 ∷ 0 ∷ 0 ∷ 1 ∷ 0 ∷ 2 ∷ 0 ∷ 2 ∷ [])
+
+-- what JUDGE answers with them at rows 0, 1 and 2
+unfoldable pub declinedAt : Case → List (Answer Truth)
+declinedAt c = map (judgeCall (bytes (c .text)) declinedTables) (0 ∷ 1 ∷ 2 ∷ [])
+
+-- the four tests of a number, a blank and a declined cell; of a constant; comparisons, which are unknown of both; NOT, AND, OR and truth tests around them; in a WHERE, and
+-- as the selected and the left value of a list
+abbrev pub declinedCases : List Case
+declinedCases =
+    ("m.2 IS DECLINED" gives (F ∷ F ∷ T ∷ []))
+    ∷ ("m.2 IS NOT DECLINED" gives (T ∷ T ∷ F ∷ []))
+    ∷ ("m.2 IS NULL" gives (F ∷ T ∷ T ∷ []))
+    ∷ ("m.2 IS NOT NULL" gives (T ∷ F ∷ F ∷ []))
+    ∷ ("5 IS DECLINED" gives (F ∷ F ∷ F ∷ []))
+    ∷ ("5 IS NOT DECLINED" gives (T ∷ T ∷ T ∷ []))
+    ∷ ("m.2 = m.2" gives (T ∷ U ∷ U ∷ []))
+    ∷ ("m.2 <> m.2" gives (F ∷ U ∷ U ∷ []))
+    ∷ ("m.2 = 9" gives (F ∷ U ∷ U ∷ []))
+    ∷ ("9 <> m.2" gives (T ∷ U ∷ U ∷ []))
+    ∷ ("m.2 > 0" gives (T ∷ U ∷ U ∷ []))
+    ∷ ("m.2 < 0" gives (F ∷ U ∷ U ∷ []))
+    ∷ ("NOT m.2 IS DECLINED" gives (T ∷ T ∷ F ∷ []))
+    ∷ ("NOT m.2 IS NOT DECLINED" gives (F ∷ F ∷ T ∷ []))
+    ∷ ("NOT m.2 = m.2" gives (F ∷ U ∷ U ∷ []))
+    ∷ ("m.2 IS NULL AND m.2 IS NOT DECLINED" gives (F ∷ T ∷ F ∷ []))
+    ∷ ("m.2 IS NOT NULL OR m.2 IS DECLINED" gives (T ∷ F ∷ T ∷ []))
+    ∷ ("m.2 = 5 OR m.2 IS DECLINED" gives (T ∷ U ∷ T ∷ []))
+    ∷ ("(m.2 IS DECLINED) IS UNKNOWN" gives (F ∷ F ∷ F ∷ []))
+    ∷ ("(m.2 IS NOT DECLINED) IS TRUE" gives (T ∷ T ∷ F ∷ []))
+    ∷ ("(m.2 = 5) IS UNKNOWN" gives (F ∷ T ∷ T ∷ []))
+    ∷ ("EXISTS (FROM 2 v WHERE v.1 IS DECLINED)" gives (T ∷ T ∷ T ∷ []))
+    ∷ ("EXISTS (FROM 2 v WHERE v.1 IS NULL AND v.1 IS NOT DECLINED)" gives (F ∷ F ∷ F ∷ []))
+    ∷ ("EXISTS (FROM 2 v WHERE v.1 = m.1)" gives (T ∷ F ∷ F ∷ []))
+    ∷ ("EXISTS (FROM 2 v WHERE v.1 <> 1)" gives (F ∷ F ∷ F ∷ []))
+    ∷ ("NOT EXISTS (FROM 2 v WHERE m.2 IS DECLINED)" gives (T ∷ T ∷ F ∷ []))
+    ∷ ("m.1 IN (SELECT v.1 FROM 2 v WHERE 1 = 1)" gives (T ∷ U ∷ U ∷ []))
+    ∷ ("m.1 NOT IN (SELECT v.1 FROM 2 v WHERE 1 = 1)" gives (F ∷ U ∷ U ∷ []))
+    ∷ ("m.1 NOT IN (SELECT v.1 FROM 2 v WHERE v.1 IS NOT DECLINED)" gives (F ∷ T ∷ T ∷ []))
+    ∷ ("m.1 = SOME (SELECT v.1 FROM 2 v WHERE v.1 IS DECLINED)" gives (U ∷ U ∷ U ∷ []))
+    ∷ ("m.1 = ALL (SELECT v.1 FROM 2 v WHERE v.1 IS NOT DECLINED)" gives (T ∷ F ∷ F ∷ []))
+    ∷ ("m.1 = ALL (SELECT v.1 FROM 2 v WHERE 1 = 1)" gives (U ∷ F ∷ F ∷ []))
+    ∷ ("m.2 <> SOME (SELECT v.1 FROM 2 v WHERE v.1 = 1)" gives (T ∷ U ∷ U ∷ []))
+    ∷ ("m.2 = ALL (SELECT v.1 FROM 3 v WHERE 1 = 1)" gives (T ∷ T ∷ T ∷ []))
+    ∷ []
+
+-- ---- the parts of four rules, in full: kind, comparison, table, end, left and right value
 
 abbrev field : ℕ → ℤ → TaggedValue
 field t n = record { tag = t; number = n }
@@ -222,8 +294,23 @@ truthCase = record {
       ∷ [];
 }
 
+-- IS DECLINED and IS NOT DECLINED of columns, and of a constant
+abbrev pub declinedCase : PartsCase
+declinedCase = record {
+  text = "NOT m.2 IS DECLINED AND EXISTS (FROM 2 v WHERE v.1 IS NOT DECLINED OR 5 IS DECLINED)";
+  parts =
+      partBy 1 0 0 7 unused unused
+      ∷ partBy 3 0 0 3 unused unused
+      ∷ partBy 16 0 0 3 (field 0 (pos 2)) unused
+      ∷ partBy 7 0 2 7 unused unused
+      ∷ partBy 2 0 0 7 unused unused
+      ∷ partBy 17 0 0 6 (field 1 (pos 1)) unused
+      ∷ partBy 16 0 0 7 (field 255 (pos 5)) unused
+      ∷ [];
+}
+
 abbrev pub partsCases : List PartsCase
-partsCases = chainCase ∷ nestedCase ∷ truthCase ∷ []
+partsCases = chainCase ∷ nestedCase ∷ truthCase ∷ declinedCase ∷ []
 
 abbrev filler : Part
 filler = partBy 99 99 99 99 (field 99 (pos 99)) (field 99 (negsuc 99))
@@ -238,13 +325,13 @@ partsGiven c = record { result = Given (length (c .parts)); buffer = c .parts ++
 -- ---- every word and every sign, once
 
 unfoldable pub everyWord : List ℕ
-everyWord = bytes "AND OR NOT EXISTS IN SOME ALL IS NULL SELECT FROM WHERE ( ) . = <> < <= > >= a z 0 -1 TRUE FALSE UNKNOWN"
+everyWord = bytes "AND OR NOT EXISTS IN SOME ALL IS NULL SELECT FROM WHERE ( ) . = <> < <= > >= a z 0 -1 TRUE FALSE UNKNOWN DECLINED"
 
 abbrev pub everyToken : List Token
 everyToken =
     Fixed 1 ∷ Fixed 2 ∷ Fixed 3 ∷ Fixed 4 ∷ Fixed 5 ∷ Fixed 6 ∷ Fixed 7 ∷ Fixed 8 ∷ Fixed 9 ∷ Fixed 10 ∷ Fixed 11 ∷ Fixed 12
     ∷ Fixed 13 ∷ Fixed 14 ∷ Fixed 15 ∷ Compares Eq ∷ Compares Ne ∷ Compares Lt ∷ Compares Le ∷ Compares Gt ∷ Compares Ge
-    ∷ Letter 97 ∷ Letter 122 ∷ Number (pos 0) ∷ Number (negsuc 0) ∷ Fixed 16 ∷ Fixed 17 ∷ Fixed 18 ∷ []
+    ∷ Letter 97 ∷ Letter 122 ∷ Number (pos 0) ∷ Number (negsuc 0) ∷ Fixed 16 ∷ Fixed 17 ∷ Fixed 18 ∷ Fixed 19 ∷ []
 
 -- ---- texts at the edges of the refusals, with the tables above
 
@@ -305,7 +392,16 @@ edges =
     ∷ accepted (unknownOf 6 (bytes "1 = 1")) ∷ (unknownOf 7 (bytes "1 = 1") refused 13) ∷ (unknownOf 7 (bytes "k.1 = 1") refused 8) ∷ (unknownOf 7 (chained 32) refused 7)
     ∷ accepted (unknownOf 6 (bytes "1 = 1") ++ bytes " OR EXISTS (FROM 1 v WHERE " ++ unknownOf 5 (bytes "1 = 1") ++ bytes ")")
     ∷ ((unknownOf 6 (bytes "1 = 1") ++ bytes " OR EXISTS (FROM 1 v WHERE EXISTS (FROM 1 v WHERE " ++ unknownOf 5 (bytes "1 = 1") ++ bytes "))") refused 13)
-    ∷ (unknownOf 32 (bytes "1 = 1") refused 13) ∷ []
+    ∷ (unknownOf 32 (bytes "1 = 1") refused 13)
+    -- IS DECLINED and IS NOT DECLINED: behind a value alone, with one NOT at most
+    ∷ accepted (bytes "5 IS DECLINED") ∷ accepted (bytes "m.2 IS NOT\nDECLINED AND NOT 5 IS NOT DECLINED") ∷ accepted (bytes "(m.1 IS DECLINED) IS TRUE") ∷ (bytes "m.1 IS DECLINED IS TRUE" refused 6)
+    ∷ (bytes "DECLINED" refused 6) ∷ (bytes "m.1 = DECLINED" refused 6) ∷ (bytes "m.1 DECLINED" refused 6) ∷ (bytes "m.1 NOT DECLINED" refused 6) ∷ (bytes "m.1 IS NOT NOT DECLINED" refused 6) ∷ (bytes "m.1 IS" refused 6)
+    ∷ (bytes "m.1 IS NOT" refused 6) ∷ (bytes "m.1 IS DECLINED NULL" refused 6) ∷ (bytes "(1 = 1) IS DECLINED" refused 6) ∷ (bytes "(1 = 1) IS NOT DECLINED" refused 6) ∷ (bytes "(m.1) IS DECLINED" refused 6)
+    -- the word: neither a shorter run of capitals nor a longer one, and no small letters; and no `!`
+    ∷ (bytes "DECLINE" refused 4) ∷ (bytes "DECLINEDX" refused 4) ∷ (bytes "m.1 IS DECLINEDAND 1 = 1" refused 4) ∷ (bytes "m.1 IS declined" refused 6) ∷ (bytes "m.1 = !" refused 4)
+    -- its value has to exist; it is one part, with one entry
+    ∷ (bytes "k.1 IS DECLINED" refused 8) ∷ (bytes "m.3 IS NOT DECLINED" refused 8) ∷ accepted (bytes "NOT 5 IS DECLINED OR " ++ chained 30) ∷ ((bytes "NOT 5 IS NOT DECLINED OR " ++ chained 31) refused 7)
+    ∷ accepted (unknownOf 6 (bytes "5 IS DECLINED")) ∷ (unknownOf 7 (bytes "5 IS NOT DECLINED") refused 13) ∷ []
 
 abbrev pub refusalAt : Edge → Option ℕ
 refusalAt e = firstApplying (readingRefusals (e .input) caseTables)

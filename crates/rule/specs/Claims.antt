@@ -1,27 +1,28 @@
 -- What proofs/ shows of these definitions.
 use mathlib.Core.Path.{_≡_}
 use mathlib.Core.Bool.{true, false}
-use mathlib.Core.List.{List, [], _∷_, _++_, map}
-use mathlib.Core.Logic.{_↔_}
+use mathlib.Core.List.{List, [], _∷_, _++_, map, List·Memᴰ}
+use mathlib.Core.Logic.{_↔_, _⊎_}
 use mathlib.Core.Option.{none, some}
 use Prim.Native.Nat.{ℕ, _+_, _-_, _≤_, _<_, min, max}
-use lib.IntN.{pos}
+use lib.IntN.{ℤ, pos}
 use lib.ListN.{length, getD, drop}
-use Rattle.tables.specs.Tables.{Tables, sizesFit, marksFit, columnsOf, rowCount, tablesOf}
+use Rattle.tables.specs.Tables.{Cell, Declined, Tables, sizesFit, marksFit, columnsOf, rowCount, tablesOf}
 use Rattle.tables.specs.Refusals.{Refused, Given, numbers, firstApplying, lendRefusals}
-use Rattle.tables.specs.Values.{Connective, And, Or, Env, mostEntries, judgedLevels}
+use Rattle.tables.specs.Values.{Value, Constant, Column, Comparison, Connective, And, Or, MarkTest, Null, NotNull, IsDeclined, NotDeclined, Env, mostEntries, judgedLevels}
+use Rattle.tables.specs.Claims.{asBlank, tablesAsBlank}
 use Rattle.rule.specs.Tokens.{tokensOf, opensFit}
 use Rattle.rule.specs.Truth.{Truth, False, Unknown, True, truthNumber, isUnknown, not3, and3, or3, join3, deciding}
-use Rattle.rule.specs.Condition.{Not, Is, IsNot, Join, Apply, WrittenCondition, Rule, parts, fromsDeep}
+use Rattle.rule.specs.Condition.{Compare, Mark, Not, Is, IsNot, Atom, Join, Apply, WrittenCondition, Rule, parts, fromsDeep}
 use Rattle.rule.specs.Grammar.{Tokens, Reads}
 use Rattle.rule.specs.Reader.{readAll}
 use Rattle.rule.specs.Names.{mostParts, mostFroms, outermost, ruleIn, Fits, Scoped}
-use Rattle.rule.specs.Parts.{partsFrom, partsOf, ruleOfParts}
+use Rattle.rule.specs.Parts.{taggedOf, partsFrom, partsOf, ruleOfParts, asksDeclined}
 use Rattle.rule.specs.Sum.{entrySum, publishedSum}
 use Rattle.rule.specs.declared.Part.{Part}
-use Rattle.rule.specs.Meaning.{unary3, meaning, judged}
+use Rattle.rule.specs.Meaning.{compare3, test3, unary3, meaning, judged}
 use Rattle.rule.specs.Calls.{mostBytes, ruleOf, readingRefusals, Accepted, readCall, judgeRefusals, judgeCall, readOrder, judgeOrder}
-use Rattle.rule.specs.Cases.{truthTests, truthValues, truthTestTable, notTable, andTable, orTable, cases, judgedAt, expectedAt, testCases, partsCases, partsRead, partsGiven, everyWord, everyToken, edges, refusalAt}
+use Rattle.rule.specs.Cases.{truthTests, truthValues, truthTestTable, markTests, markedCells, markTestTable, notTable, andTable, orTable, cases, judgedAt, expectedAt, testCases, declinedCases, declinedAt, unused, partBy, partsCases, partsRead, partsGiven, everyWord, everyToken, edges, refusalAt}
 
 -- the reader finds a reading exactly when the grammar has one, and no tokens have two
 pub record ReadingClaim : Type 0 where
@@ -118,6 +119,38 @@ pub record TruthTestsClaim : Type 0 where
   pub is-known : (t a : Truth) → isUnknown (unary3 (Is t) a) ≡ false
   pub is-not-known : (t a : Truth) → isUnknown (unary3 (IsNot t) a) ≡ false
 
+-- document 02, Point 4: the four tests by the mark on each sort of cell; and of whatever value at whatever rows
+pub record MarkTestsClaim : Type 0 where
+  pub table : map (λ m. map (λ x. test3 ((x ∷ []) ∷ []) (Mark m (Column 0 1))) markedCells) markTests ≡ markTestTable
+  -- they are 'true or false by the mark', never unknown
+  pub known : (env : Env) (m : MarkTest) (l : Value) → isUnknown (test3 env (Mark m l)) ≡ false
+  -- IS NOT DECLINED is NOT of IS DECLINED, and IS NOT NULL of IS NULL
+  pub negated : (env : Env) (l : Value) → test3 env (Mark NotDeclined l) ≡ not3 (test3 env (Mark IsDeclined l))
+  pub null-negated : (env : Env) (l : Value) → test3 env (Mark NotNull l) ≡ not3 (test3 env (Mark Null l))
+  -- 'a number is never declined', nor blank
+  pub number : (env : Env) (k : ℤ) → test3 env (Mark IsDeclined (Constant k)) ≡ False
+  pub number-blank : (env : Env) (k : ℤ) → test3 env (Mark Null (Constant k)) ≡ False
+  -- what is declined is blank, 'IS NULL included', and a comparison with it is unknown
+  pub blank : (env : Env) (l : Value) → test3 env (Mark IsDeclined l) ≡ True → test3 env (Mark Null l) ≡ True
+  pub left-declined : (op : Comparison) (y : Cell) → compare3 op Declined y ≡ Unknown
+  pub right-declined : (op : Comparison) (x : Cell) → compare3 op x Declined ≡ Unknown
+  pub left-unknown : (env : Env) (op : Comparison) (l r : Value) → test3 env (Mark IsDeclined l) ≡ True → test3 env (Compare op l r) ≡ Unknown
+  pub right-unknown : (env : Env) (op : Comparison) (l r : Value) → test3 env (Mark IsDeclined r) ≡ True → test3 env (Compare op l r) ≡ Unknown
+
+-- the parts of IS DECLINED and IS NOT DECLINED: 'the parts get kinds 16 and 17', and use the left value alone
+pub record DeclinedPartsClaim : Type 0 where
+  pub declined : (l : Value) → partsOf (Atom (Mark IsDeclined l)) ≡ partBy 16 0 0 1 (taggedOf l) unused ∷ []
+  pub not-declined : (l : Value) → partsOf (Atom (Mark NotDeclined l)) ≡ partBy 17 0 0 1 (taggedOf l) unused ∷ []
+
+-- a rule asks whether cells are declined exactly where one of its parts has kind 16 or kind 17
+abbrev pub AsksClaim : Type 0
+AsksClaim = (r : Rule) → (asksDeclined r ≡ true) ↔ (List·Memᴰ 16 (map (λ p. p .kind) (partsOf r)) ⊎ List·Memᴰ 17 (map (λ p. p .kind) (partsOf r)))
+
+-- declined 'is blank in every respect': a rule without parts of kinds 16 and 17 has the same value when every declined cell is taken for a blank one, whatever the tables hold and
+-- at whatever rows
+abbrev pub DeclinedBlankClaim : Type 0
+DeclinedBlankClaim = (ts : Tables) (env : Env) (r : Rule) → asksDeclined r ≡ false → meaning ts env r ≡ meaning (tablesAsBlank ts) (map (map asBlank) env) r
+
 -- READ and JUDGE by cases: a refusal of reading is passed up unchanged, with the buffer as it was; of an accepted text, READ gives the parts
 -- unless the buffer has fewer elements, and JUDGE the value unless table 1 has no such row
 pub record CallsClaim : Type 0 where
@@ -149,6 +182,10 @@ PartsCasesClaim = map partsRead partsCases ≡ map partsGiven partsCases
 -- comparisons at less, equal and greater, negative numbers, blanks, precedence, AND and OR of each pair, and truth tests
 abbrev pub TestsClaim : Type 0
 TestsClaim = map judgedAt testCases ≡ map expectedAt testCases
+
+-- a number, a blank and a declined cell, tested and compared
+abbrev pub DeclinedTestsClaim : Type 0
+DeclinedTestsClaim = map declinedAt declinedCases ≡ map expectedAt declinedCases
 
 -- the words and signs, as they are numbered
 abbrev pub WordsClaim : Type 0

@@ -4,7 +4,8 @@ use lib.IntN.{ℤ}
 use Rattle.tables.specs.Values.{Value, Comparison, Connective, Quantifier, MarkTest}
 use Rattle.rule.specs.Truth.{Truth}
 
--- the tests without inner parts, over operands A. Mark Null l: l IS NULL; Mark NotNull l: l IS NOT NULL.
+-- the tests without inner parts, over operands A. Mark Null l: l IS NULL; Mark NotNull l: l IS NOT NULL; Mark IsDeclined l: l IS DECLINED;
+-- Mark NotDeclined l: l IS NOT DECLINED (document 02, Point 4).
 pub data Test (A : Type 0) : Type 0 where
   Compare : Comparison → A → A → Test A
   Mark : MarkTest → A → Test A

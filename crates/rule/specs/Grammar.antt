@@ -1,10 +1,11 @@
--- Document 01, Rule text: the grammar, production by production, in its order; with the truth tests of document 02, Point 1.
+-- Document 01, Rule text: the grammar, production by production, in its order; with the truth tests of document 02, Point 1, and the tests
+-- for declined cells of Point 4.
 -- `IsFactor ts a rest`: the tokens ts begin with a factor, which reads as a, and the tokens rest come after it.
 use mathlib.Core.List.{List, [], _∷_}
 use Prim.Native.Nat.{ℕ}
 use lib.IntN.{ℤ}
-use Rattle.tables.specs.Values.{Comparison, Eq, Ne, And, Or, Some, All, Null, NotNull}
-use Rattle.rule.specs.Tokens.{Token, Compares, Letter, Number, AND, OR, NOT, EXISTS, IN, SOME, ALL, IS, NULL, SELECT, FROM, WHERE, Open, Close, Point, TRUE, FALSE, UNKNOWN}
+use Rattle.tables.specs.Values.{Comparison, Eq, Ne, And, Or, Some, All, Null, NotNull, IsDeclined, NotDeclined}
+use Rattle.rule.specs.Tokens.{Token, Compares, Letter, Number, AND, OR, NOT, EXISTS, IN, SOME, ALL, IS, NULL, SELECT, FROM, WHERE, Open, Close, Point, TRUE, FALSE, UNKNOWN, DECLINED}
 use Rattle.rule.specs.Truth.{Truth, False, Unknown, True}
 use Rattle.rule.specs.Condition.{Compare, Mark, Unary, Not, Is, IsNot, From, Single, Atom, Join, Apply, Exists, Listed, WrittenValue, Plain, Named, Source, Over, WrittenCondition}
 
@@ -60,7 +61,8 @@ mutual
     -- test
     one-test : {ts rest : Tokens} {a : WrittenCondition} → IsTest ts a rest → IsFactor ts a rest
 
-  -- test: its nine forms, in the paper's order, the first of which may be followed by a truth test, once; IN is SOME with =, NOT IN is ALL with <>
+  -- test: the nine forms of document 01, in the paper's order, the first of which may be followed by a truth test, once; IN is SOME with =, NOT IN is ALL with <>; and
+  -- the two of document 02, Point 4, beside IS NULL and IS NOT NULL: 'the new tests `value IS DECLINED` and `value IS NOT DECLINED`'
   pub data IsTest : Tokens → WrittenCondition → Tokens → Type 0 where
     -- ( condition )
     bracketed : {ts rest : Tokens} {a : WrittenCondition} → IsCondition ts a (Close ∷ rest) → IsTest (Open ∷ ts) a rest
@@ -73,6 +75,10 @@ mutual
     is-null : {ts rest : Tokens} {l : WrittenValue} → IsValue ts l (IS ∷ NULL ∷ rest) → IsTest ts (Atom (Mark Null l)) rest
     -- value IS NOT NULL
     is-not-null : {ts rest : Tokens} {l : WrittenValue} → IsValue ts l (IS ∷ NOT ∷ NULL ∷ rest) → IsTest ts (Atom (Mark NotNull l)) rest
+    -- value IS DECLINED
+    is-declined : {ts rest : Tokens} {l : WrittenValue} → IsValue ts l (IS ∷ DECLINED ∷ rest) → IsTest ts (Atom (Mark IsDeclined l)) rest
+    -- value IS NOT DECLINED
+    is-not-declined : {ts rest : Tokens} {l : WrittenValue} → IsValue ts l (IS ∷ NOT ∷ DECLINED ∷ rest) → IsTest ts (Atom (Mark NotDeclined l)) rest
     -- value comparison value
     compared : {ts us rest : Tokens} {op : Comparison} {l r : WrittenValue}
         → IsValue ts l (Compares op ∷ us) → IsValue us r rest → IsTest ts (Atom (Compare op l r)) rest

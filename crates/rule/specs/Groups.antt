@@ -2,7 +2,7 @@
 use mathlib.Core.Path.{_≡_}
 use mathlib.Core.Logic.{_⊎_}
 use Prim.Native.Nat.{ℕ}
-use Rattle.tables.specs.Values.{Connective, Quantifier, MarkTest}
+use Rattle.tables.specs.Values.{Connective, Quantifier, MarkTest, NotDeclined}
 use Rattle.rule.specs.Truth.{Unknown}
 use Rattle.rule.specs.Condition.{Unary, Is, IsNot}
 use Rattle.rule.specs.Parts.{Kind, kindNumber, joinKind, unaryKind, compareKind, markKind, existsKind, listKind}
@@ -13,7 +13,7 @@ KindNumber n = (k : Kind) × (n ≡ kindNumber k)
 
 -- the last of these numbers
 abbrev pub lastKind : ℕ
-lastKind = unaryKind (IsNot Unknown)
+lastKind = markKind NotDeclined
 
 -- the number of AND or of OR
 abbrev pub JoinNumber : ℕ → Type 0
@@ -27,7 +27,7 @@ UnaryNumber n = (u : Unary) × (n ≡ unaryKind u)
 abbrev pub UnknownNumber : ℕ → Type 0
 UnknownNumber n = (n ≡ unaryKind (Is Unknown)) ⊎ (n ≡ unaryKind (IsNot Unknown))
 
--- of a test by the mark
+-- of a test by the mark: 5 and 6, and since Point 4 of document 02 also 16 and 17
 abbrev pub MarkNumber : ℕ → Type 0
 MarkNumber n = (m : MarkTest) × (n ≡ markKind m)
 

@@ -1,4 +1,4 @@
--- Document 01, Meaning, with the truth tests of document 02, Point 1: the value of a rule with each level at a row: true, false or unknown. Cards are not mentioned here.
+-- Document 01, Meaning, with the truth tests of document 02, Point 1, and the tests for declined cells of Point 4: the value of a rule with each level at a row: true, false or unknown. Cards are not mentioned here.
 use mathlib.Core.Bool.{cond, not}
 use mathlib.Core.List.{List, map}
 use Prim.Native.Nat.{ℕ}
@@ -16,11 +16,11 @@ unary3 (IsNot t) a = truth (not (isThat t a))
 
 -- ---- tests
 
--- a comparison with a blank on either side is unknown
+-- a comparison with a blank on either side is unknown; Point 4: 'a declined cell is covered too'
 abbrev pub compare3 : Comparison → Cell → Cell → Truth
 compare3 op x y = byNumbers Unknown (λ a b. truth (holds op a b)) x y
 
--- IS NULL and IS NOT NULL are never unknown
+-- IS NULL and IS NOT NULL are never unknown; nor are IS DECLINED and IS NOT DECLINED, which 'are true or false by the mark' (MarkTestsClaim)
 abbrev pub test3 : Env → Test Value → Truth
 test3 env (Compare op l r) = compare3 op (cellOf env l) (cellOf env r)
 test3 env (Mark m l) = truth (markPasses m (cellOf env l))

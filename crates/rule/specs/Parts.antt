@@ -1,13 +1,13 @@
 -- Document 01, Rule text: the parts of a rule, one record each, and the rule that parts stand for. The record of a part, with its fields, is the struct
 -- `Part` of src/lib.rt, and a value, a tag and a number, the struct `TaggedValue`.
-use mathlib.Core.Bool.{true, false, cond}
+use mathlib.Core.Bool.{Bool, true, false, cond, _||_}
 use mathlib.Core.List.{List, [], _∷_, _++_}
 use mathlib.Core.Option.{Option, none, some}
 use Prim.Native.Nat.{ℕ, _+_}
 use lib.Dec.{eqb}
 use lib.IntN.{ℤ, pos, negsuc}
-use Rattle.tables.specs.Lists.{numbered}
-use Rattle.tables.specs.Values.{constantTag, Value, Constant, Column, unusedValue, anyValue, Uses, Comparison, Eq, comparisonNumber, comparisonOf, Connective, And, Or, Quantifier, Some, All, MarkTest, Null, NotNull}
+use Rattle.tables.specs.Lists.{numbered, any}
+use Rattle.tables.specs.Values.{constantTag, Value, Constant, Column, unusedValue, anyValue, Uses, Comparison, Eq, comparisonNumber, comparisonOf, Connective, And, Or, Quantifier, Some, All, MarkTest, Null, NotNull, IsDeclined, NotDeclined}
 use Rattle.rule.specs.declared.TaggedValue.{TaggedValue}
 use Rattle.rule.specs.declared.Part.{Part}
 use Rattle.rule.specs.Truth.{False, Unknown, True}
@@ -29,7 +29,7 @@ pub data Kind : Type 0 where
   ListKind : Quantifier → Kind
 
 -- 'kind (1 and, 2 or, 3 not, 4 comparison, 5 IS NULL, 6 IS NOT NULL, 7 exists, 8 some, 9 all)'; and of document 02, Point 1: 'kind 10 to 15: IS TRUE,
--- IS NOT TRUE, IS FALSE, IS NOT FALSE, IS UNKNOWN, IS NOT UNKNOWN'
+-- IS NOT TRUE, IS FALSE, IS NOT FALSE, IS UNKNOWN, IS NOT UNKNOWN'; and of Point 4: 'the parts get kinds 16 and 17', for IS DECLINED and IS NOT DECLINED
 abbrev pub joinKind : Connective → ℕ
 joinKind And = 1
 joinKind Or = 2
@@ -49,6 +49,8 @@ compareKind = 4
 abbrev pub markKind : MarkTest → ℕ
 markKind Null = 5
 markKind NotNull = 6
+markKind IsDeclined = 16
+markKind NotDeclined = 17
 
 abbrev pub existsKind : ℕ
 existsKind = 7
@@ -69,10 +71,11 @@ kindNumber (ListKind q) = listKind q
 abbrev pub kinds : List Kind
 kinds =
     JoinKind And ∷ JoinKind Or ∷ UnaryKind Not ∷ CompareKind ∷ MarkKind Null ∷ MarkKind NotNull ∷ ExistsKind ∷ ListKind Some ∷ ListKind All
-    ∷ UnaryKind (Is True) ∷ UnaryKind (IsNot True) ∷ UnaryKind (Is False) ∷ UnaryKind (IsNot False) ∷ UnaryKind (Is Unknown) ∷ UnaryKind (IsNot Unknown) ∷ []
+    ∷ UnaryKind (Is True) ∷ UnaryKind (IsNot True) ∷ UnaryKind (Is False) ∷ UnaryKind (IsNot False) ∷ UnaryKind (Is Unknown) ∷ UnaryKind (IsNot Unknown)
+    ∷ MarkKind IsDeclined ∷ MarkKind NotDeclined ∷ []
 
--- the fields that a kind uses besides kind and end: AND, OR, NOT and truth tests none, a comparison its comparison and both values, IS NULL and IS NOT NULL the left
--- value, EXISTS the table, a list all
+-- the fields that a kind uses besides kind and end: AND, OR, NOT and truth tests none, a comparison its comparison and both values, IS NULL, IS DECLINED and their
+-- negations the left value, EXISTS the table, a list all
 abbrev pub uses : Kind → Uses
 uses (JoinKind j) = record { table = false; comparison = false; left = false; right = false }
 uses (UnaryKind u) = record { table = false; comparison = false; left = false; right = false }
@@ -141,6 +144,14 @@ partsFrom k (Listed q op l s f w) = partOf (k + (1 + parts w)) (ListedHead q op 
 -- the first part of a whole rule is number 0
 abbrev pub partsOf : Rule → List Part
 partsOf r = partsFrom 0 r
+
+-- document 02, Point 4: whether a part, of kind 16 or 17, asks whether a cell is declined, and whether some part of a rule does (AsksClaim). To a rule without such parts (texts from before
+-- Point 4 have no others) a declined cell 'is blank in every respect' (DeclinedBlankClaim)
+abbrev pub partAsksDeclined : Part → Bool
+partAsksDeclined p = eqb (p .kind) (markKind IsDeclined) || eqb (p .kind) (markKind NotDeclined)
+
+abbrev pub asksDeclined : Rule → Bool
+asksDeclined r = any partAsksDeclined (partsOf r)
 
 -- ---- the rule of some parts
 

@@ -6,8 +6,8 @@ use Prim.Native.Nat.{ℕ, zero, suc, _+_, _*_}
 use lib.IntN.{ℤ}
 use lib.ListN.{length}
 use Rattle.tables.specs.Lists.{only, _>>=_, _<|>_}
-use Rattle.tables.specs.Values.{Comparison, Eq, Ne, Connective, And, Or, Quantifier, Some, All, Null, NotNull}
-use Rattle.rule.specs.Tokens.{Token, isFixed, Fixed, Compares, Letter, Number, AND, OR, NOT, EXISTS, IN, SOME, ALL, IS, NULL, SELECT, FROM, WHERE, Open, Close, Point, TRUE, FALSE, UNKNOWN}
+use Rattle.tables.specs.Values.{Comparison, Eq, Ne, Connective, And, Or, Quantifier, Some, All, Null, NotNull, IsDeclined, NotDeclined}
+use Rattle.rule.specs.Tokens.{Token, isFixed, Fixed, Compares, Letter, Number, AND, OR, NOT, EXISTS, IN, SOME, ALL, IS, NULL, SELECT, FROM, WHERE, Open, Close, Point, TRUE, FALSE, UNKNOWN, DECLINED}
 use Rattle.rule.specs.Truth.{Truth, False, Unknown, True}
 use Rattle.rule.specs.Condition.{Compare, Mark, Unary, Not, Is, IsNot, From, Single, Atom, Join, Apply, Exists, Listed, WrittenValue, Plain, Named, Source, Over, WrittenCondition}
 use Rattle.rule.specs.Grammar.{Tokens}
@@ -83,6 +83,8 @@ unfoldable pub startValue : WrittenValue → Tokens → Option Start
 startValue l ts =
     (expect IS ts >>= (λ us. expect NULL us >>= (λ rest. some (Whole (Atom (Mark Null l)) rest))))
     <|> (expect IS ts >>= (λ us. expect NOT us >>= (λ vs. expect NULL vs >>= (λ rest. some (Whole (Atom (Mark NotNull l)) rest)))))
+    <|> (expect IS ts >>= (λ us. expect DECLINED us >>= (λ rest. some (Whole (Atom (Mark IsDeclined l)) rest))))
+    <|> (expect IS ts >>= (λ us. expect NOT us >>= (λ vs. expect DECLINED vs >>= (λ rest. some (Whole (Atom (Mark NotDeclined l)) rest)))))
     <|> (readComparison ts >>= (λ c. readValue (c .1) >>= (λ r. some (Whole (Atom (Compare (c .0) l (r .0))) (r .1)))))
     <|> (readComparison ts >>= (λ c. expect SOME (c .1) >>= (λ us. startList Some (c .0) l us)))
     <|> (readComparison ts >>= (λ c. expect ALL (c .1) >>= (λ us. startList All (c .0) l us)))

@@ -80,6 +80,10 @@ FALSE = Fixed 17
 abbrev pub UNKNOWN : Token
 UNKNOWN = Fixed 18
 
+-- Point 4: 'DECLINED becomes a word'
+abbrev pub DECLINED : Token
+DECLINED = Fixed 19
+
 -- the token t is the one with the number k
 abbrev pub isFixed : Token → ℕ → Bool
 isFixed (Fixed n) k = eqb n k
@@ -101,7 +105,7 @@ unfoldable pub words : List Spelling
 words =
     ("AND" is AND) ∷ ("OR" is OR) ∷ ("NOT" is NOT) ∷ ("EXISTS" is EXISTS) ∷ ("IN" is IN) ∷ ("SOME" is SOME) ∷ ("ALL" is ALL)
     ∷ ("IS" is IS) ∷ ("NULL" is NULL) ∷ ("SELECT" is SELECT) ∷ ("FROM" is FROM) ∷ ("WHERE" is WHERE)
-    ∷ ("TRUE" is TRUE) ∷ ("FALSE" is FALSE) ∷ ("UNKNOWN" is UNKNOWN) ∷ []
+    ∷ ("TRUE" is TRUE) ∷ ("FALSE" is FALSE) ∷ ("UNKNOWN" is UNKNOWN) ∷ ("DECLINED" is DECLINED) ∷ []
 
 -- the signs; where one begins another, the longer stands first
 unfoldable pub signs : List Spelling

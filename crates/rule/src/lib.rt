@@ -8,7 +8,7 @@ pub struct TaggedValue {
     pub number: i32,
 }
 
-// A part of a rule: its kind, 1 to 15; its comparison, 1 to 6; the number of its table; the number of the first part after it and its inner parts; its
+// A part of a rule: its kind, 1 to 17; its comparison, 1 to 6; the number of its table; the number of the first part after it and its inner parts; its
 // values. What the numbers mean is in specs/Parts.antt; fields that a kind does not use are 0.
 #[repr(C)]
 pub struct Part {
@@ -50,3 +50,7 @@ pub const IS_NOT_FALSE_PART: usize = 13;
 pub const IS_UNKNOWN_PART: usize = 14;
 
 pub const IS_NOT_UNKNOWN_PART: usize = 15;
+
+pub const DECLINED_PART: usize = 16;
+
+pub const NOT_DECLINED_PART: usize = 17;

@@ -13,8 +13,8 @@ use lib.Ieee.Fits.{and-l, and-r}
 use lib.ListN.{length, getD, set}
 use Rattle.tables.specs.Lists.{tabulate}
 use Rattle.tables.specs.Bytes.{between}
-use Rattle.tables.specs.Tables.{mostRows, mostCells, Cell, Blank, Present, Row, columnsOf, tablesOf}
-use Rattle.tables.specs.Values.{mostLevels, comparisonOf, holds, And, Or, Some, All, MarkTest, Null, NotNull, Env, _▸_, cellOf, byNumbers, isBlank, markPasses, valueFits}
+use Rattle.tables.specs.Tables.{mostRows, mostCells, Row, columnsOf, tablesOf}
+use Rattle.tables.specs.Values.{mostLevels, comparisonOf, holds, And, Or, Some, All, MarkTest, Null, NotNull, IsDeclined, NotDeclined, Env, _▸_, cellOf, byNumbers, markPasses, valueFits}
 use Rattle.cells.specs.Code.{seenCell, placeIn}
 use Rattle.cells.specs.declared.Place.{Place}
 use Rattle.cells.specs.declared.Seen.{Seen}
@@ -26,8 +26,8 @@ use Rattle.decoder.specs.Code.{entrySize, entryEnd, entryLeft, entryRight, entr
 use Rattle.decoder.proofs.Grouped.{same-kind, pair-bounds, row-bounds, comparison-bounds, mark-bounds, leaf-bounds}
 use Rattle.decoder.proofs.Coded.{head-at, pair-at, row-at, leaf-at, kind-pair, kind-row, kind-leaf, coded-less, coded-end, PairParts, RowParts, pair-of, row-of, leaf-of}
 use Rattle.values.specs.Code.{heldAt, rowFrom, Readable, ValueReady}
-use Rattle.runner.specs.Code.{TellsLeaf, TellsPair, TellsComparison, TellsUnknown, asksBlank, TellsBlank, LeafReady, Runnable, connectiveBy, pairKindFor, PairRunnable, quantifierBy, rowKindFor, RowsRunnable}
-use Rattle.values.proofs.Numbers.{seen-blank}
+use Rattle.runner.specs.Code.{TellsLeaf, TellsPair, TellsComparison, TellsUnknown, lowestMark, asksMarked, TellsLowest, TellsMarked, LeafReady, Runnable, connectiveBy, pairKindFor, PairRunnable, quantifierBy, rowKindFor, RowsRunnable}
+use Rattle.values.proofs.Numbers.{seen-marked, seen-declined}
 use Rattle.values.proofs.Rows.{TableAt}
 use Rattle.values.proofs.Ranging.{firstAt, columnsAt, rowsAt, NextRow, next-none, next-more, table-bounds, table-here, row-deep, row-room as room-at, row-readable}
 
@@ -62,11 +62,19 @@ module _ (d columns levels : List ℕ) (s : ℕ) where
   right-by (by-mark m k) c f = absurd (compare-not-mark (c .0) m (c .1) k)
 
 -- what a test by the mark says, by what it asks for
-marks-agree : (m : MarkTest) (x : Cell) → Bool·beq (isBlank x) (asksBlank m) ≡ markPasses m x
-marks-agree Null Blank = refl
-marks-agree Null (Present n) = refl
-marks-agree NotNull Blank = refl
-marks-agree NotNull (Present n) = refl
+beq-true : (a : Bool) → Bool·beq a true ≡ a
+beq-true true = refl
+beq-true false = refl
+
+beq-false : (a : Bool) → Bool·beq a false ≡ not a
+beq-false true = refl
+beq-false false = refl
+
+marks-agree : (m : MarkTest) (x : Seen) → Bool·beq (leb (lowestMark m) (x .mark)) (asksMarked m) ≡ markPasses m (seenCell x)
+marks-agree Null x = beq-true (leb 1 (x .mark)) ∙ seen-marked x
+marks-agree NotNull x = beq-false (leb 1 (x .mark)) ∙ ap not (seen-marked x)
+marks-agree IsDeclined x = beq-true (leb 2 (x .mark)) ∙ seen-declined x
+marks-agree NotDeclined x = beq-false (leb 2 (x .mark)) ∙ ap not (seen-declined x)
 
 module _ (d : List ℕ) (s : ℕ) (env : Env) (x : Seen) (left : seenCell x ≡ cellOf env (leftIn d s)) where
   compare-by : {l : Leaf} → LeafBy d s l → ComparisonNumber (kindIn d s) → (y : Seen) (u r : Bool) → seenCell y ≡ cellOf env (rightIn d s)
@@ -74,9 +82,11 @@ module _ (d : List ℕ) (s : ℕ) (env : Env) (x : Seen) (left : seenCell x ≡ 
   compare-by (by-compare i k) c y u r right tells e = rw (← left, ← right, ← tells i k) e
   compare-by (by-mark m k) c y u r right tells e = absurd (compare-not-mark (c .0) m (c .1) k)
 
-  mark-by : {l : Leaf} → LeafBy d s l → MarkNumber (kindIn d s) → (b : Bool) → TellsBlank (kindIn d s) b → Bool·beq (x .blank) b ≡ leafSays env l
-  mark-by (by-compare i k) c b tells = absurd (compare-not-mark i (c .0) k (c .1))
-  mark-by (by-mark m k) c b tells = ap₂ Bool·beq (seen-blank x) (tells m k) ∙ marks-agree m (seenCell x) ∙ ap (markPasses m) left
+  mark-by : {l : Leaf} → LeafBy d s l → MarkNumber (kindIn d s) → (lowest : ℕ) (b : Bool) → TellsLowest (kindIn d s) lowest → TellsMarked (kindIn d s) b
+      → Bool·beq (leb lowest (x .mark)) b ≡ leafSays env l
+  mark-by (by-compare i k) c lowest b low tells = absurd (compare-not-mark i (c .0) k (c .1))
+  mark-by (by-mark m k) c lowest b low tells =
+      ap₂ (λ (n : ℕ) (t : Bool). Bool·beq (leb n (x .mark)) t) (low m k) (tells m k) ∙ marks-agree m x ∙ ap (markPasses m) left
 
 -- by what tells comparisons from tests by the mark
 module _ {n : ℕ} {r : Bool} where
@@ -105,15 +115,30 @@ unknown-told u e v f =
     let same : u ≡ v = cc in
     ap unknownSays same
 
-pub blank-none : {n : ℕ} → MarkNumber n → (n ≡ markKind Null → ⊥) → (n ≡ markKind NotNull → ⊥) → ⊥
-blank-none (Null, e) not-null not-not = not-null e
-blank-none (NotNull, e) not-null not-not = not-not e
+pub marked-none : {n : ℕ} → MarkNumber n → (n ≡ markKind Null → ⊥) → (n ≡ markKind NotNull → ⊥) → (n ≡ markKind IsDeclined → ⊥) → (n ≡ markKind NotDeclined → ⊥) → ⊥
+marked-none (Null, e) a b c d = a e
+marked-none (NotNull, e) a b c d = b e
+marked-none (IsDeclined, e) a b c d = c e
+marked-none (NotDeclined, e) a b c d = d e
 
-pub blank-told : {n : ℕ} (m : MarkTest) → n ≡ markKind m → TellsBlank n (asksBlank m)
-blank-told m e v f =
+pub marked-told : {n : ℕ} (m : MarkTest) → n ≡ markKind m → TellsMarked n (asksMarked m)
+marked-told m e v f =
     let z = same-kind (MarkKind m) (MarkKind v) (sym e ∙ f) in
     let same : m ≡ v = cc in
-    ap asksBlank same
+    ap asksMarked same
+
+-- tests for blank cells come before those for declined ones
+pub lowest-blank : {n : ℕ} → n < markKind IsDeclined → TellsLowest n 1
+lowest-blank l Null e = refl
+lowest-blank l NotNull e = refl
+lowest-blank l IsDeclined e = absurd (omega arith)
+lowest-blank l NotDeclined e = absurd (omega arith)
+
+pub lowest-declined : {n : ℕ} → markKind IsDeclined ≤ n → TellsLowest n 2
+lowest-declined l Null e = absurd (omega arith)
+lowest-declined l NotNull e = absurd (omega arith)
+lowest-declined l IsDeclined e = refl
+lowest-declined l NotDeclined e = refl
 
 module _ {d g file w : List ℕ} {s : ℕ} (h : LeafReady d g file w s) where
   which : LeafBy d s (h .leaf)
@@ -143,8 +168,9 @@ module _ {d g file w : List ℕ} {s : ℕ} (h : LeafReady d g file w s) where
         → TellsUnknown (kindIn d s) u → r ≡ byNumbers u (holds (comparisonOf (comparisonIn d s))) (seenCell x) (seenCell y) → r ≡ leafSays (h .env) (h .leaf)
     compare-answer k y u r right tells e = compare-by d s (h .env) x left which k y u r right tells e
 
-    pub mark-answer : MarkNumber (kindIn d s) → (b : Bool) → TellsBlank (kindIn d s) b → Bool·beq (x .blank) b ≡ leafSays (h .env) (h .leaf)
-    mark-answer k b tells = mark-by d s (h .env) x left which k b tells
+    pub mark-answer : MarkNumber (kindIn d s) → (lowest : ℕ) (b : Bool) → TellsLowest (kindIn d s) lowest → TellsMarked (kindIn d s) b
+        → Bool·beq (leb lowest (x .mark)) b ≡ leafSays (h .env) (h .leaf)
+    mark-answer k lowest b low tells = mark-by d s (h .env) x left which k lowest b low tells
 
 -- ---- an entry with its inner ones, by its kind
 

@@ -9,7 +9,7 @@ use Prim.Native.Nat.{ℕ, _+_, _*_, _<_, _≤_}
 use lib.Dec.{T}
 use lib.ListN.{length}
 use Rattle.tables.specs.Tables.{mostTables, columnsOf, tablesOf}
-use Rattle.tables.specs.Values.{mostLevels, Connective, And, Or, Quantifier, Some, All, MarkTest, Null, NotNull, Env}
+use Rattle.tables.specs.Values.{mostLevels, Connective, And, Or, Quantifier, Some, All, MarkTest, Null, NotNull, IsDeclined, NotDeclined, Env}
 use Rattle.values.specs.Code.{Readable}
 use Rattle.card.specs.Card.{Interpretation, unknownSays, Leaf, Card, leafFits, cardFits, leafSays, answer}
 use Rattle.card.specs.Layout.{pairKind, rowKind, comparisonKind, markKind, LeafHead}
@@ -25,19 +25,31 @@ TellsLeaf kind r = (LeafNumber kind → r ≡ true) × (InnerNumber kind → r �
 abbrev pub TellsPair : ℕ → Bool → Type 0
 TellsPair kind r = (PairNumber kind → r ≡ true) × (RowNumber kind ⊎ LeafNumber kind → r ≡ false)
 
--- of an entry without inner ones: whether it is a comparison; what unknown counts as, and whether a blank cell is asked for
+-- of an entry without inner ones: whether it is a comparison; what unknown counts as
 abbrev pub TellsComparison : ℕ → Bool → Type 0
 TellsComparison kind r = (ComparisonNumber kind → r ≡ true) × (MarkNumber kind → r ≡ false)
 
 abbrev pub TellsUnknown : ℕ → Bool → Type 0
 TellsUnknown kind r = (u : Interpretation) → kind ≡ comparisonKind u → r ≡ unknownSays u
 
-abbrev pub asksBlank : MarkTest → Bool
-asksBlank Null = true
-asksBlank NotNull = false
+-- of a test by the mark: the lowest mark that it is about, and whether it asks for cells with such a mark or for the others
+abbrev pub lowestMark : MarkTest → ℕ
+lowestMark Null = 1
+lowestMark NotNull = 1
+lowestMark IsDeclined = 2
+lowestMark NotDeclined = 2
 
-abbrev pub TellsBlank : ℕ → Bool → Type 0
-TellsBlank kind r = (m : MarkTest) → kind ≡ markKind m → r ≡ asksBlank m
+abbrev pub asksMarked : MarkTest → Bool
+asksMarked Null = true
+asksMarked NotNull = false
+asksMarked IsDeclined = true
+asksMarked NotDeclined = false
+
+abbrev pub TellsLowest : ℕ → ℕ → Type 0
+TellsLowest kind r = (m : MarkTest) → kind ≡ markKind m → r ≡ lowestMark m
+
+abbrev pub TellsMarked : ℕ → Bool → Type 0
+TellsMarked kind r = (m : MarkTest) → kind ≡ markKind m → r ≡ asksMarked m
 
 -- ---- what running asks, and answers: for whatever levels, rows and card the numbers stand for
 

@@ -7,16 +7,21 @@ ghost use Rattle.tables.specs.Values.{comparisonOf, holds, byNumbers};
 ghost use Rattle.cells.specs.Code.{seenCell};
 ghost use Rattle.card.specs.Groups.{ComparisonNumber, MarkNumber, InnerNumber, LeafNumber};
 ghost use Rattle.decoder.specs.Code.{kindIn};
-ghost use Rattle.runner.specs.Code.{TellsLeaf, TellsPair, TellsComparison, TellsUnknown, TellsBlank, LeafReady, LeafAnswers, Runnable, PairRunnable, RowsRunnable, Answers};
+ghost use Rattle.runner.specs.Code.{TellsLeaf, TellsPair, TellsComparison, TellsUnknown, TellsLowest, TellsMarked, LeafReady, LeafAnswers, Runnable, PairRunnable, RowsRunnable, Answers};
 use card::AND_ENTRY;
 use card::BLANK;
 use card::COMPARISON_OR_NO;
 use card::COMPARISON_OR_YES;
+use card::DECLINED;
 use card::EVERY_ROW;
 use card::NOT_BLANK;
+use card::NOT_DECLINED;
 use card::OR_ENTRY;
 use card::SOME_ROW;
+use cells::BLANK_MARK;
+use cells::DECLINED_MARK;
 use cells::PLACES;
+use cells::PRESENT_MARK;
 use cells::Seen;
 use decoder::COMPARISON;
 use decoder::FIELDS;
@@ -63,14 +68,27 @@ fn unknown_says(kind: usize) -> bool
     }
 }
 
-// Whether a test by the mark asks for a blank cell.
-fn asks_blank(kind: usize) -> bool
+// The lowest mark that a test by the mark is about: a declined cell is blank too, and a blank one is not declined.
+fn lowest_mark(kind: usize) -> u8
     requires { ⌜ MarkNumber kind ⌝ }
-    ensures { λ r. ⌜ TellsBlank kind r ⌝ }
+    ensures { λ r. ⌜ TellsLowest kind r ⌝ }
+{
+    if kind < DECLINED {
+        return BLANK_MARK;
+    }
+    DECLINED_MARK
+}
+
+// Whether it asks for cells that have such a mark, or for the others.
+fn asks_marked(kind: usize) -> bool
+    requires { ⌜ MarkNumber kind ⌝ }
+    ensures { λ r. ⌜ TellsMarked kind r ⌝ }
 {
     match kind {
         BLANK => true,
         NOT_BLANK => false,
+        DECLINED => true,
+        NOT_DECLINED => false,
         _ => {
             cells::never();
             false
@@ -78,19 +96,19 @@ fn asks_blank(kind: usize) -> bool
     }
 }
 
-// Whether two cells compare so; unknown is the answer where one of them is blank. The numbers are compared first: one branch is left.
+// Whether two cells compare so; unknown is the answer where one of them is blank or declined. The numbers are compared first: one branch is left.
 fn cells_hold(unknown: bool, op: usize, x: Seen, y: Seen) -> bool
     ensures { λ r. ⌜ r ≡ byNumbers unknown (holds (comparisonOf op)) (seenCell x) (seenCell y) ⌝ }
 {
     let h = values::numbers_hold(op, x.number, y.number);
-    if x.blank | y.blank {
+    if (x.mark != PRESENT_MARK) | (y.mark != PRESENT_MARK) {
         return unknown;
     }
     h
 }
 
 // What an entry without inner entries answers. It is short enough to be compiled into each of its callers; arms that tell the kinds apart here, with the cells at
-// hand, would make it too long for that. Those of `unknown_says` and `asks_blank` give constants, and become one comparison each.
+// hand, would make it too long for that. `unknown_says`, `lowest_mark` and `asks_marked` give constants, and become a comparison or two each.
 fn run_leaf(d: &[usize], g: &[usize; PLACES], file: &[u8], s: usize, w: &[usize; LEVELS]) -> bool
     requires { ⌜ LeafReady (now d) (now g) (now file) (now w) s ⌝ }
     ensures { λ r. ⌜ LeafAnswers (now (d .entry)) (now (g .entry)) (now (file .entry)) (now (w .entry)) s r ⌝ }
@@ -103,8 +121,9 @@ fn run_leaf(d: &[usize], g: &[usize; PLACES], file: &[u8], s: usize, w: &[usize;
         let unknown = unknown_says(k);
         return cells_hold(unknown, d[FIELDS * s + COMPARISON], x, y);
     }
-    let blank = asks_blank(k);
-    x.blank == blank
+    let lowest = lowest_mark(k);
+    let marked = asks_marked(k);
+    (lowest <= x.mark) == marked
 }
 
 // What the entry s answers, which asks for some row of its table, or for every row, where its inner entry has no inner entries of its own: no

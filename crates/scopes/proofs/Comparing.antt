@@ -10,7 +10,7 @@ use Rattle.values.specs.Code.{heldNumbers, unusedHeld}
 use Rattle.values.specs.declared.HeldValue.{HeldValue}
 use Rattle.rule.specs.Names.{valueIn}
 use Rattle.grammar.specs.Code.{noteComparison}
-use Rattle.scopes.specs.Code.{valueHeld, scopeIn, resolvedAs, leftWritten, rightWritten, comparedNumbers, nullNumbers}
+use Rattle.scopes.specs.Code.{valueHeld, scopeIn, resolvedAs, leftWritten, rightWritten, comparedNumbers, markNumbers}
 use Rattle.scopes.specs.declared.Resolved.{Resolved}
 use Rattle.scopes.specs.declared.Resolved.the-variants.{Value as ResolvedValue, Unresolved}
 use Rattle.scopes.proofs.Resolving.{value-missing, value-there}
@@ -30,13 +30,13 @@ module _ (file notes : List ℕ) (b : ℕ) (scope : List ℕ) (left-levels right
     pub left-gone : r ≡ Unresolved → none ≡ compared left-value right-value
     left-gone u = sym (ap (λ (o : Option Value). compared o right-value) (value-missing left-value r came u))
 
-    pub null-gone : r ≡ Unresolved → none ≡ nullNumbers (getD notes b 0) e left-value
-    null-gone u = sym (ap (nullNumbers (getD notes b 0) e) (value-missing left-value r came u))
+    pub mark-gone : r ≡ Unresolved → none ≡ markNumbers (getD notes b 0) e left-value
+    mark-gone u = sym (ap (markNumbers (getD notes b 0) e) (value-missing left-value r came u))
 
-    pub null-found : (l : HeldValue) → r ≡ ResolvedValue l → some (getD notes b 0 ∷ 0 ∷ 0 ∷ e ∷ (heldNumbers l ++ heldNumbers unusedHeld)) ≡ nullNumbers (getD notes b 0) e left-value
-    null-found l u =
+    pub mark-found : (l : HeldValue) → r ≡ ResolvedValue l → some (getD notes b 0 ∷ 0 ∷ 0 ∷ e ∷ (heldNumbers l ++ heldNumbers unusedHeld)) ≡ markNumbers (getD notes b 0) e left-value
+    mark-found l u =
         let v = value-there left-value r came l u in
-        sym (ap (nullNumbers (getD notes b 0) e) (v .is) ∙ ap (λ (x : HeldValue). some (getD notes b 0 ∷ 0 ∷ 0 ∷ e ∷ (heldNumbers x ++ heldNumbers unusedHeld))) (v .image))
+        sym (ap (markNumbers (getD notes b 0) e) (v .is) ∙ ap (λ (x : HeldValue). some (getD notes b 0 ∷ 0 ∷ 0 ∷ e ∷ (heldNumbers x ++ heldNumbers unusedHeld))) (v .image))
 
     module _ (l : HeldValue) (u : r ≡ ResolvedValue l) (r2 : Resolved) (came2 : resolvedAs r2 ≡ Option·map valueHeld right-value) where
       pub right-gone : r2 ≡ Unresolved → none ≡ compared left-value right-value

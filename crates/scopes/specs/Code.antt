@@ -107,9 +107,9 @@ rightWritten notes b = writtenAt notes (b + noteRight)
 abbrev pub comparedNumbers : ℕ → ℕ → ℕ → ℕ → Option Value → Option Value → Option (List ℕ)
 comparedNumbers kind op t e v w = v >>= (λ x. w >>= (λ y. some (kind ∷ op ∷ t ∷ e ∷ (heldNumbers (valueHeld x) ++ heldNumbers (valueHeld y)))))
 
--- the same of IS NULL and IS NOT NULL, which have a left value alone
-abbrev pub nullNumbers : ℕ → ℕ → Option Value → Option (List ℕ)
-nullNumbers kind e v = v >>= (λ x. some (kind ∷ 0 ∷ 0 ∷ e ∷ (heldNumbers (valueHeld x) ++ heldNumbers unusedHeld)))
+-- the same of the tests by the mark, which have a left value alone
+abbrev pub markNumbers : ℕ → ℕ → Option Value → Option (List ℕ)
+markNumbers kind e v = v >>= (λ x. some (kind ∷ 0 ∷ 0 ∷ e ∷ (heldNumbers (valueHeld x) ++ heldNumbers unusedHeld)))
 
 -- and of any part: what its kind does not use is 0, and only a value that it uses has to mean something
 abbrev pub ownPartNumbers : ℕ → ℕ → ℕ → ℕ → Option Value → Option Value → Option (List ℕ)

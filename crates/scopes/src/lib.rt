@@ -11,7 +11,7 @@ ghost use Rattle.rule.specs.Names.{existing, valueIn};
 ghost use Rattle.rule.specs.Groups.{TestNumber, FromNumber};
 ghost use Rattle.phrases.specs.Code.{notedSize, writtenOf};
 ghost use Rattle.grammar.specs.Code.{noteSize, noteComparison};
-ghost use Rattle.scopes.specs.Code.{scopeSize, existingAs, scopeIn, binding, outerScope, NearestAt, ScopeFits, valueHeld, resolvedAs, writtenAt, leftWritten, rightWritten, partFields, plainPartNumbers, comparedNumbers, nullNumbers, ownPartNumbers, comparedAs};
+ghost use Rattle.scopes.specs.Code.{scopeSize, existingAs, scopeIn, binding, outerScope, NearestAt, ScopeFits, valueHeld, resolvedAs, writtenAt, leftWritten, rightWritten, partFields, plainPartNumbers, comparedNumbers, markNumbers, ownPartNumbers, comparedAs};
 use cells::EXCESS;
 use grammar::MOST_FROMS;
 use grammar::NOTE_COMPARISON;
@@ -21,7 +21,9 @@ use phrases::NotedValue;
 use phrases::noted_at;
 use rule::ALL_PART;
 use rule::COMPARISON_PART;
+use rule::DECLINED_PART;
 use rule::EXISTS_PART;
+use rule::NOT_DECLINED_PART;
 use rule::NOT_NULL_PART;
 use rule::NULL_PART;
 use rule::SOME_PART;
@@ -188,8 +190,8 @@ fn compared_part(
     Compared::Part(part)
 }
 
-// The part of IS NULL or IS NOT NULL that is noted from element b on.
-fn null_part(
+// The part of a test by the mark that is noted from element b on: IS NULL, IS DECLINED or the negation of one.
+fn mark_part(
     file: &[u8],
     notes: &[usize],
     b: usize,
@@ -198,7 +200,7 @@ fn null_part(
     e: usize,
 ) -> Compared
     requires { ⌜ Sized (now file) ⌝ ∗ ⌜ b + noteSize ≤ length (now notes) ⌝ ∗ ⌜ ScopeFits (now file) (now scope) levels ⌝ }
-    ensures { λ r. ⌜ comparedAs r ≡ nullNumbers (getD (now (notes .entry)) b 0) e (valueIn (columnsOf (now (file .entry))) (scopeIn (now (scope .entry)) levels) (leftWritten (now (notes .entry)) b)) ⌝ }
+    ensures { λ r. ⌜ comparedAs r ≡ markNumbers (getD (now (notes .entry)) b 0) e (valueIn (columnsOf (now (file .entry))) (scopeIn (now (scope .entry)) levels) (leftWritten (now (notes .entry)) b)) ⌝ }
 {
     let resolved = resolve_noted(file, notes, b + NOTE_LEFT, scope, levels);
     let Resolved::Value(left) = resolved else {
@@ -230,7 +232,9 @@ pub fn test_part(
     let kind = notes[b];
     match kind {
         COMPARISON_PART => compared_part(file, notes, b, scope, levels, levels, 0, e),
-        NULL_PART | NOT_NULL_PART => null_part(file, notes, b, scope, levels, e),
+        NULL_PART | NOT_NULL_PART | DECLINED_PART | NOT_DECLINED_PART => {
+            mark_part(file, notes, b, scope, levels, e)
+        }
         _ => {
             cells::never();
             Compared::NoValues

@@ -1,7 +1,7 @@
 -- The sample file, and the files at the edges of the refusals, each as one computed fact.
 use mathlib.Core.Path.{refl}
 use Rattle.tables.specs.Cases.{edges, sizeEdges}
-use Rattle.tables.specs.Claims.{SampleClaim, ComparisonsClaim, ValuesClaim, SizesClaim, EdgesClaim}
+use Rattle.tables.specs.Claims.{SampleClaim, ComparisonsClaim, MarksClaim, ValuesClaim, SizesClaim, EdgesClaim}
 use Rattle.tables.proofs.Opened.{opened}
 
 pub sample-claim : SampleClaim
@@ -21,3 +21,6 @@ comparisons-claim = refl
 
 pub values-claim : ValuesClaim
 values-claim = refl
+
+pub marks-claim : MarksClaim
+marks-claim = refl

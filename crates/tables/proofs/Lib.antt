@@ -12,5 +12,6 @@ pub mod Rows
 pub mod Numbering
 pub mod First
 pub mod Blanks
+pub mod AsBlank
 pub mod Placed
 pub mod Bytes

@@ -5,23 +5,23 @@ use mathlib.Core.Option.{Option, none, some}
 use Prim.Native.Nat.{ℕ, zero, suc}
 use lib.IntN.{ℤ, pos, negsuc}
 use lib.ListN.{replicate}
-use Rattle.tables.specs.Tables.{Blank, Present, Tables}
-use Rattle.tables.specs.Values.{Value, Constant, Column, comparisonOf, holds, valueFits}
+use Rattle.tables.specs.Tables.{Blank, Declined, Present, Tables, cellFrom}
+use Rattle.tables.specs.Values.{Value, Constant, Column, comparisonOf, holds, MarkTest, Null, NotNull, IsDeclined, NotDeclined, markPasses, valueFits}
 use Rattle.tables.specs.Refusals.{firstApplying, tablesRefusals}
 
--- table 1 of two columns and two rows, table 2 of one column and no rows, table 3 of one column and one row
+-- table 1 of two columns and two rows, table 2 of one column and no rows, table 3 of one column and two rows
 abbrev pub sampleFile : List ℕ
 sampleFile =
-    (3 ∷ 2 ∷ 2 ∷ 0 ∷ 1 ∷ 0 ∷ 0 ∷ 1 ∷ 1 ∷ 0 ∷ [])
-    ++ (1 ∷ 2 ∷ 3 ∷ 4 ∷ 255 ∷ 255 ∷ 255 ∷ 255 ∷ 0 ∷ 0 ∷ 0 ∷ 128 ∷ 255 ∷ 255 ∷ 255 ∷ 127 ∷ 9 ∷ 9 ∷ 9 ∷ 9 ∷ [])
-    ++ (0 ∷ 0 ∷ 0 ∷ 0 ∷ 1 ∷ [])
+    (3 ∷ 2 ∷ 2 ∷ 0 ∷ 1 ∷ 0 ∷ 0 ∷ 1 ∷ 2 ∷ 0 ∷ [])
+    ++ (1 ∷ 2 ∷ 3 ∷ 4 ∷ 255 ∷ 255 ∷ 255 ∷ 255 ∷ 0 ∷ 0 ∷ 0 ∷ 128 ∷ 255 ∷ 255 ∷ 255 ∷ 127 ∷ 9 ∷ 9 ∷ 9 ∷ 9 ∷ 8 ∷ 8 ∷ 8 ∷ 8 ∷ [])
+    ++ (0 ∷ 0 ∷ 0 ∷ 0 ∷ 1 ∷ 2 ∷ [])
 
--- 0x04030201, −1, and the lowest and the highest number; then a blank
+-- 0x04030201, −1, and the lowest and the highest number; then a blank and a declined one
 abbrev pub sampleTables : Tables
 sampleTables =
     ((Present (pos 67305985) ∷ Present (negsuc 0) ∷ []) ∷ (Present (negsuc 2147483647) ∷ Present (pos 2147483647) ∷ []) ∷ [])
     ∷ []
-    ∷ ((Blank ∷ []) ∷ [])
+    ∷ ((Blank ∷ []) ∷ (Declined ∷ []) ∷ [])
     ∷ []
 
 -- some bytes, and the refusal that they get
@@ -47,8 +47,9 @@ edges =
     ([] refused 1) ∷ ((0 ∷ []) refused 1) ∷ accepted (8 ∷ empties 8) ∷ ((9 ∷ empties 9) refused 1)
     ∷ ((1 ∷ 0 ∷ 0 ∷ 0 ∷ []) refused 1) ∷ accepted (1 ∷ 16 ∷ 0 ∷ 0 ∷ []) ∷ ((1 ∷ 17 ∷ 0 ∷ 0 ∷ []) refused 1)
     ∷ ((1 ∷ 1 ∷ 1 ∷ 0 ∷ replicate 4 0) refused 1) ∷ accepted (1 ∷ 1 ∷ 1 ∷ 0 ∷ replicate 5 0) ∷ ((1 ∷ 1 ∷ 1 ∷ 0 ∷ replicate 6 0) refused 1)
-    ∷ accepted (1 ∷ 1 ∷ 1 ∷ 0 ∷ replicate 5 1) ∷ ((1 ∷ 1 ∷ 1 ∷ 0 ∷ replicate 5 2) refused 2) ∷ ((1 ∷ 1 ∷ 1 ∷ 0 ∷ replicate 6 2) refused 1)
-    ∷ accepted ((1 ∷ 2 ∷ 1 ∷ 0 ∷ replicate 8 9) ++ (0 ∷ 1 ∷ [])) ∷ (((1 ∷ 2 ∷ 1 ∷ 0 ∷ replicate 8 9) ++ (0 ∷ 2 ∷ [])) refused 2) ∷ []
+    ∷ accepted (1 ∷ 1 ∷ 1 ∷ 0 ∷ replicate 5 1) ∷ accepted (1 ∷ 1 ∷ 1 ∷ 0 ∷ replicate 5 2) ∷ ((1 ∷ 1 ∷ 1 ∷ 0 ∷ replicate 5 3) refused 2) ∷ ((1 ∷ 1 ∷ 1 ∷ 0 ∷ replicate 6 3) refused 1)
+    ∷ accepted ((1 ∷ 2 ∷ 1 ∷ 0 ∷ replicate 8 9) ++ (0 ∷ 2 ∷ [])) ∷ (((1 ∷ 2 ∷ 1 ∷ 0 ∷ replicate 8 9) ++ (0 ∷ 3 ∷ [])) refused 2)
+    ∷ (((1 ∷ 2 ∷ 1 ∷ 0 ∷ replicate 8 9) ++ (255 ∷ 2 ∷ [])) refused 2) ∷ []
 
 -- ---- sizes alone, on files that are long: whether refusal 1 applies
 
@@ -68,6 +69,13 @@ sizeEdges =
 
 abbrev pub refusalAt : Edge → Option ℕ
 refusalAt e = firstApplying (tablesRefusals (e .input))
+
+-- the sample file with 2 for the mark 1 and 1 for the mark 2, and other bytes below them
+abbrev pub turnedFile : List ℕ
+turnedFile =
+    (3 ∷ 2 ∷ 2 ∷ 0 ∷ 1 ∷ 0 ∷ 0 ∷ 1 ∷ 2 ∷ 0 ∷ [])
+    ++ (1 ∷ 2 ∷ 3 ∷ 4 ∷ 255 ∷ 255 ∷ 255 ∷ 255 ∷ 0 ∷ 0 ∷ 0 ∷ 128 ∷ 255 ∷ 255 ∷ 255 ∷ 127 ∷ 7 ∷ 0 ∷ 0 ∷ 0 ∷ 0 ∷ 7 ∷ 0 ∷ 0 ∷ [])
+    ++ (0 ∷ 0 ∷ 0 ∷ 0 ∷ 2 ∷ 1 ∷ [])
 
 -- ---- two numbers, and what = <> < <= > >= say of them
 
@@ -97,6 +105,24 @@ comparisons =
 
 abbrev pub comparedSays : Compared → List Bool
 comparedSays c = map (λ n. holds (comparisonOf n) (c .left) (c .right)) (1 ∷ 2 ∷ 3 ∷ 4 ∷ 5 ∷ 6 ∷ [])
+
+-- ---- the four tests by the mark, and what they say of a cell with the mark 0, 1 and 2
+
+pub record Marked : Type 0 where
+  pub test : MarkTest
+  pub says : List Bool
+
+abbrev marked : MarkTest → List Bool → Marked
+marked m bs = record { test = m; says = bs }
+
+abbrev pub markCases : List Marked
+markCases =
+    marked Null (false ∷ true ∷ true ∷ []) ∷ marked NotNull (true ∷ false ∷ false ∷ [])
+    ∷ marked IsDeclined (false ∷ false ∷ true ∷ []) ∷ marked NotDeclined (true ∷ true ∷ false ∷ []) ∷ []
+
+-- the value bytes are those of the number 7
+abbrev pub markedSays : Marked → List Bool
+markedSays c = map (λ mark. markPasses (c .test) (cellFrom mark 7)) (0 ∷ 1 ∷ 2 ∷ [])
 
 -- ---- values, with two tables of two columns and one: level 0 at table 1, level 1 at table 2
 

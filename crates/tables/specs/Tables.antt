@@ -23,9 +23,9 @@ mostRows = 1000
 abbrev pub mostCells : ℕ
 mostCells = 8192
 
--- the highest mark; 0 is present, 1 is blank
+-- the highest mark: 0 is present, 1 is blank, and of document 02, Point 4: 'Mark 2 means declined'
 abbrev pub highestMark : ℕ
-highestMark = 1
+highestMark = 2
 
 -- ---- the sizes
 
@@ -90,21 +90,27 @@ sizesFit bs =
     && (leb (cellCount bs) mostCells
     && eqb (length bs) (marksAt bs + cellCount bs)))
 
--- refusal 2 does not apply: no mark is above the highest
+-- refusal 2 does not apply: no mark is above the highest ('Refusal 2 now means a mark above 2')
 unfoldable pub marksFit : List ℕ → Bool
 marksFit bs = all (λ k. leb (markOf bs k) highestMark) (tabulate (cellCount bs) (λ k. k))
 
 -- ---- the cells
 
--- a cell is blank, or present with a signed number
+-- a cell is blank, or declined, or present with a signed number
 pub data Cell : Type 0 where
   Blank : Cell
+  Declined : Cell
   Present : ℤ → Cell
 
--- a cell from its mark and its bits; the bits of a blank cell are dropped here, so that they affect no answer
+-- a cell by its mark; a mark above the highest, of which no answer is made, since refusal 2 applies, is taken for declined
+abbrev pub cellMarked : ℕ → ℤ → Cell
+cellMarked zero k = Present k
+cellMarked (suc zero) k = Blank
+cellMarked (suc (suc mark)) k = Declined
+
+-- a cell from its mark and its bits; the bits of a blank or a declined cell are dropped here, so that they affect no answer
 abbrev pub cellFrom : ℕ → ℕ → Cell
-cellFrom zero raw = Present (signed raw)
-cellFrom (suc mark) raw = Blank
+cellFrom mark raw = cellMarked mark (signed raw)
 
 unfoldable pub cellAt : List ℕ → ℕ → Cell
 cellAt bs k = cellFrom (markOf bs k) (valueBits bs k)

@@ -9,7 +9,7 @@ use lib.ListN.{length, getD}
 use lib.Signed.{ltZ, leZ}
 use Rattle.tables.specs.Lists.{numbered}
 use Rattle.tables.specs.Bytes.{between, inRange}
-use Rattle.tables.specs.Tables.{Cell, Blank, Present, Row, Tables, rowsOf, cellIn}
+use Rattle.tables.specs.Tables.{Cell, Blank, Declined, Present, Row, Tables, rowsOf, cellIn}
 
 -- Constant k: the number k. Column l c: column c of the row at which level l stands.
 pub data Value : Type 0 where
@@ -52,9 +52,10 @@ pub data Connective : Type 0 where
 pub data Quantifier : Type 0 where
   Some All : Quantifier
 
--- what is asked of a cell's mark: IS NULL in a rule and blank in a card, IS NOT NULL and not blank
+-- what is asked of a cell's mark, in a rule and in a card: IS NULL and blank, IS NOT NULL and not blank; and of document 02, Point 4: IS DECLINED and declined, IS NOT DECLINED and not
+-- declined
 pub data MarkTest : Type 0 where
-  Null NotNull : MarkTest
+  Null NotNull IsDeclined NotDeclined : MarkTest
 
 -- which fields a kind uses, of those that a part and an entry both have besides kind and end; what it does not use is 0
 pub record Uses : Type 0 where
@@ -107,25 +108,38 @@ infixl 60 _▸_
 abbrev pub _▸_ : Env → Row → Env
 env ▸ row = env ++ (row ∷ [])
 
--- a constant is a cell that is never blank
+-- a constant is a cell that is never blank and, since 'a number is never declined', never declined
 abbrev pub cellOf : Env → Value → Cell
 cellOf env (Constant k) = Present k
 cellOf env (Column level c) = cellIn (getD env level []) c
 
--- a comparison of two cells: by their numbers, unless one of them is blank, or both
+-- a comparison of two cells: by their numbers, unless one of them is blank, or both; Point 4: 'Wherever document 01 speaks of a blank in a comparison, a declined cell is
+-- covered too'
 abbrev pub byNumbers : {A : Type 0} → A → (ℤ → ℤ → A) → Cell → Cell → A
-byNumbers blank compare Blank y = blank
-byNumbers blank compare (Present x) Blank = blank
-byNumbers blank compare (Present x) (Present y) = compare x y
+byNumbers missing compare Blank y = missing
+byNumbers missing compare Declined y = missing
+byNumbers missing compare (Present x) Blank = missing
+byNumbers missing compare (Present x) Declined = missing
+byNumbers missing compare (Present x) (Present y) = compare x y
 
+-- declined 'is blank in every respect, IS NULL included'
 abbrev pub isBlank : Cell → Bool
 isBlank Blank = true
+isBlank Declined = true
 isBlank (Present x) = false
+
+-- 'a number is never declined', and a plain blank is not either: IS DECLINED goes 'by the mark'
+abbrev pub isDeclined : Cell → Bool
+isDeclined Blank = false
+isDeclined Declined = true
+isDeclined (Present x) = false
 
 -- whether a cell's mark is as it is asked for
 abbrev pub markPasses : MarkTest → Cell → Bool
 markPasses Null x = isBlank x
 markPasses NotNull x = not (isBlank x)
+markPasses IsDeclined x = isDeclined x
+markPasses NotDeclined x = not (isDeclined x)
 
 -- ---- what a value names exists
 

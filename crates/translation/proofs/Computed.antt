@@ -5,8 +5,8 @@ use Rattle.rule.proofs.Opened.{opened as rule-opened}
 use Rattle.rule.specs.Cases.{chained, unknownOf}
 use Rattle.translation.specs.Translation.{negated, cardOf}
 use Rattle.translation.specs.Calls.{ruleBytes, cardCall}
-use Rattle.translation.specs.Cases.{workedText, fullText, unknownText, truthText, thirdCard, readRefusal, refusalExamples}
-use Rattle.translation.specs.Claims.{WorkedCardClaim, FullCardClaim, WorkedTruthCardsClaim, LaterCaseClaim, GateCaseClaim, RefusalsClaim}
+use Rattle.translation.specs.Cases.{workedText, fullText, unknownText, truthText, declinedText, notDeclinedText, bothText, thirdCard, readRefusal, refusalExamples}
+use Rattle.translation.specs.Claims.{WorkedCardClaim, FullCardClaim, WorkedTruthCardsClaim, WorkedDeclinedCardsClaim, LaterCaseClaim, GateCaseClaim, RefusalsClaim}
 
 pub worked-card-claim : WorkedCardClaim
 unfolding card-opened rule-opened negated cardOf ruleBytes cardCall workedText
@@ -19,6 +19,10 @@ full-card-claim = refl
 pub worked-truth-cards-claim : WorkedTruthCardsClaim
 unfolding card-opened rule-opened negated cardOf ruleBytes cardCall unknownText truthText
 worked-truth-cards-claim = record { unknown = refl; every = refl }
+
+pub worked-declined-cards-claim : WorkedDeclinedCardsClaim
+unfolding card-opened rule-opened negated cardOf ruleBytes cardCall declinedText notDeclinedText bothText
+worked-declined-cards-claim = record { declined = refl; not-declined = refl; both = refl }
 
 pub later-case-claim : LaterCaseClaim
 unfolding card-opened rule-opened

@@ -7,5 +7,6 @@ pub mod Sums
 pub mod Fits
 pub mod Demand3
 pub mod Blanks
+pub mod DeclinedCards
 pub mod Status
 pub mod Room

@@ -1,6 +1,6 @@
 -- Negating a card twice gives it back; and what that makes of the cards of truth tests.
 use mathlib.Core.Path.{_≡_, refl, sym, ap, ap₂}
-use Rattle.tables.specs.Values.{Comparison, Eq, Ne, Lt, Le, Gt, Ge, Connective, And, Or, Quantifier, Some, All, MarkTest, Null, NotNull}
+use Rattle.tables.specs.Values.{Comparison, Eq, Ne, Lt, Le, Gt, Ge, Connective, And, Or, Quantifier, Some, All, MarkTest, Null, NotNull, IsDeclined, NotDeclined}
 use Rattle.card.specs.Card.{Interpretation, AsNo, AsYes, Leaf, CompareLeaf, MarkLeaf, Card, LeafEntry, PairEntry, RowEntry}
 use Rattle.rule.specs.Truth.{Truth, False, Unknown, True}
 use Rattle.rule.specs.Condition.{Is, IsNot, Apply, Rule}
@@ -30,6 +30,8 @@ quantifier-twice All = refl
 mark-twice : (m : MarkTest) → otherMark (otherMark m) ≡ m
 mark-twice Null = refl
 mark-twice NotNull = refl
+mark-twice IsDeclined = refl
+mark-twice NotDeclined = refl
 
 leaf-twice : (x : Leaf) → otherLeaf (otherLeaf x) ≡ x
 leaf-twice (CompareLeaf i op l r) = ap₂ (λ (i : Interpretation) (op : Comparison). CompareLeaf i op l r) (other-other i) (comparison-twice op)

@@ -10,9 +10,9 @@ use lib.IntN.{ℤ, pos, negsuc}
 use lib.ListN.{length, length-append, List·getD-append}
 use lib.Signed.{ltZ, leZ}
 use Rattle.tables.specs.Lists.{any, all}
-use Rattle.tables.specs.Tables.{Cell, Blank, Present, Row, Tables, rowsOf}
+use Rattle.tables.specs.Tables.{Cell, Blank, Declined, Present, Row, Tables, rowsOf}
 use Rattle.tables.proofs.Rows.{any-kept}
-use Rattle.tables.specs.Values.{Value, Constant, Column, Comparison, Eq, Ne, Lt, Le, Gt, Ge, holds, And, Or, Quantifier, Some, All, MarkTest, Null, NotNull, Env, _▸_, cellOf, markPasses}
+use Rattle.tables.specs.Values.{Value, Constant, Column, Comparison, Eq, Ne, Lt, Le, Gt, Ge, holds, And, Or, Quantifier, Some, All, MarkTest, Null, NotNull, IsDeclined, NotDeclined, Env, _▸_, cellOf, markPasses}
 use Rattle.card.specs.Card.{Interpretation, AsNo, AsYes, unknownSays, Leaf, CompareLeaf, MarkLeaf, Card, LeafEntry, PairEntry, RowEntry, compares, leafSays, overRows, answer}
 use Rattle.rule.specs.Condition.{Test, Compare, Mark, Unary, Not, Is, IsNot, From, Single, Atom, Join, Apply, Exists, Listed, Rule, letters}
 use Rattle.rule.specs.Names.{ValueScoped, Scoped}
@@ -47,13 +47,17 @@ unknown-other AsYes = refl
 
 compares-other : (i : Interpretation) (op : Comparison) (a b : Cell) → compares (other i) (otherComparison op) a b ≡ not (compares i op a b)
 compares-other i op Blank b = unknown-other i
+compares-other i op Declined b = unknown-other i
 compares-other i op (Present x) Blank = unknown-other i
+compares-other i op (Present x) Declined = unknown-other i
 compares-other i op (Present x) (Present y) = holds-other op x y
 
 -- a card's comparison is a rule's, interpreted
 compares-says : (i : Interpretation) (op : Comparison) (a b : Cell) → compares i op a b ≡ says i (compare3 op a b)
 compares-says i op Blank b = refl
+compares-says i op Declined b = refl
 compares-says i op (Present x) Blank = refl
+compares-says i op (Present x) Declined = refl
 compares-says i op (Present x) (Present y) = sym (says-truth i (holds op x y))
 
 -- ---- negating
@@ -61,6 +65,8 @@ compares-says i op (Present x) (Present y) = sym (says-truth i (holds op x y))
 mark-other : (m : MarkTest) (x : Cell) → markPasses (otherMark m) x ≡ not (markPasses m x)
 mark-other Null x = refl
 mark-other NotNull x = simp Bool·not-not
+mark-other IsDeclined x = refl
+mark-other NotDeclined x = simp Bool·not-not
 
 leaf-other : (env : Env) (x : Leaf) → leafSays env (otherLeaf x) ≡ not (leafSays env x)
 leaf-other env (CompareLeaf i op l r) = compares-other i op (cellOf env l) (cellOf env r)

@@ -1,4 +1,4 @@
--- Document 01, the worked card under Card and the examples of 'Gate says why not', and cards of document 02, Point 1: their texts and bytes, and what is to
+-- Document 01, the worked card under Card and the examples of 'Gate says why not', and cards of document 02, Points 1 and 4: their texts and bytes, and what is to
 -- come of them.
 use mathlib.Core.List.{List, [], _∷_, _++_, map}
 use mathlib.Core.Option.{Option, none, some}
@@ -21,7 +21,7 @@ workedTables = 1 ∷ 3 ∷ 0 ∷ 0 ∷ []
 unfoldable pub workedText : List ℕ
 workedText = bytes "NOT m.2 < 5"
 
--- ---- a card with every kind, for the tables of the proved cases
+-- ---- a card with each of the kinds 1 to 8, for the tables of the proved cases
 
 unfoldable pub fullText : List ℕ
 fullText =
@@ -86,13 +86,39 @@ truthBytes =
     ∷ 11 ∷ 0 ∷ 0 ∷ 2 ∷ 255 ∷ 1 ∷ 0 ∷ 0 ∷ 0 ∷ 255 ∷ 1 ∷ 0 ∷ 0 ∷ 0
     ∷ []
 
+-- ---- cards with tests for declined cells, for the tables of the worked card: one of IS DECLINED, one of NOT before it, and one with both kinds under a NOT
+
+unfoldable pub declinedText : List ℕ
+declinedText = bytes "m.2 IS DECLINED"
+
+unfoldable pub notDeclinedText : List ℕ
+notDeclinedText = bytes "NOT m.2 IS DECLINED"
+
+-- one entry of a kind, on m.2
+abbrev pub markCard : ℕ → List ℕ
+markCard kind = 1 ∷ 0 ∷ 1 ∷ 3 ∷ kind ∷ 1 ∷ 0 ∷ 0 ∷ 0 ∷ 0 ∷ 2 ∷ 0 ∷ 0 ∷ 0 ∷ 0 ∷ 0 ∷ 0 ∷ 0 ∷ 0 ∷ []
+
+unfoldable pub bothText : List ℕ
+bothText = bytes "NOT (m.2 IS DECLINED AND NOT m.1 IS DECLINED) OR 5 IS NOT DECLINED"
+
+abbrev pub bothBytes : List ℕ
+bothBytes =
+    5 ∷ 0 ∷ 1 ∷ 3
+    ∷ 2 ∷ 2 ∷ 10 ∷ 9 ∷ 10
+    ∷ 5 ∷ 0 ∷ 0 ∷ 0 ∷ 0 ∷ 0 ∷ 0 ∷ 0 ∷ 0 ∷ 0 ∷ 0 ∷ 0 ∷ 0 ∷ 0
+    ∷ 4 ∷ 0 ∷ 0 ∷ 0 ∷ 0 ∷ 0 ∷ 0 ∷ 0 ∷ 0 ∷ 0 ∷ 0 ∷ 0 ∷ 0 ∷ 0
+    ∷ 3 ∷ 0 ∷ 0 ∷ 0 ∷ 0 ∷ 2 ∷ 0 ∷ 0 ∷ 0 ∷ 0 ∷ 0 ∷ 0 ∷ 0 ∷ 0
+    ∷ 4 ∷ 0 ∷ 0 ∷ 0 ∷ 0 ∷ 1 ∷ 0 ∷ 0 ∷ 0 ∷ 0 ∷ 0 ∷ 0 ∷ 0 ∷ 0
+    ∷ 5 ∷ 0 ∷ 0 ∷ 0 ∷ 255 ∷ 5 ∷ 0 ∷ 0 ∷ 0 ∷ 0 ∷ 0 ∷ 0 ∷ 0 ∷ 0
+    ∷ []
+
 -- ---- a later file for the tables of the proved cases
 
 abbrev pub laterTables : List ℕ
 laterTables =
     (3 ∷ 2 ∷ 1 ∷ 0 ∷ 1 ∷ 0 ∷ 0 ∷ 1 ∷ 2 ∷ 0 ∷ [])
     ++ (bytes32 4000000000 ++ bytes32 0 ++ bytes32 17 ++ bytes32 18)
-    ++ (1 ∷ 0 ∷ 0 ∷ 1 ∷ [])
+    ++ (1 ∷ 0 ∷ 0 ∷ 2 ∷ [])
 
 -- ---- RUN and LIST on the card of case 3, which is true on rows 0 and 2
 
@@ -119,12 +145,12 @@ threeRows = (1 ∷ 2 ∷ 3 ∷ 0 ∷ []) ++ replicate 30 0
 unfoldable pub readRefusal : List ℕ → List ℕ → Option ℕ
 readRefusal text file = refusalOf (readCall text file (replicate 64 (partBy 0 0 0 0 unused unused)) .result)
 
--- the examples of the table, in its order; 6 has two. Then a bad mark, and wrong sizes, with a text that is refused too. Then 13 from each call that reads, before 11 and 12: seven IS UNKNOWN in one another, a sum of 255; and
+-- the examples of the table, in its order; that of 2 'ends in 03' (document 02, Point 4), and 6 has two. Then a bad mark, and wrong sizes, with a text that is refused too. Then 13 from each call that reads, before 11 and 12: seven IS UNKNOWN in one another, a sum of 255; and
 -- 11 and 12 where six of them, 127, are no reason to refuse
 unfoldable pub refusalExamples : List (Option ℕ)
 refusalExamples =
     readRefusal (bytes "1 = 1") (0 ∷ [])
-    ∷ readRefusal (bytes "1 = 1") (0x01 ∷ 0x01 ∷ 0x01 ∷ 0x00 ∷ 0x00 ∷ 0x00 ∷ 0x00 ∷ 0x00 ∷ 0x02 ∷ [])
+    ∷ readRefusal (bytes "1 = 1") (0x01 ∷ 0x01 ∷ 0x01 ∷ 0x00 ∷ 0x00 ∷ 0x00 ∷ 0x00 ∷ 0x00 ∷ 0x03 ∷ [])
     ∷ readRefusal (replicate 4097 32) emptyTables
     ∷ readRefusal (bytes "m.1 = 2147483648") emptyTables
     ∷ readRefusal (replicate 33 40) emptyTables
@@ -136,7 +162,7 @@ refusalExamples =
     ∷ refusalOf (runCall workedCard threeRows 0)
     ∷ refusalOf (judgeCall (bytes "m.1 = 1") threeRows 3)
     ∷ refusalOf (cardCall workedText workedTables (replicate 18 0) .result)
-    ∷ readRefusal (bytes "!") (0x01 ∷ 0x01 ∷ 0x01 ∷ 0x00 ∷ 0x00 ∷ 0x00 ∷ 0x00 ∷ 0x00 ∷ 0x02 ∷ [])
+    ∷ readRefusal (bytes "!") (0x01 ∷ 0x01 ∷ 0x01 ∷ 0x00 ∷ 0x00 ∷ 0x00 ∷ 0x00 ∷ 0x00 ∷ 0x03 ∷ [])
     ∷ readRefusal (replicate 4097 32) (0 ∷ [])
     ∷ readRefusal (unknownOf 7 (bytes "1 = 1")) emptyTables
     ∷ refusalOf (readCall (unknownOf 7 (bytes "1 = 1")) emptyTables [] .result)

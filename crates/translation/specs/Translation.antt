@@ -1,6 +1,6 @@
--- Document 01, Card, with the truth tests of document 02, Point 1: the card of a rule, in its two interpretations.
+-- Document 01, Card, with the truth tests of document 02, Point 1, and the tests for declined cells of Point 4: the card of a rule, in its two interpretations.
 use Prim.Native.Nat.{ℕ}
-use Rattle.tables.specs.Values.{Comparison, Eq, Ne, Lt, Le, Gt, Ge, Value, Connective, And, Or, Quantifier, Some, All, MarkTest, Null, NotNull}
+use Rattle.tables.specs.Values.{Comparison, Eq, Ne, Lt, Le, Gt, Ge, Value, Connective, And, Or, Quantifier, Some, All, MarkTest, Null, NotNull, IsDeclined, NotDeclined}
 use Rattle.card.specs.Card.{Interpretation, AsNo, AsYes, Leaf, CompareLeaf, MarkLeaf, Card, LeafEntry, PairEntry, RowEntry}
 use Rattle.rule.specs.Truth.{False, Unknown, True}
 use Rattle.rule.specs.Condition.{Test, Compare, Mark, Unary, Not, Is, IsNot, From, Single, Atom, Join, Apply, Exists, Listed, Rule}
@@ -33,8 +33,10 @@ otherComparison Ge = Lt
 abbrev pub otherMark : MarkTest → MarkTest
 otherMark Null = NotNull
 otherMark NotNull = Null
+otherMark IsDeclined = NotDeclined
+otherMark NotDeclined = IsDeclined
 
--- kinds 5 and 6 with their comparisons, 7 and 8
+-- kinds 5 and 6 with their comparisons, 7 and 8; and 9 and 10, 'which NOT swaps' (document 02, Point 4)
 abbrev pub otherLeaf : Leaf → Leaf
 otherLeaf (CompareLeaf i op l r) = CompareLeaf (other i) (otherComparison op) l r
 otherLeaf (MarkLeaf m l) = MarkLeaf (otherMark m) l
@@ -47,6 +49,7 @@ negated (RowEntry q t c) = RowEntry (otherQuantifier q) t (negated c)
 
 -- ---- the card of a rule
 
+-- a test by the mark is never unknown, so its entry is the same in either interpretation
 abbrev pub leafOf : Interpretation → Test Value → Leaf
 leafOf i (Compare op l r) = CompareLeaf i op l r
 leafOf i (Mark m l) = MarkLeaf m l

@@ -1,14 +1,14 @@
 -- Numbers plus 2 ^ 31, and what was seen of two cells: they compare as the signed numbers do.
 use mathlib.Core.Path.{_≡_, refl, ap, ap₂, sym, _∙_}
-use mathlib.Core.Bool.{Bool, true, false, not, cond, _&&_, _||_}
+use mathlib.Core.Bool.{Bool, true, false, not, _&&_, _||_}
 use Prim.Native.Nat.{ℕ, zero, suc, _-_, _<_, _≤_}
 use native.Mathlib.Omega.{arith}
 use borrow.Author.Tests.{ltb-true, ltb-false, leb-true, leb-false, lt-ltb, le-ltb, lt-leb, le-leb, eq-eqb, ne-eqb}
 use lib.Dec.{ltb, leb, eqb}
 use lib.IntN.{ℤ, pos, negsuc, subℕ}
 use lib.Signed.{ltZ, leZ}
-use Rattle.tables.specs.Tables.{Blank, Present}
-use Rattle.tables.specs.Values.{Comparison, Eq, Ne, Lt, Le, Gt, Ge, comparisonOf, eqZ, holds, byNumbers, isBlank}
+use Rattle.tables.specs.Tables.{Cell, Blank, Declined, Present, cellMarked}
+use Rattle.tables.specs.Values.{Comparison, Eq, Ne, Lt, Le, Gt, Ge, comparisonOf, eqZ, holds, byNumbers, isBlank, isDeclined}
 use Rattle.cells.specs.Code.{excessAdded, fromExcess, seenCell}
 use Rattle.cells.specs.declared.Seen.{Seen}
 
@@ -121,29 +121,53 @@ otherwise-eq (suc (suc (suc (suc (suc (suc (suc n))))))) a b c d e = refl
 
 -- ---- what was seen of cells
 
-pub seen-blank : (x : Seen) → x .blank ≡ isBlank (seenCell x)
-seen-blank x = go (x .blank) refl
+pub seen-blank : (x : Seen) → not (eqb (x .mark) 0) ≡ isBlank (seenCell x)
+seen-blank x = go (x .mark)
   where
-    go : (t : Bool) → x .blank ≡ t → x .blank ≡ isBlank (seenCell x)
-    go true e = rw e
-    go false e = rw e
+    go : (m : ℕ) → not (eqb m 0) ≡ isBlank (cellMarked m (fromExcess (x .number)))
+    go zero = refl
+    go (suc zero) = refl
+    go (suc (suc m)) = rw (ne-eqb (suc (suc m)) 0 (λ e. omega arith))
 
-module _ {A : Type 0} (unknown : A) (compare : ℤ → ℤ → A) (x y : Seen) where
-  pub one-blank : (x .blank || y .blank) ≡ true → unknown ≡ byNumbers unknown compare (seenCell x) (seenCell y)
-  one-blank h = go (x .blank) (y .blank) h
-    where
-      go : (a b : Bool) → (a || b) ≡ true
-          → unknown ≡ byNumbers unknown compare (cond a Blank (Present (fromExcess (x .number)))) (cond b Blank (Present (fromExcess (y .number))))
-      go true b e = refl
-      go false true e = refl
-      go false false e = let z : _≡_ {A = ℕ} 0 1 = cc in absurd (omega arith)
+pub seen-marked : (x : Seen) → leb 1 (x .mark) ≡ isBlank (seenCell x)
+seen-marked x = go (x .mark)
+  where
+    go : (m : ℕ) → leb 1 m ≡ isBlank (cellMarked m (fromExcess (x .number)))
+    go zero = refl
+    go (suc zero) = refl
+    go (suc (suc m)) = rw (le-leb 1 (suc (suc m)) (omega arith))
 
-  pub none-blank : (x .blank || y .blank) ≡ false
-      → compare (fromExcess (x .number)) (fromExcess (y .number)) ≡ byNumbers unknown compare (seenCell x) (seenCell y)
-  none-blank h = go (x .blank) (y .blank) h
-    where
-      go : (a b : Bool) → (a || b) ≡ false → compare (fromExcess (x .number)) (fromExcess (y .number))
-          ≡ byNumbers unknown compare (cond a Blank (Present (fromExcess (x .number)))) (cond b Blank (Present (fromExcess (y .number))))
-      go true b e = let z : _≡_ {A = ℕ} 0 1 = cc in absurd (omega arith)
-      go false true e = let z : _≡_ {A = ℕ} 0 1 = cc in absurd (omega arith)
-      go false false e = refl
+pub seen-declined : (x : Seen) → leb 2 (x .mark) ≡ isDeclined (seenCell x)
+seen-declined x = go (x .mark)
+  where
+    go : (m : ℕ) → leb 2 m ≡ isDeclined (cellMarked m (fromExcess (x .number)))
+    go zero = refl
+    go (suc zero) = refl
+    go (suc (suc m)) = rw (le-leb 2 (suc (suc m)) (omega arith))
+
+module _ {A : Type 0} (unknown : A) (compare : ℤ → ℤ → A) where
+  -- two cells of which one is blank or declined; and two that are present
+  blank-unknown : (x y : Cell) → (isBlank x || isBlank y) ≡ true → unknown ≡ byNumbers unknown compare x y
+  blank-unknown Blank y e = refl
+  blank-unknown Declined y e = refl
+  blank-unknown (Present k) Blank e = refl
+  blank-unknown (Present k) Declined e = refl
+  blank-unknown (Present k) (Present l) e = let z : _≡_ {A = ℕ} 0 1 = cc in absurd (omega arith)
+
+  present-compared : (m n : ℕ) (k l : ℤ) → (isBlank (cellMarked m k) || isBlank (cellMarked n l)) ≡ false → compare k l ≡ byNumbers unknown compare (cellMarked m k) (cellMarked n l)
+  present-compared zero zero k l e = refl
+  present-compared zero (suc zero) k l e = let z : _≡_ {A = ℕ} 0 1 = cc in absurd (omega arith)
+  present-compared zero (suc (suc n)) k l e = let z : _≡_ {A = ℕ} 0 1 = cc in absurd (omega arith)
+  present-compared (suc zero) n k l e = let z : _≡_ {A = ℕ} 0 1 = cc in absurd (omega arith)
+  present-compared (suc (suc m)) n k l e = let z : _≡_ {A = ℕ} 0 1 = cc in absurd (omega arith)
+
+  module _ (x y : Seen) where
+    either-blank : (not (eqb (x .mark) 0) || not (eqb (y .mark) 0)) ≡ (isBlank (seenCell x) || isBlank (seenCell y))
+    either-blank = ap₂ _||_ (seen-blank x) (seen-blank y)
+
+    pub one-blank : (not (eqb (x .mark) 0) || not (eqb (y .mark) 0)) ≡ true → unknown ≡ byNumbers unknown compare (seenCell x) (seenCell y)
+    one-blank h = blank-unknown (seenCell x) (seenCell y) (sym either-blank ∙ h)
+
+    pub none-blank : (not (eqb (x .mark) 0) || not (eqb (y .mark) 0)) ≡ false
+        → compare (fromExcess (x .number)) (fromExcess (y .number)) ≡ byNumbers unknown compare (seenCell x) (seenCell y)
+    none-blank h = present-compared (x .mark) (y .mark) (fromExcess (x .number)) (fromExcess (y .number)) (sym either-blank ∙ h)

@@ -75,6 +75,6 @@ pub record ValueReady (g file w : List ℕ) (v : HeldValue) : Type 0 where
   pub readable : Readable g file w levels env
   pub fits : T (valueFits (columnsOf file) levels (valueIn v))
 
--- the cell of the value; which number is seen under a blank is open, and no comparison reads it
+-- the cell of the value; which number is seen under a blank or a declined one is open, and no answer depends on it
 abbrev pub Sees : (g file w : List ℕ) → HeldValue → Seen → Type 0
 Sees g file w v r = (h : ValueReady g file w v) → seenCell r ≡ cellOf (h .env) (valueIn v)

@@ -8,6 +8,7 @@ ghost use Rattle.tables.specs.Values.{comparisonOf, holds};
 ghost use Rattle.cells.specs.Code.{fromExcess};
 ghost use Rattle.values.specs.Code.{unusedHeld, heldSize, heldNumbers, heldAt, ValueReady, Sees};
 use cells::PLACES;
+use cells::PRESENT_MARK;
 use cells::Place;
 use cells::Seen;
 
@@ -61,7 +62,7 @@ pub fn look(g: &[usize; PLACES], file: &[u8], w: &[usize; LEVELS], v: HeldValue)
     let tag = v.tag;
     if tag == CONSTANT {
         return Seen {
-            blank: false,
+            mark: PRESENT_MARK,
             number: v.number,
         };
     }

@@ -1,10 +1,9 @@
 -- What a window shows: where a table stands, that its cells lie within the file, the cell that is seen, and the cell of the table that the file holds.
-use mathlib.Core.Path.{_≡_, sym, ap, ap₂, _∙_}
+use mathlib.Core.Path.{_≡_, refl, sym, ap, ap₂, _∙_}
 use mathlib.Core.List.{List, []}
 use Prim.Native.Nat.{ℕ, zero, suc, _+_, _*_, _<_}
 use native.Mathlib.Nat.{mul-le-mul-right, suc-mul}
 use native.Mathlib.Omega.{arith}
-use borrow.Author.Tests.{ne-eqb}
 use lib.ListN.{getD}
 use Rattle.tables.specs.Lists.{tabulate}
 use Rattle.tables.specs.Bytes.{signed}
@@ -23,7 +22,8 @@ use Rattle.window.specs.Claims.{WindowClaim}
 
 seen-is : (mark raw : ℕ) → seenCell (seenOf mark (toExcess (signed raw))) ≡ cellFrom mark raw
 seen-is zero raw = ap Present (from-to (signed raw) (signed-in raw))
-seen-is (suc m) raw = rw (ne-eqb (suc m) 0 (λ e. omega arith))
+seen-is (suc zero) raw = refl
+seen-is (suc (suc m)) raw = refl
 
 pub seen-at : (file : List ℕ) (at : Place) (row column mark number : ℕ) (r : Seen)
     → mark ≡ markAt file (at .marks) (cellNumber (at .first) (at .columns) row column) → number ≡ valueAt file (at .values) (cellNumber (at .first) (at .columns) row column)

@@ -1,9 +1,7 @@
 -- Document 01, Tables: a window on one table shows its rows and columns without copying. It is the bytes of a tables file and where the cells of the table,
 -- or of a part of it, stand in them; rows and columns count from 0 here.
-use mathlib.Core.Bool.{not}
 use mathlib.Core.List.{List}
 use Prim.Native.Nat.{ℕ, _+_, _*_, _<_}
-use lib.Dec.{eqb}
 use lib.ListN.{length}
 use denote.Ref.{RefT}
 use Rattle.tables.specs.Bytes.{byteAt, word32, signed}
@@ -51,9 +49,9 @@ shown file at row column =
 
 -- what a cell with this mark and this number, plus 2 ^ 31, is seen as
 abbrev pub seenOf : ℕ → ℕ → Seen
-seenOf mark number = record { blank = not (eqb mark 0); number = number }
+seenOf mark number = record { mark = mark; number = number }
 
--- what is seen in a row and a column; of a blank cell, the number is that of its value bytes
+-- what is seen in a row and a column; of a blank or declined cell, the number is that of its value bytes
 abbrev pub seenAt : List ℕ → Place → ℕ → ℕ → Seen
 seenAt file at row column =
     let k = cellNumber (at .first) (at .columns) row column in

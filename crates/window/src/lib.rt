@@ -82,10 +82,7 @@ pub fn value<'a>(w: Window<'a>, row: usize, column: usize) -> usize
 fn seen(mark: u8, number: usize) -> Seen
     ensures { λ r. ⌜ r ≡ seenOf mark number ⌝ }
 {
-    Seen {
-        blank: mark != 0,
-        number,
-    }
+    Seen { mark, number }
 }
 
 // A cell through a window. Mark and value are both read whatever the mark says: a branch on the mark would cost more than the read.

@@ -5,7 +5,7 @@ use mathlib.Core.Logic.{⊎-elim}
 use native.Mathlib.Omega.{arith}
 use Rattle.tables.specs.Values.{And}
 use Rattle.rule.specs.Names.{mostParts}
-use Rattle.rule.proofs.Groups.{join-number}
+use Rattle.rule.proofs.Groups.{join-number, declined-number}
 use Rattle.parts.proofs.Parts.{kind-low, kind-high}
 use Rattle.entries.proofs.Writing.{mark-left, list-left, unknown-left, compare-ready, compare-wrote, mark-ready, mark-wrote, not-ready, not-wrote, join-few, next-above, join-inner, unknown-inner, pair-plain-asked, left-ready, right-ready, pair-end-asked, pair-wrote, exists-plain-asked, exists-ready, exists-end-asked, exists-wrote, list-plain-asked, list-plain-asked-2, list-ready, list-compare-ready, list-end-asked, list-end-asked-2, list-wrote}
 use Prim.Native.Nat.{ℕ, _+_, _*_, _-_, _<_}
@@ -309,12 +309,17 @@ write-part-write-unknown-requires t c κs =
     let m = o .pre .0 in
     (omega arith, (o .pre .1, unknown-left _ (c .before .before .before .if5 .left) (omega (arith, c .before .before .if6 .taken))))
 
+write-part-write-mark-requires-2 : (t : ℕ) → write-part-lts.Need-write-mark-requires-2 (write-part-claims t) (write-part-at t) write-part.Post
+write-part-write-mark-requires-2 t c κs =
+    let o = c .before .before .before .before .before .before .before .before .before .before .before .before in
+    mark-ready (o .pre .1) (declined-number _ (c .before .before .before .if6 .left) (omega (arith, c .before .before .if7 .taken)))
+
 write-part-never-requires : (t : ℕ) → write-part-lts.Need-never-requires (write-part-claims t) (write-part-at t) write-part.Post
 write-part-never-requires t c κs =
     let o = c .before .before .before .before in
     let low = kind-low _ _ (o .pre .1 .rule) (o .pre .1 .stands) in
     let high = kind-high _ _ (o .pre .1 .rule) (o .pre .1 .stands) in
-    ⊎-elim (λ w. omega (arith, w .taken)) (λ w. omega (arith, w .5 .left)) (c .if1 .came)
+    ⊎-elim (λ w. omega (arith, w .taken)) (λ w. omega (arith, w .6 .left)) (c .if1 .came)
 
 write-part-returns : (t : ℕ) → write-part-lts.Need-returns (write-part-claims t) (write-part-at t) write-part.Post
 write-part-returns t c =
@@ -343,6 +348,10 @@ write-part-returns-7 t c = c .before .before .before .before .before .under-trut
 
 write-part-returns-8 : (t : ℕ) → write-part-lts.Need-returns-8 (write-part-claims t) (write-part-at t) write-part.Post
 write-part-returns-8 t c = c .before .before .write-unknown .ensures
+
+write-part-returns-9 : (t : ℕ) → write-part-lts.Need-returns-9 (write-part-claims t) (write-part-at t) write-part.Post
+write-part-returns-9 t c =
+    λ h. mark-wrote h (declined-number _ (c .before .before .before .before .before .before .if6 .left) (omega (arith, c .before .before .before .before .before .if7 .taken))) (c .before .before .write-mark2 .ensures)
 
 pub +write-exists+write-list+write-pair+write-part+write-unknown-spec : {M : Type 1} → statement M
 +write-exists+write-list+write-pair+write-part+write-unknown-spec =
@@ -410,6 +419,7 @@ pub +write-exists+write-list+write-pair+write-part+write-unknown-spec : {M : Typ
     (write-part-under-truth-requires t)
     (write-part-write-part-requires-2 t)
     (write-part-write-unknown-requires t)
+    (write-part-write-mark-requires-2 t)
     (write-part-never-requires t)
     (λ c. search needs)
     (write-part-returns t)
@@ -427,6 +437,8 @@ pub +write-exists+write-list+write-pair+write-part+write-unknown-spec : {M : Typ
     (write-part-returns-7 t)
     (λ c. search needs)
     (write-part-returns-8 t)
+    (λ c. search needs)
+    (write-part-returns-9 t)
     (λ c. search needs))
     λ t. write-unknown-lts.spec (write-unknown-claims t) (write-unknown-at t) write-unknown.Post
     (λ c. search needs)

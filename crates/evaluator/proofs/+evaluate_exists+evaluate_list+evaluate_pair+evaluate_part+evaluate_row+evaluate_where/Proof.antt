@@ -1,7 +1,7 @@
 -- The functions that evaluate a part with its inner parts meet their contracts. Every inner part has a larger number, so the most parts less the number falls.
 use mathlib.Core.Path.{refl, sym, _∙_}
 use mathlib.Core.List.{List}
-use mathlib.Core.Logic.{⊎-elim}
+use mathlib.Core.Logic.{inr, ⊎-elim}
 use Prim.Native.Nat.{ℕ, _+_, _-_, _*_, _<_}
 use native.Mathlib.Omega.{arith}
 use lib.ListN.{getD}
@@ -9,9 +9,9 @@ use borrow.Author.Needs.{needs}
 use Rattle.tables.specs.Values.{And, Or, Some, All}
 use Rattle.rule.specs.Names.{mostParts}
 use Rattle.rule.specs.Condition.{Not}
-use Rattle.rule.specs.Groups.{UnaryNumber}
+use Rattle.rule.specs.Groups.{UnaryNumber, TestNumber}
 use Rattle.rule.specs.Truth.{False, truthNumber}
-use Rattle.rule.proofs.Groups.{test-number}
+use Rattle.rule.proofs.Groups.{declined-number, test-number}
 use Rattle.names.specs.Code.{partSize}
 use Rattle.parts.proofs.Parts.{kind-low, kind-high}
 use Rattle.evaluator.proofs.Truths.{takes-smaller, takes-greater, over-none-by, quantifierOf, none-is, none-high, none-decides}
@@ -364,16 +364,24 @@ evaluate-part-evaluate-list-requires t c κs = let m = c .before .before .before
 evaluate-part-evaluate-list-requires-2 : (t : ℕ) → evaluate-part-lts.Need-evaluate-list-requires-2 (evaluate-part-claims t) (evaluate-part-at t) evaluate-part.Post
 evaluate-part-evaluate-list-requires-2 t c κs = let m = c .before .before .before .pre .0 in (omega arith, (c .before .before .before .pre .1, over-none-by All (c .match .keys6)))
 
+-- a test
+evaluate-part-test : (t : ℕ) (c : evaluate-part-lts.Joined2 (evaluate-part-claims t) (evaluate-part-at t) evaluate-part.Post)
+    → let a = c .before .before .before .before .before .args in
+    TestNumber (getD (a .p .now) (partSize * a .s) 0)
+evaluate-part-test t c =
+    ⊎-elim
+    (λ w. test-left (c .before .before .before .before .before .pre .1) (c .before .before .match .rest) (omega (arith, w .taken)))
+    (λ w. inr (declined-number _ (w .1 .left) (omega (arith, w .2 .taken))))
+    (c .if2 .came)
+
 evaluate-part-evaluate-test-requires : (t : ℕ) → evaluate-part-lts.Need-evaluate-test-requires (evaluate-part-claims t) (evaluate-part-at t) evaluate-part.Post
-evaluate-part-evaluate-test-requires t c κs =
-    let o = c .before .before .before .before .before .pre .1 in
-    test-ready o (test-left o (c .before .before .match .rest) (omega (arith, c .if2 .taken)))
+evaluate-part-evaluate-test-requires t c κs = test-ready (c .before .before .before .before .before .pre .1) (evaluate-part-test t c)
 
 -- a truth test
 evaluate-part-truth : (t : ℕ) (c : evaluate-part-lts.Then3 (evaluate-part-claims t) (evaluate-part-at t) evaluate-part.Post)
     → let a = c .before .before .before .before .before .before .args in
     UnaryNumber (getD (a .p .now) (partSize * a .s) 0)
-evaluate-part-truth t c = truth-left (c .before .before .before .before .before .before .pre .1) (c .before .before .before .match .rest) (omega (arith, c .before .if2 .left))
+evaluate-part-truth t c = truth-left (c .before .before .before .before .before .before .pre .1) (c .before .before .before .match .rest) (omega (arith, c .before .if2 .left)) (omega (arith, c .if3 .taken))
 
 evaluate-part-add-evaluate-part-2 : (t : ℕ) → evaluate-part-lts.Need-add-evaluate-part-2 (evaluate-part-claims t) (evaluate-part-at t) evaluate-part.Post
 evaluate-part-add-evaluate-part-2 t c = let z = start (c .before .before .before .before .before .before .pre .1) in omega arith
@@ -393,7 +401,7 @@ evaluate-part-unary-value-requires-2 t c κs =
 evaluate-part-never-requires : (t : ℕ) → evaluate-part-lts.Need-never-requires (evaluate-part-claims t) (evaluate-part-at t) evaluate-part.Post
 evaluate-part-never-requires t c κs =
     let o = c .before .before .before .before .pre .1 in
-    ⊎-elim (λ w. omega (arith, w .taken, kind-low _ _ (o .rule) (o .stands))) (λ w. omega (arith, w .2 .left, kind-high _ _ (o .rule) (o .stands))) (c .if1 .came)
+    ⊎-elim (λ w. omega (arith, w .taken, kind-low _ _ (o .rule) (o .stands))) (λ w. omega (arith, w .3 .left, kind-high _ _ (o .rule) (o .stands))) (c .if1 .came)
 
 evaluate-part-returns : (t : ℕ) → evaluate-part-lts.Need-returns (evaluate-part-claims t) (evaluate-part-at t) evaluate-part.Post
 evaluate-part-returns t c = c .evaluate-pair .ensures
@@ -416,11 +424,10 @@ evaluate-part-returns-6 t c = c .evaluate-list2 .ensures
 
 evaluate-part-returns-7 : (t : ℕ) → evaluate-part-lts.Need-returns-7 (evaluate-part-claims t) (evaluate-part-at t) evaluate-part.Post
 evaluate-part-returns-7 t c = λ h.
-    test-evaluated h (test-left h (c .before .before .before .match .rest) (omega (arith, c .before .if2 .taken))) (c .evaluate-test .result) (c .evaluate-test .ensures)
+    unary-evaluated h (evaluate-part-truth t (c .before .before)) (c .before .evaluate-part2 .result) (c .before .evaluate-part2 .ensures) _ (c .unary-value2 .ensures)
 
 evaluate-part-returns-8 : (t : ℕ) → evaluate-part-lts.Need-returns-8 (evaluate-part-claims t) (evaluate-part-at t) evaluate-part.Post
-evaluate-part-returns-8 t c = λ h.
-    unary-evaluated h (evaluate-part-truth t (c .before .before)) (c .before .evaluate-part2 .result) (c .before .evaluate-part2 .ensures) _ (c .unary-value2 .ensures)
+evaluate-part-returns-8 t c = λ h. test-evaluated h (evaluate-part-test t (c .before)) (c .evaluate-test .result) (c .evaluate-test .ensures)
 
 evaluate-part-returns-9 : (t : ℕ) → evaluate-part-lts.Need-returns-9 (evaluate-part-claims t) (evaluate-part-at t) evaluate-part.Post
 evaluate-part-returns-9 t c = absurd (c .never .ensures)
@@ -467,14 +474,24 @@ evaluate-where-mul-kind-2 t c = let z = start (c .before .pre .1) in omega arith
 evaluate-where-element-copy-out-kind : (t : ℕ) → evaluate-where-lts.Need-element-copy-out-kind (evaluate-where-claims t) (evaluate-where-at t) evaluate-where.Post
 evaluate-where-element-copy-out-kind t c = let z = start (c .before .pre .1) in omega arith
 
+-- a test
+evaluate-where-test : (t : ℕ) (c : evaluate-where-lts.Joined2 (evaluate-where-claims t) (evaluate-where-at t) evaluate-where.Post)
+    → let a = c .before .before .before .before .args in
+    TestNumber (getD (a .p .now) (partSize * a .s) 0)
+evaluate-where-test t c =
+    ⊎-elim
+    (λ w. test-number _ (c .before .if1 .left) (omega (arith, w .taken)))
+    (λ w. inr (declined-number _ (w .1 .left) (omega (arith, w .2 .taken))))
+    (c .if2 .came)
+
 evaluate-where-evaluate-test-requires : (t : ℕ) → evaluate-where-lts.Need-evaluate-test-requires (evaluate-where-claims t) (evaluate-where-at t) evaluate-where.Post
-evaluate-where-evaluate-test-requires t c κs = test-ready (c .before .before .before .before .pre .1) (test-number _ (c .before .if1 .left) (omega (arith, c .if2 .taken)))
+evaluate-where-evaluate-test-requires t c κs = test-ready (c .before .before .before .before .pre .1) (evaluate-where-test t c)
 
 evaluate-where-evaluate-part-requires : (t : ℕ) → evaluate-where-lts.Need-evaluate-part-requires (evaluate-where-claims t) (evaluate-where-at t) evaluate-where.Post
 evaluate-where-evaluate-part-requires t c κs = let m = c .before .before .before .pre .0 in let z = start (c .before .before .before .pre .1) in (omega arith, c .before .before .before .pre .1)
 
 evaluate-where-returns : (t : ℕ) → evaluate-where-lts.Need-returns (evaluate-where-claims t) (evaluate-where-at t) evaluate-where.Post
-evaluate-where-returns t c = λ h. test-evaluated h (test-number _ (c .before .before .if1 .left) (omega (arith, c .before .if2 .taken))) (c .evaluate-test .result) (c .evaluate-test .ensures)
+evaluate-where-returns t c = λ h. test-evaluated h (evaluate-where-test t (c .before)) (c .evaluate-test .result) (c .evaluate-test .ensures)
 
 evaluate-where-returns-2 : (t : ℕ) → evaluate-where-lts.Need-returns-2 (evaluate-where-claims t) (evaluate-where-at t) evaluate-where.Post
 evaluate-where-returns-2 t c = c .evaluate-part .ensures
@@ -566,10 +583,10 @@ pub +evaluate-exists+evaluate-list+evaluate-pair+evaluate-part+evaluate-row+eval
     (evaluate-part-evaluate-exists-requires t)
     (evaluate-part-evaluate-list-requires t)
     (evaluate-part-evaluate-list-requires-2 t)
-    (evaluate-part-evaluate-test-requires t)
     (evaluate-part-add-evaluate-part-2 t)
     (evaluate-part-evaluate-part-requires-2 t)
     (evaluate-part-unary-value-requires-2 t)
+    (evaluate-part-evaluate-test-requires t)
     (evaluate-part-never-requires t)
     (evaluate-part-returns t)
     (evaluate-part-returns-2 t)

@@ -26,7 +26,7 @@ keep-cell-requires : tie.Need-keep-cell-requires Inv-loop μ-loop
 keep-cell-requires c κs =
     let loop = c .before .before .before .before .loop in
     let found = c .before .before .field-at .ensures in
-    (loop .inv .kept .room, (found .bits-small, found .mark-small))
+    (loop .inv .kept .room, found .bits-small)
 
 add-column : tie.Need-add-column Inv-loop μ-loop
 add-column c = let few = c .before .before .before .before .before .before .before .before .before .loop .inv .few in omega arith

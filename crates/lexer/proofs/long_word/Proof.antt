@@ -44,9 +44,13 @@ unfolding wordCode words bytes
 returns-9 c = rw (c .match .keys9)
 
 returns-10 : tie.Need-returns-10
-returns-10 c =
+unfolding wordCode words bytes
+returns-10 c = rw (c .match .keys10)
+
+returns-11 : tie.Need-returns-11
+returns-11 c =
     let r = c .match .rest in
-    no-word (c .before .args .spelled) (λ e. omega arith) (λ e. omega arith) (λ e. omega arith) (r .0 .0 .0 .0 .0 .0 .0 .0 .1) (λ e. omega arith) (r .0 .0 .0 .0 .0 .0 .0 .1) (λ e. omega arith) (λ e. omega arith) (r .0 .0 .0 .0 .0 .0 .1) (r .0 .0 .0 .0 .0 .1) (r .0 .0 .0 .0 .1) (r .0 .0 .0 .1) (r .0 .0 .1) (r .0 .1) (r .1)
+    no-word (c .before .args .spelled) (λ e. omega arith) (λ e. omega arith) (λ e. omega arith) (r .0 .0 .0 .0 .0 .0 .0 .0 .0 .1) (λ e. omega arith) (r .0 .0 .0 .0 .0 .0 .0 .0 .1) (λ e. omega arith) (λ e. omega arith) (r .0 .0 .0 .0 .0 .0 .0 .1) (r .0 .0 .0 .0 .0 .0 .1) (r .0 .0 .0 .0 .0 .1) (r .0 .0 .0 .0 .1) (r .0 .0 .0 .1) (r .0 .0 .1) (r .0 .1) (r .1)
 
 pub long-word-spec : {M : Type 1} → statement M
 long-word-spec =
@@ -61,4 +65,5 @@ long-word-spec =
     returns-7
     returns-8
     returns-9
-    returns-10)
+    returns-10
+    returns-11)

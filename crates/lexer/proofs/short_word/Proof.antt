@@ -34,7 +34,7 @@ returns-6 c = rw (c .match .keys6)
 returns-7 : tie.Need-returns-7
 returns-7 c =
     let r = c .match .rest in
-    no-word (c .before .args .spelled) (r .0 .0 .0 .0 .0 .1) (r .0 .0 .0 .0 .1) (r .0 .0 .0 .1) (λ e. omega arith) (r .0 .0 .1) (λ e. omega arith) (r .0 .1) (r .1) (λ e. omega arith) (λ e. omega arith) (λ e. omega arith) (λ e. omega arith) (λ e. omega arith) (λ e. omega arith) (λ e. omega arith)
+    no-word (c .before .args .spelled) (r .0 .0 .0 .0 .0 .1) (r .0 .0 .0 .0 .1) (r .0 .0 .0 .1) (λ e. omega arith) (r .0 .0 .1) (λ e. omega arith) (r .0 .1) (r .1) (λ e. omega arith) (λ e. omega arith) (λ e. omega arith) (λ e. omega arith) (λ e. omega arith) (λ e. omega arith) (λ e. omega arith) (λ e. omega arith)
 
 pub short-word-spec : {M : Type 1} → statement M
 short-word-spec =

@@ -1,12 +1,12 @@
 -- Each member asks for the notes of a condition by its kind; the measure is twice the notes looked at.
 use borrow.Author.Needs.{needs}
-use mathlib.Core.Logic.{⊎-elim}
+use mathlib.Core.Logic.{inr, ⊎-elim}
 use native.Mathlib.Omega.{arith}
 use Rattle.names.proofs.Placing.{Inner, was-placed, TableFound, table-found, Bound, has-notes, kind-low, kind-high, file-long, note-room, unary-run, unary-missing, unary-room, unary-placed, right-run, right-missing, right-room, left-run, left-missing, left-room, pair-placed, from-few, from-unknown, from-fits, from-run, from-missing, from-room, values-missing, from-placed}
 use Prim.Native.Nat.{ℕ, _+_, _*_, _-_, _<_, _≤_}
 use Rattle.rule.specs.Condition.{Not}
 use Rattle.rule.specs.Names.{mostParts}
-use Rattle.rule.proofs.Groups.{join-number, truth-number, test-number, from-number}
+use Rattle.rule.proofs.Groups.{join-number, truth-number, declined-number, test-number, from-number}
 use borrow.Fn.Kinds.{In}
 use borrow.Fn.PlainCycle.{Measures, is, falls, and}
 use Rattle.names.proofs.place.Reads as place
@@ -74,7 +74,7 @@ place-unary-below t =
     and 4 place-unary-kinds.ps (falls 4 place-unary-kinds.ps _<_ μ-place-unary t) place-unary.Pre
 
 abbrev place-claims : ℕ → place-lts.Claims
-place-claims t = (place-unary-below t, place-unary.Post, place-pair-below t, place-pair.Post, place-test-reads.Asked, place-test-reads.Learnt, place-from-below t, place-from.Post, never-reads.Asked, never-reads.Learnt)
+place-claims t = (place-unary-below t, place-unary.Post, place-pair-below t, place-pair.Post, place-from-below t, place-from.Post, place-test-reads.Asked, place-test-reads.Learnt, never-reads.Asked, never-reads.Learnt)
 
 abbrev place-from-claims : ℕ → place-from-lts.Claims
 place-from-claims t = (byte-reads.Asked, byte-reads.Learnt, find-numbered-reads.Asked, find-numbered-reads.Learnt, bind-reads.Asked, bind-reads.Learnt, from-part-reads.Asked, from-part-reads.Learnt, place-below t, place.Post, put-part-reads.Asked, put-part-reads.Learnt)
@@ -110,8 +110,13 @@ place-place-pair-requires t c κs =
 place-place-test-requires : (t : ℕ) → place-lts.Need-place-test-requires (place-claims t) (place-at t) place.Post
 place-place-test-requires t c κs =
     let o = c .before .before .before .before .before .before .before .before .pre .1 in
-    let other = c .before .before .before .before .match .rest .1 in
-    (o, test-number _ (omega (arith, c .before .before .if2 .left)) (omega (arith, c .before .if3 .taken)))
+    let other = c .before .before .before .before .match .rest .1 in (
+      o,
+      ⊎-elim
+          (λ w. test-number _ (omega (arith, c .before .before .if2 .left)) (omega (arith, w .taken)))
+          (λ w. inr (declined-number _ (w .2 .left) (omega (arith, w .3 .taken))))
+          (c .before .if3 .came),
+    )
 
 place-place-from-requires : (t : ℕ) → place-lts.Need-place-from-requires (place-claims t) (place-at t) place.Post
 place-place-from-requires t c κs =
@@ -128,7 +133,7 @@ place-place-unary-requires-2 t c κs =
 place-never-requires : (t : ℕ) → place-lts.Need-never-requires (place-claims t) (place-at t) place.Post
 place-never-requires t c κs =
     let o = c .before .before .before .before .before .pre .1 in
-    ⊎-elim (λ w. omega (arith, w .taken, kind-low o)) (λ w. omega (arith, w .4 .left, kind-high o)) (c .if1 .came)
+    ⊎-elim (λ w. omega (arith, w .taken, kind-low o)) (λ w. omega (arith, w .5 .left, kind-high o)) (c .if1 .came)
 
 place-returns : (t : ℕ) → place-lts.Need-returns (place-claims t) (place-at t) place.Post
 place-returns t c = c .place-unary .ensures
@@ -137,13 +142,13 @@ place-returns-2 : (t : ℕ) → place-lts.Need-returns-2 (place-claims t) (place
 place-returns-2 t c = c .place-pair .ensures
 
 place-returns-3 : (t : ℕ) → place-lts.Need-returns-3 (place-claims t) (place-at t) place.Post
-place-returns-3 t c = c .place-test .ensures
+place-returns-3 t c = c .place-from .ensures
 
 place-returns-4 : (t : ℕ) → place-lts.Need-returns-4 (place-claims t) (place-at t) place.Post
-place-returns-4 t c = c .place-from .ensures
+place-returns-4 t c = c .place-unary2 .ensures
 
 place-returns-5 : (t : ℕ) → place-lts.Need-returns-5 (place-claims t) (place-at t) place.Post
-place-returns-5 t c = c .place-unary2 .ensures
+place-returns-5 t c = c .place-test .ensures
 
 place-returns-6 : (t : ℕ) → place-lts.Need-returns-6 (place-claims t) (place-at t) place.Post
 place-returns-6 t c = search needs
@@ -435,9 +440,9 @@ pub +place+place-from+place-pair+place-unary-spec : {M : Type 1} → statement M
     (place-shared-slice-read-kind t)
     (place-place-unary-requires t)
     (place-place-pair-requires t)
-    (place-place-test-requires t)
     (place-place-from-requires t)
     (place-place-unary-requires-2 t)
+    (place-place-test-requires t)
     (place-never-requires t)
     (place-returns t)
     (place-returns-2 t)

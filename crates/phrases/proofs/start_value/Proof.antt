@@ -5,8 +5,8 @@ use borrow.Author.Needs.{needs}
 use Rattle.phrases.proofs.start_value.Statement.{statement}
 use Rattle.phrases.proofs.start_value.Tie as tie
 
-start-null-requires : tie.Need-start-null-requires
-start-null-requires c κs = (c .before .before .before .pre .0, (c .before .token .ensures .1 (omega arith), omega arith))
+start-mark-requires : tie.Need-start-mark-requires
+start-mark-requires c κs = (c .before .before .before .pre .0, (c .before .token .ensures .1 (omega arith), omega arith))
 
 start-list-requires : tie.Need-start-list-requires
 start-list-requires c κs =
@@ -42,7 +42,7 @@ start-value-spec =
     tie.close
     (tie.spec
     (λ c κs. search needs)
-    start-null-requires
+    start-mark-requires
     (λ c. search needs)
     (λ c κs. search needs)
     (λ c. search needs)

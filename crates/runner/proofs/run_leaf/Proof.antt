@@ -26,15 +26,19 @@ returns c = λ h.
     let y = rw (right .before .held-at2 .ensures) at (right .look2 .ensures) in
     compare-answer h (left .look .result) (x (left-ready h)) k (right .look2 .result) _ _ (y (right-ready h k)) (c .before .before .unknown-says .ensures) (c .cells-hold .ensures)
 
-asks-blank-requires : tie.Need-asks-blank-requires
-asks-blank-requires c κs = mark-here (c .before .before .before .before .before .before .before .pre) (c .before .is-comparison .ensures) (c .if1 .left)
+lowest-mark-requires : tie.Need-lowest-mark-requires
+lowest-mark-requires c κs = mark-here (c .before .before .before .before .before .before .before .pre) (c .before .is-comparison .ensures) (c .if1 .left)
+
+asks-marked-requires : tie.Need-asks-marked-requires
+asks-marked-requires c κs =
+    mark-here (c .before .before .before .before .before .before .before .before .pre) (c .before .before .is-comparison .ensures) (c .before .if1 .left)
 
 returns-2 : tie.Need-returns-2
 returns-2 c = λ h.
-    let left = c .before .before .before .before in
-    let k = mark-here h (c .before .before .before .is-comparison .ensures) (c .before .before .if1 .left) in
+    let left = c .before .before .before .before .before in
+    let k = mark-here h (c .before .before .before .before .is-comparison .ensures) (c .before .before .before .if1 .left) in
     let x = rw (left .before .held-at .ensures) at (left .look .ensures) in
-    mark-answer h (left .look .result) (x (left-ready h)) k _ (c .before .asks-blank .ensures)
+    mark-answer h (left .look .result) (x (left-ready h)) k _ _ (c .before .before .lowest-mark .ensures) (c .before .asks-marked .ensures)
 
 pub run-leaf-spec : {M : Type 1} → statement M
 run-leaf-spec =
@@ -59,5 +63,6 @@ run-leaf-spec =
     (λ c. search needs)
     (λ c κs. search needs)
     returns
-    asks-blank-requires
+    lowest-mark-requires
+    asks-marked-requires
     returns-2)

@@ -1,23 +1,23 @@
 -- The value is looked up.
-use Rattle.scopes.proofs.Comparing.{null-gone, null-found}
+use Rattle.scopes.proofs.Comparing.{mark-gone, mark-found}
 use borrow.Author.Needs.{needs}
-use Rattle.scopes.proofs.null_part.Statement.{statement}
-use Rattle.scopes.proofs.null_part.Tie as tie
+use Rattle.scopes.proofs.mark_part.Statement.{statement}
+use Rattle.scopes.proofs.mark_part.Tie as tie
 
 returns : tie.Need-returns
 returns c =
     let a = c .before .before .before .before .before .args in
     let left = c .before .before .resolve-noted in
-    null-gone (a .file .now) (a .notes .now) (a .b) (a .scope .now) (a .levels) 0 0 (a .e) (left .result) (left .ensures) (c .enum-told .given .1)
+    mark-gone (a .file .now) (a .notes .now) (a .b) (a .scope .now) (a .levels) 0 0 (a .e) (left .result) (left .ensures) (c .enum-told .given .1)
 
 returns-2 : tie.Need-returns-2
 returns-2 c =
     let a = c .before .before .before .before .before .before .before .before .args in
     let left = c .before .before .before .before .before .resolve-noted in
-    rw (c .unused-held .ensures) (null-found (a .file .now) (a .notes .now) (a .b) (a .scope .now) (a .levels) 0 0 (a .e) (left .result) (left .ensures) _ (c .before .before .before .resolved .given .1))
+    rw (c .unused-held .ensures) (mark-found (a .file .now) (a .notes .now) (a .b) (a .scope .now) (a .levels) 0 0 (a .e) (left .result) (left .ensures) _ (c .before .before .before .resolved .given .1))
 
-pub null-part-spec : {M : Type 1} → statement M
-null-part-spec =
+pub mark-part-spec : {M : Type 1} → statement M
+mark-part-spec =
     tie.close
     (tie.spec
     (λ c. search needs)
