@@ -1,7 +1,13 @@
 """What is measured: rules with tables and a judged row, texts, tables of growing size, comma lines, and the rules that take longest. A fixed seed fills the
 tables."""
+import pathlib
 import random
+import sys
 import typing
+
+sys.path.append(str(pathlib.Path(__file__).resolve().parents[1] / "tests" / "model"))
+
+import model  # noqa: E402
 
 SEED = 7
 MOST_TEXT_BYTES = 4096
@@ -12,7 +18,7 @@ BLANKS = .1  # the share of blank cells
 
 
 class Case(typing.NamedTuple):
-    """A rule, its tables as (columns, rows), where None is a blank, and the row of table 1 that RUN and JUDGE are asked for."""
+    """A rule, its tables as (columns, rows) with cells as the model has them, and the row of table 1 that RUN and JUDGE are asked for."""
     title: str
     rule: str
     tables: list
@@ -117,11 +123,21 @@ def truth_tests(count, title):
     return Case(f"{title}, {MOST_ROWS:,} rows", in_unknown(case.rule, count), case.tables, blank)
 
 
+def declined():
+    """A test for declined values, of a column in which every second blank is a declined one. The judged row is declined."""
+    case = flat(MOST_ROWS)
+    blank_rows = [row for row in case.tables[0][1] if row[0] is None]
+    for row in blank_rows[::2]:
+        row[0] = model.DECLINED_CELL
+    judged = row_where(case.tables[0], lambda row: model.is_declined(row[0]))
+    return Case(f"`m.1 IS DECLINED`, {MOST_ROWS:,} rows", "m.1 IS DECLINED", case.tables, judged)
+
+
 def compared():
     """The cases of LIST, RUN and JUDGE."""
     return (
         flat(MOST_ROWS), eight_conditions(), exists(MOST_ROWS), between(), not_in(False), not_in(True), three_levels(60), three_levels(250),
-        truth_tests(1, "`(m.1 > 2000) IS UNKNOWN`"), truth_tests(MOST_UNKNOWNS, "six IS UNKNOWN around `m.1 > 2000`"))
+        truth_tests(1, "`(m.1 > 2000) IS UNKNOWN`"), truth_tests(MOST_UNKNOWNS, "six IS UNKNOWN around `m.1 > 2000`"), declined())
 
 
 class Growth(typing.NamedTuple):

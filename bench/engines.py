@@ -41,8 +41,9 @@ class Timeout(Exception):
 # ---- Rules and tables as SQL
 
 def condition_of(rule):
-    """A rule as a condition in SQL."""
-    return test_model.sql_of_tokens([str(token.value) for token in model.tokens_of(rule.encode())])
+    """A rule as a condition in SQL. A mark is compared with 2 for a declined value; SQLite alone takes IS for that, and a mark is never NULL."""
+    condition = test_model.sql_of_tokens([str(token.value) for token in model.tokens_of(rule.encode())])
+    return condition.replace(" IS 2", " = 2").replace(" IS NOT 2", " <> 2")
 
 
 def list_query(case):
@@ -53,17 +54,23 @@ def run_query(case):
     return f"SELECT 1 FROM t1 m WHERE m.rowno = {case.row} AND ({condition_of(case.rule)})"
 
 
-def row_sql(number, row):
-    return f"({', '.join('NULL' if cell is None else str(cell) for cell in [number] + row)})"
+def row_sql(number, row, marked):
+    """A row with its number, the marks of its cells behind them if they are wanted."""
+    marks = [model.mark_of(cell) for cell in row] if marked else []
+    return f"({', '.join('NULL' if model.counts_as_blank(cell) else str(cell) for cell in [number] + row + marks)})"
 
 
 def tables_sql(tables, sort, indexes):
-    """Statements that make and fill tables of a sort, with indexes on columns that are given as (table, column)."""
+    """Statements that make and fill tables of a sort, with indexes on columns that are given as (table, column).
+
+    A table with declined cells has a column for the marks of each column.
+    """
     for table, (columns, rows) in enumerate(tables, 1):
-        names = "".join(f", c{column} integer" for column in range(1, columns + 1))
+        marked = any(model.is_declined(cell) for row in rows for cell in row)
+        names = "".join(f", {name}{column} integer" for name in ["c"] + ["mark"] * marked for column in range(1, columns + 1))
         yield f"CREATE {sort} t{table} (rowno integer PRIMARY KEY{names});"
         if rows:
-            yield f"INSERT INTO t{table} VALUES {', '.join(row_sql(number, row) for number, row in enumerate(rows))};"
+            yield f"INSERT INTO t{table} VALUES {', '.join(row_sql(number, row, marked) for number, row in enumerate(rows))};"
     for table, column in indexes:
         yield f"CREATE INDEX i{table}_{column} ON t{table} (c{column});"
     for table in range(1, len(tables) + 1):

@@ -1,4 +1,4 @@
-/* Roskudla: entry rules with blanks, turned into cards that answer yes or no.
+/* Roskudla: entry rules with blanks and declined answers, turned into cards that answer yes or no.
  *
  * Eight calls. Each returns 0, or the number of a refusal (1 to 15, below). Where several refusals apply, it is the first in the order that
  * stands at the call. The answer comes through pointers, and a refusal leaves everything that they point to as it was; after a success what
@@ -33,7 +33,7 @@ extern "C" {
 enum roskudla_status {
     ROSKUDLA_OK = 0,
     ROSKUDLA_TABLES = 1,    /* tables: sizes or length wrong */
-    ROSKUDLA_MARK = 2,      /* tables: a mark above 1 */
+    ROSKUDLA_MARK = 2,      /* tables: a mark above 2 */
     ROSKUDLA_TEXT = 3,      /* text over 4,096 bytes */
     ROSKUDLA_TOKEN = 4,     /* no such token, or a number beyond the range */
     ROSKUDLA_BRACKETS = 5,  /* over 32 more ( than ) up to some token */
@@ -48,6 +48,14 @@ enum roskudla_status {
     ROSKUDLA_FIELDS = 14,   /* comma lines: a bad field, a wrong field count, or columns not 1 to 16 */
     ROSKUDLA_TOO_MANY = 15  /* comma lines: over 1,000 rows or 8,192 cells */
 };
+
+/* The mark byte of a cell in a tables file. A sign-up form writes ROSKUDLA_MARK_DECLINED where somebody declined to answer, and
+ * ROSKUDLA_MARK_BLANK where there is no answer. A declined cell is blank in every respect, IS NULL included; only IS DECLINED and
+ * IS NOT DECLINED, entries of kinds 9 and 10 of a card, and comma lines tell the two apart. The value bytes of a blank or declined cell may be
+ * anything. */
+#define ROSKUDLA_MARK_PRESENT 0
+#define ROSKUDLA_MARK_BLANK 1
+#define ROSKUDLA_MARK_DECLINED 2
 
 /* With so much room no call returns ROSKUDLA_ROOM. */
 #define ROSKUDLA_MOST_PARTS 64           /* parts of a rule, for roskudla_read */
@@ -65,7 +73,7 @@ struct roskudla_value {
 /* A part of a rule. Fields that its kind does not use are 0. Bytes between fields may be anything: compare parts field by field. */
 struct roskudla_part {
     uint8_t kind;       /* 1 and, 2 or, 3 not, 4 comparison, 5 IS NULL, 6 IS NOT NULL, 7 exists, 8 some, 9 all, 10 IS TRUE, 11 IS NOT TRUE,
-                           12 IS FALSE, 13 IS NOT FALSE, 14 IS UNKNOWN, 15 IS NOT UNKNOWN */
+                           12 IS FALSE, 13 IS NOT FALSE, 14 IS UNKNOWN, 15 IS NOT UNKNOWN, 16 IS DECLINED, 17 IS NOT DECLINED */
     uint8_t comparison; /* 1 =, 2 <>, 3 <, 4 <=, 5 >, 6 >= */
     uint8_t table;
     uint8_t end;        /* number of the first part after this one and its inner parts */
@@ -85,7 +93,7 @@ uint32_t roskudla_judge(const uint8_t *text, size_t text_len, const uint8_t *tab
 uint32_t roskudla_card(const uint8_t *text, size_t text_len, const uint8_t *tables, size_t tables_len,
                        uint8_t *card, size_t card_len, size_t *length);
 
-/* CHECK: whether a card is sound. Refusal 9. */
+/* CHECK: whether a card is sound. Its entries are of kinds 1 to 10. Refusal 9. */
 uint32_t roskudla_check(const uint8_t *card, size_t card_len);
 
 /* RUN: *answer becomes what a card says of a row of table 1: 0 no, 1 yes. Refusals, in this order: 1, 2, 9 to 11. */
@@ -98,12 +106,12 @@ uint32_t roskudla_list(const uint8_t *card, size_t card_len, const uint8_t *tabl
                        uint32_t *rows, size_t rows_len, size_t *count);
 
 /* IMPORT: comma lines as a tables file with one table, of so many columns, from the start of tables on; *length becomes how many bytes it has.
- * Refusals, in this order: 14, 15, 12. */
+ * A field is a number, empty for blank, or a lone ! for declined; the value under the last two is 0. Refusals, in this order: 14, 15, 12. */
 uint32_t roskudla_import(const uint8_t *lines, size_t lines_len, size_t columns,
                          uint8_t *tables, size_t tables_len, size_t *length);
 
-/* EXPORT: table 1 of a tables file as comma lines, from the start of lines on; *length becomes how many bytes they have. Refusals, in this
- * order: 1, 2, 12. */
+/* EXPORT: table 1 of a tables file as comma lines, from the start of lines on; *length becomes how many bytes they have. A blank cell is an
+ * empty field, and a declined one is a lone !. Refusals, in this order: 1, 2, 12. */
 uint32_t roskudla_export(const uint8_t *tables, size_t tables_len,
                          uint8_t *lines, size_t lines_len, size_t *length);
 

@@ -1,5 +1,5 @@
 #!/usr/bin/env bash
-# The wrappers for Rust and Python, each on document 01's own examples and document 02's truth tests and comma lines, over the library as built.
+# The wrappers for Rust and Python, each on document 01's own examples and document 02's truth tests, comma lines and declined cells, over the library as built.
 set -u
 cd "$(dirname "$0")/.." || exit 1
 bindings/build || exit 1

@@ -1,22 +1,27 @@
-"""The eight calls of Roskudla: entry rules with blanks, turned into cards that answer yes or no.
+"""The eight calls of Roskudla: entry rules with blanks and declined answers, turned into cards that answer yes or no.
 
     import roskudla
     calls = roskudla.Calls("target/shared/libroskudla.so")
-    card = calls.card(b"m.2 > 0 OR m.2 IS NULL", tables)
+    card = calls.card(b"m.2 > 0 OR m.2 IS DECLINED", tables)
     calls.list_rows(card, tables)
 
-A table comes from the till as comma lines, and goes back so:
+A table comes from the till as comma lines, and goes back so; an empty field is a blank cell, and a lone ! a declined one:
 
-    tables = calls.import_lines(b"1,5\\r\\n2,\\r\\n", 2)
+    tables = calls.import_lines(b"1,5\\r\\n2,\\r\\n3,!\\r\\n", 2)
     calls.export_lines(tables)
 
-A rule's text, a tables file, a card and comma lines are bytes. A refused call raises Refused, with the refusal's number. `bindings/build` links the shared
-object from the proved archive. What a call takes of a thread's stack, and how its time grows, is in include/roskudla.h.
+A rule's text, a tables file, a card and comma lines are bytes. The mark byte of a cell in a tables file is MARK_PRESENT, MARK_BLANK or MARK_DECLINED. A refused
+call raises Refused, with the refusal's number. `bindings/build` links the shared object from the proved archive. What a call takes of a thread's stack, and
+how its time grows, is in include/roskudla.h.
 """
 import ctypes
 import enum
 import operator
 import typing
+
+MARK_PRESENT = 0
+MARK_BLANK = 1
+MARK_DECLINED = 2
 
 MOST_PARTS = 64
 MOST_CARD_BYTES = 2891
@@ -26,7 +31,7 @@ MOST_LINES_BYTES = 98304
 
 REASONS = {
     1: "tables: sizes or length wrong",
-    2: "tables: a mark above 1",
+    2: "tables: a mark above 2",
     3: "text over 4,096 bytes",
     4: "no such token, or a number beyond the range",
     5: "over 32 more ( than ) up to some token",
@@ -68,7 +73,7 @@ class Value(typing.NamedTuple):
 
 
 class Part(typing.NamedTuple):
-    """A part of a rule."""
+    """A part of a rule. Its kind is 1 to 17, as include/roskudla.h names them."""
     kind: int
     comparison: int
     table: int
@@ -186,10 +191,13 @@ class Calls:
         return self.lent("list", sliced(card) + sliced(tables), ctypes.c_uint32, MOST_ROWS)
 
     def import_lines(self, lines: bytes, columns: int) -> bytes:
-        """IMPORT: comma lines as a tables file with one table, of so many columns. Refusals, in this order: 14, 15."""
+        """IMPORT: comma lines as a tables file with one table, of so many columns; an empty field is blank, and a lone ! is declined.
+
+        Refusals, in this order: 14, 15.
+        """
         given = sliced(lines) + (size_for_c(columns, "a number of columns"),)
         return bytes(self.lent("import", given, ctypes.c_uint8, MOST_TABLE_BYTES))
 
     def export_lines(self, tables: bytes) -> bytes:
-        """EXPORT: table 1 of a tables file as comma lines. Refusals, in this order: 1, 2."""
+        """EXPORT: table 1 of a tables file as comma lines; a blank cell is an empty field, and a declined one is a lone !. Refusals, in this order: 1, 2."""
         return bytes(self.lent("export", sliced(tables), ctypes.c_uint8, MOST_LINES_BYTES))

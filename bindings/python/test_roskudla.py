@@ -1,6 +1,6 @@
-"""The wrapper on document 01's own examples: its cases, its worked card and parts, and each refusal that can reach it; on document 02's truth tests and comma
-lines; the gate's library alone; and arguments that are no bytes, no row or no number of columns. Then that the header, the wrapper for Rust and this one give
-the same numbers, reasons and sizes."""
+"""The wrapper on document 01's own examples: its cases, its worked card and parts, and each refusal that can reach it; on document 02's truth tests, comma
+lines and declined cells; the gate's library alone; and arguments that are no bytes, no row or no number of columns. Then that the header, the wrapper for Rust
+and this one give the same numbers, reasons, sizes and marks."""
 import array
 import ctypes.util
 import pathlib
@@ -16,7 +16,7 @@ ROOT = pathlib.Path(__file__).resolve().parents[2]
 sys.path[:0] = [str(ROOT / "tests" / "calls"), str(ROOT / "tests" / "model")]
 
 import paper  # noqa: E402
-from paper import CASE_TABLES, SUM_191, SUM_192, UNKNOWN_CARD, UNKNOWN_TEXT, within_exists, within_unknowns  # noqa: E402
+from paper import CASE_TABLES, DECLINED_TABLES, SUM_191, SUM_192, UNKNOWN_CARD, UNKNOWN_TEXT, within_exists, within_unknowns  # noqa: E402
 from test_model import CASES, WORKED_CARD  # noqa: E402
 
 SHARED = ROOT / "target" / "shared"
@@ -43,13 +43,14 @@ class WholeLibrary(unittest.TestCase):
             call(*arguments)
         self.assertEqual(caught.exception.number, number)
 
-    def has_values(self, text, values):
-        """The values of a rule on rows 0, 1 and 2, and what its card says of them."""
-        card = self.calls.card(text, CASE_TABLES)
+    def has_values(self, text, values, tables=CASE_TABLES):
+        """The values of a rule on the rows of table 1, and what its card says of them."""
+        card = self.calls.card(text, tables)
         self.calls.check(card)
-        self.assertEqual([self.calls.judge(text, CASE_TABLES, row) for row in range(3)], [TRUTHS[value] for value in values], text)
-        self.assertEqual([self.calls.run(card, CASE_TABLES, row) for row in range(3)], [value == "T" for value in values], text)
-        self.assertEqual(self.calls.list_rows(card, CASE_TABLES), [row for row, value in enumerate(values) if value == "T"], text)
+        rows = range(len(values))
+        self.assertEqual([self.calls.judge(text, tables, row) for row in rows], [TRUTHS[value] for value in values], text)
+        self.assertEqual([self.calls.run(card, tables, row) for row in rows], [value == "T" for value in values], text)
+        self.assertEqual(self.calls.list_rows(card, tables), [row for row, value in enumerate(values) if value == "T"], text)
 
     def test_cases(self):
         for text, values in CASES:
@@ -65,8 +66,46 @@ class WholeLibrary(unittest.TestCase):
             self.has_values(b"m.1 <> ALL (SELECT k.1 FROM 1 k WHERE " + test + b")", values.translate(OPPOSITES))
             self.assertEqual([part.kind for part in self.calls.read(b"NOT " + test, CASE_TABLES)], [3, kind, 4])
 
+    def test_declined(self):
+        """Declined and blank cells, numbers and constants under each test, and what is blank in every respect: worked out by hand."""
+        for case in paper.DECLINED_CASES:
+            self.has_values(case.text, case.values, DECLINED_TABLES)
+            self.assertEqual(self.calls.card(case.text, DECLINED_TABLES), paper.card([2, 1, 1], case.entries))
+
+    def test_declined_parts(self):
+        parts = self.calls.read(b"NOT m.2 IS DECLINED AND -7 IS NOT DECLINED", DECLINED_TABLES)
+        nothing = Value(0, 0)
+        self.assertEqual(parts, [
+            Part(1, 0, 0, 4, nothing, nothing),
+            Part(3, 0, 0, 3, nothing, nothing),
+            Part(16, 0, 0, 3, Value(0, 2), nothing),
+            Part(17, 0, 0, 4, Value(255, -7), nothing)])
+
+    def test_declined_cards(self):
+        """Cards of kinds 9 and 10, with the rows that they admit; and such that are not sound."""
+        for entries, admitted in paper.GATE_CARDS:
+            card = paper.card([2, 1, 1], entries)
+            if isinstance(admitted, int):
+                self.refused(admitted, self.calls.check, card)
+                self.refused(admitted, self.calls.run, card, DECLINED_TABLES, 0)
+                self.refused(admitted, self.calls.list_rows, card, DECLINED_TABLES)
+            else:
+                self.assertEqual(self.calls.list_rows(card, DECLINED_TABLES), admitted, entries)
+                self.assertEqual([row for row in range(4) if self.calls.run(card, DECLINED_TABLES, row)], admitted, entries)
+
+    def test_marks(self):
+        """The three marks by their names, with any value under those that are not present; a mark of 3 is refused."""
+        named = {roskudla.MARK_PRESENT: "FFT", roskudla.MARK_BLANK: "TFU", roskudla.MARK_DECLINED: "TTU"}
+        texts = (b"m.1 IS NULL", b"m.1 IS DECLINED", b"m.1 = m.1")
+        for mark, values in named.items():
+            tables = bytes.fromhex("01 01 01 00 07 00 00 00") + bytes([mark])
+            for text, value in zip(texts, values):
+                self.has_values(text, value, tables)
+        self.refused(2, self.calls.judge, b"1 = 1", bytes.fromhex("01 01 01 00 07 00 00 00 03"), 0)
+
     def test_worked_card(self):
         self.assertEqual(self.calls.card(b"NOT m.2 < 5", WORKED_TABLES), WORKED_CARD)
+        self.assertEqual(self.calls.card(paper.DECLINED_TEXT, WORKED_TABLES), paper.DECLINED_CARD)
         self.assertEqual(self.calls.card(UNKNOWN_TEXT, WORKED_TABLES), UNKNOWN_CARD)
 
     def test_parts(self):
@@ -97,13 +136,15 @@ class WholeLibrary(unittest.TestCase):
 
     def test_refusals(self):
         for number, text in ((3, b" " * 4097), (4, b"m.1 = 2147483648"), (5, b"(" * 33), (6, b""), (6, b"m.1 ="),
+                             (4, b"m.1 IS DECLINE"), (4, b"m.1 = !"), (6, b"DECLINED"), (6, b"(m.1) IS DECLINED"), (8, b"m.3 IS DECLINED"),
                              (7, b" OR ".join([b"1 = 1"] * 33)), (8, b"k.1 = 1"), (6, b"(1 = 1) IS TRUE IS TRUE"), (6, b"1 = 1 IS TRUE"), (6, b"TRUE"),
                              (8, within_unknowns(7, b"k.1 = 1")), (13, within_unknowns(7)), (13, within_exists(SUM_192)), (13, SUM_191 + b" OR 1 = 1")):
             self.refused(number, self.calls.read, text, CASE_TABLES)
             self.refused(number, self.calls.judge, text, CASE_TABLES, 0)
             self.refused(number, self.calls.card, text, CASE_TABLES)
         self.refused(1, self.calls.read, b"1 = 1", b"")
-        self.refused(2, self.calls.read, b"1 = 1", bytes.fromhex("01 01 01 00 00 00 00 00 02"))
+        self.refused(2, self.calls.read, b"1 = 1", bytes.fromhex("01 01 01 00 00 00 00 00 03"))
+        self.refused(2, self.calls.run, WORKED_CARD, bytes.fromhex("01 03 01 00 00 00 00 00 00 00 00 00 00 00 00 00 00 02 03"), 0)
         self.refused(9, self.calls.check, b"\0\0")
         self.refused(10, self.calls.list_rows, WORKED_CARD, CASE_TABLES)
 
@@ -127,12 +168,12 @@ class WholeLibrary(unittest.TestCase):
                 self.assertEqual(self.calls.export_lines(file), answer)
 
     def test_there_and_back(self):
-        """Table 1 alone comes back, with 0 under each blank, and cards admit the same rows of it."""
+        """Table 1 alone comes back, with 0 under each blank and declined cell, and cards admit the same rows of it."""
         for file, wanted in paper.THERE_AND_BACK:
             back = self.calls.import_lines(self.calls.export_lines(file), file[1])
             self.assertEqual(back, wanted)
             self.assertEqual(self.calls.import_lines(self.calls.export_lines(back), file[1]), wanted)
-            for text in (b"m.1 IS NULL", b"m.1 > 0", b"NOT m.1 > 0"):
+            for text in (b"m.1 IS NULL", b"m.1 IS DECLINED", b"m.1 > 0", b"NOT m.1 > 0"):
                 admitted = self.calls.list_rows(self.calls.card(text, file), file)
                 self.assertEqual(self.calls.list_rows(self.calls.card(text, back), back), admitted)
 
@@ -193,6 +234,11 @@ class GateAlone(unittest.TestCase):
         tables = WORKED_TABLES[:2] + bytes([3, 0]) + b"".join(bytes(4) + bytes([number, 0, 0, 0]) + bytes(4) for number in column) + bytes(9)
         self.assertEqual([calls.run(WORKED_CARD, tables, row) for row in range(3)], [True, False, True])
         self.assertEqual(calls.list_rows(WORKED_CARD, tables), [0, 2])
+        declined = tables[:-4] + bytes([roskudla.MARK_DECLINED]) + tables[-3:]  # the second column of the second row
+        self.assertEqual(calls.list_rows(WORKED_CARD, declined), [0, 2])
+        self.assertEqual(calls.list_rows(paper.DECLINED_CARD, declined), [0, 1, 2])
+        declined = tables[:-5] + bytes([roskudla.MARK_DECLINED]) + tables[-4:]
+        self.assertEqual(calls.list_rows(paper.DECLINED_CARD, declined), [0, 2])
         self.assertRaises(NotImplementedError, calls.judge, b"1 = 1", CASE_TABLES, 0)
         self.assertRaises(NotImplementedError, calls.import_lines, b"1", 1)
         self.assertRaises(NotImplementedError, calls.export_lines, tables)
@@ -216,6 +262,14 @@ class InterfacesAgree(unittest.TestCase):
         in_rust = re.findall(r"pub const (MOST_[A-Z_]+): usize = ([0-9]+);", self.rust)
         for found in (in_header, in_rust):
             self.assertEqual({name: int(number) for name, number in found}, sizes)
+
+    def test_mark_names(self):
+        marks = {name: getattr(roskudla, name) for name in dir(roskudla) if name.startswith("MARK_")}
+        self.assertEqual(marks, {"MARK_PRESENT": 0, "MARK_BLANK": 1, "MARK_DECLINED": 2})
+        in_header = re.findall(r"#define ROSKUDLA_(MARK_[A-Z_]+) ([0-9]+)", self.header)
+        in_rust = re.findall(r"pub const (MARK_[A-Z_]+): u8 = ([0-9]+);", self.rust)
+        for found in (in_header, in_rust):
+            self.assertEqual({name: int(number) for name, number in found}, marks)
 
 
 if __name__ == "__main__":

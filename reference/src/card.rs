@@ -1,4 +1,4 @@
-//! The card's layout and what makes a card sound (section "Card").
+//! The card's layout and what makes a card sound (section "Card"; document 02, Point 4, for declined values).
 
 use crate::comparison::{AT_LEAST, EQUAL};
 use crate::refusal::{self, Refusal};
@@ -17,10 +17,14 @@ pub const EVERY_ROW: u8 = 4;
 pub const COMPARISON_OR_NO: u8 = 5;
 /// A comparison where unknown counts as yes.
 pub const COMPARISON_OR_YES: u8 = 6;
-/// The left value is blank.
+/// The left value is blank or declined.
 pub const BLANK: u8 = 7;
-/// The left value is not blank.
+/// The left value is neither blank nor declined.
 pub const NOT_BLANK: u8 = 8;
+/// The left value is declined.
+pub const DECLINED: u8 = 9;
+/// The left value is not declined.
+pub const NOT_DECLINED: u8 = 10;
 
 /// A card has at most this many entries.
 pub const MOST_ENTRIES: usize = 192;
@@ -143,7 +147,7 @@ impl<'a> Card<'a> {
     }
 
     /// The end of entry `at` as its inner entries give it; none if it, or an inner one, is not sound there. Kinds 1 and 2 have
-    /// two inner entries, 3 and 4 one, the rest none. Calls nest at most once for each of the 192 entries.
+    /// two inner entries, 3 and 4 one, 5 to 10 none, and there are no others. Calls nest at most once for each of the 192 entries.
     fn end_of(&self, at: usize, scope: Scope) -> Option<usize> {
         let entry = self.entries.get(at)?;
         let end = match entry.kind {
@@ -152,7 +156,8 @@ impl<'a> Card<'a> {
                 self.end_of(second, scope)?
             }
             SOME_ROW | EVERY_ROW => self.end_of(at + 1, self.inside(entry.table, scope)?)?,
-            _ => at + 1,
+            COMPARISON_OR_NO | COMPARISON_OR_YES | BLANK | NOT_BLANK | DECLINED | NOT_DECLINED => at + 1,
+            _ => return None,
         };
         (usize::from(entry.end) == end && self.has_sound_fields(entry, scope)).then_some(end)
     }
@@ -164,7 +169,7 @@ impl<'a> Card<'a> {
         (1..=self.columns.len()).contains(&usize::from(table)).then_some(scope)
     }
 
-    /// Kinds 3 and 4 use the table, 5 and 6 the comparison and both values, 7 and 8 the left value. Unused bytes are 0.
+    /// Kinds 3 and 4 use the table, 5 and 6 the comparison and both values, 7 to 10 the left value. Unused bytes are 0.
     fn has_sound_fields(&self, entry: &Entry, scope: Scope) -> bool {
         let unused = Value::default();
         let without_table = entry.table == 0;
@@ -176,7 +181,7 @@ impl<'a> Card<'a> {
                 let known = (EQUAL..=AT_LEAST).contains(&entry.comparison);
                 without_table && known && self.exists(entry.left, scope) && self.exists(entry.right, scope)
             }
-            BLANK | NOT_BLANK => without_table && without_comparison && self.exists(entry.left, scope),
+            BLANK | NOT_BLANK | DECLINED | NOT_DECLINED => without_table && without_comparison && self.exists(entry.left, scope),
             _ => false,
         }
     }

@@ -1,8 +1,9 @@
-//! The grammar (section "Rule text", the list of forms; document 02, Point 1, for truth tests): tokens to a tree, before any limit
-//! or name is looked at.
+//! The grammar (section "Rule text", the list of forms; document 02, Point 1, for truth tests, and Point 4, for declined
+//! values): tokens to a tree, before any limit or name is looked at.
 
 use crate::comparison::{EQUAL, NOT_EQUAL};
-use crate::part::{ALL, AND, IS_NOT_NULL, IS_NULL, OR, SOME};
+use crate::part::{ALL, AND, OR, SOME};
+use crate::part::{IS_DECLINED, IS_NOT_DECLINED, IS_NOT_NULL, IS_NULL};
 use crate::part::{IS_FALSE, IS_NOT_FALSE, IS_NOT_TRUE, IS_NOT_UNKNOWN, IS_TRUE, IS_UNKNOWN};
 use crate::refusal::{self, Refusal};
 use crate::text::{Token, Word};
@@ -47,8 +48,8 @@ pub enum Node {
     Not(Place),
     /// The number of the comparison, then both sides.
     Comparison(u8, Written, Written),
-    /// IS NULL or IS NOT NULL: the kind of the part, then the value.
-    Null(u8, Written),
+    /// IS NULL, IS NOT NULL, IS DECLINED or IS NOT DECLINED: the kind of the part, then the value.
+    Mark(u8, Written),
     /// An EXISTS.
     Exists(Subquery),
     /// SOME, ALL, IN or NOT IN.
@@ -164,12 +165,7 @@ impl Reader<'_> {
     /// What stands after the first value of a test. IN is SOME with `=`; NOT IN is ALL with `<>`.
     fn test_of(&mut self, left: Written) -> Result<Place, Refusal> {
         match self.next()? {
-            Token::Word(Word::Is) => {
-                let not = self.follows(Token::Word(Word::Not));
-                self.expect(Token::Word(Word::Null))?;
-                let kind = if not { IS_NOT_NULL } else { IS_NULL };
-                Ok(self.add(Node::Null(kind, left)))
-            }
+            Token::Word(Word::Is) => self.mark_test(left),
             Token::Word(Word::In) => self.list(SOME, EQUAL, left),
             Token::Word(Word::Not) => {
                 self.expect(Token::Word(Word::In))?;
@@ -187,6 +183,19 @@ impl Reader<'_> {
             }
             _ => Err(refusal::GRAMMAR),
         }
+    }
+
+    /// What stands after the IS of a value: NOT or none, then NULL or DECLINED.
+    fn mark_test(&mut self, value: Written) -> Result<Place, Refusal> {
+        let not = self.follows(Token::Word(Word::Not));
+        let kind = match (self.next()?, not) {
+            (Token::Word(Word::Null), false) => IS_NULL,
+            (Token::Word(Word::Null), true) => IS_NOT_NULL,
+            (Token::Word(Word::Declined), false) => IS_DECLINED,
+            (Token::Word(Word::Declined), true) => IS_NOT_DECLINED,
+            _ => return Err(refusal::GRAMMAR),
+        };
+        Ok(self.add(Node::Mark(kind, value)))
     }
 
     /// list: `(` SELECT value FROM number letter WHERE condition `)`.

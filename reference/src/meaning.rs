@@ -1,8 +1,8 @@
-//! The three-valued meaning of parts (section "Meaning"; document 02, Point 1, for truth tests).
+//! The three-valued meaning of parts (section "Meaning"; document 02, Point 1, for truth tests, and Point 4, for declined values).
 
 use crate::comparison;
 use crate::part::{self, Part};
-use crate::tables::{Levels, Tables};
+use crate::tables::{Cell, Levels, Tables};
 use crate::value::{Value, MOST_LEVELS};
 
 /// What a rule is on a row.
@@ -10,7 +10,7 @@ use crate::value::{Value, MOST_LEVELS};
 pub enum Truth {
     /// The rule does not hold.
     False,
-    /// A blank leaves it open.
+    /// A blank or declined cell leaves it open.
     Unknown,
     /// The rule holds.
     True,
@@ -61,17 +61,20 @@ impl Judge<'_> {
                 let left = self.tables.value(part.left, levels);
                 self.compared(part.comparison, left, part.right, levels)
             }
-            part::IS_NULL => Truth::known(self.tables.value(part.left, levels).is_none()),
-            part::IS_NOT_NULL => Truth::known(self.tables.value(part.left, levels).is_some()),
+            part::IS_NULL => Truth::known(self.tables.value(part.left, levels).is_blank()),
+            part::IS_NOT_NULL => Truth::known(!self.tables.value(part.left, levels).is_blank()),
             part::EXISTS => self.exists(at, level, levels),
             part::SOME => self.listed(Truth::True, at, level, levels),
+            part::ALL => self.listed(Truth::False, at, level, levels),
             part::IS_TRUE => self.is(Truth::True, at, level, levels),
             part::IS_NOT_TRUE => self.is(Truth::True, at, level, levels).not(),
             part::IS_FALSE => self.is(Truth::False, at, level, levels),
             part::IS_NOT_FALSE => self.is(Truth::False, at, level, levels).not(),
             part::IS_UNKNOWN => self.is(Truth::Unknown, at, level, levels),
             part::IS_NOT_UNKNOWN => self.is(Truth::Unknown, at, level, levels).not(),
-            _ => self.listed(Truth::False, at, level, levels),
+            part::IS_DECLINED => Truth::known(self.tables.value(part.left, levels).is_declined()),
+            part::IS_NOT_DECLINED => Truth::known(!self.tables.value(part.left, levels).is_declined()),
+            _ => unreachable!("a rule has parts of kinds 1 to 17"),
         }
     }
 
@@ -95,11 +98,11 @@ impl Judge<'_> {
         }
     }
 
-    /// A comparison with a blank is unknown, blank with blank too.
-    fn compared(&self, comparison: u8, left: Option<i32>, right: Value, levels: &Levels) -> Truth {
+    /// A comparison with a blank is unknown, blank with blank too, and so with a declined cell.
+    fn compared(&self, comparison: u8, left: Cell, right: Value, levels: &Levels) -> Truth {
         match (left, self.tables.value(right, levels)) {
-            (Some(left), Some(right)) => Truth::known(comparison::holds(comparison, left, right)),
-            _ => Truth::Unknown,
+            (Cell::Present(left), Cell::Present(right)) => Truth::known(comparison::holds(comparison, left, right)),
+            (Cell::Blank | Cell::Declined, _) | (_, Cell::Blank | Cell::Declined) => Truth::Unknown,
         }
     }
 

@@ -5,7 +5,7 @@ pub type Refusal = u32;
 
 /// Tables: sizes or length wrong.
 pub const TABLES: Refusal = 1;
-/// Tables: a mark above 1.
+/// Tables: a mark above 2 (document 02, Point 4).
 pub const MARK: Refusal = 2;
 /// Text over 4,096 bytes.
 pub const TEXT_LENGTH: Refusal = 3;

@@ -56,7 +56,7 @@ impl Writer<'_> {
             Node::Comparison(comparison, left, right) => {
                 Part { comparison, left: self.value(left)?, right: self.value(right)?, ..Part::of(part::COMPARISON) }
             }
-            Node::Null(kind, value) => Part { left: self.value(value)?, ..Part::of(kind) },
+            Node::Mark(kind, value) => Part { left: self.value(value)?, ..Part::of(kind) },
             Node::Exists(subquery) => self.exists(subquery)?,
             Node::List(list) => self.list(list)?,
             Node::Truth(kind, inner) => {

@@ -1,8 +1,9 @@
-//! Running a sound card on the rows of table 1 (section "Card"): by its kinds alone, and with no text.
+//! Running a sound card on the rows of table 1 (section "Card"; document 02, Point 4, for declined cells): by its kinds alone,
+//! and with no text.
 
 use crate::card::{self, Card, Entry};
 use crate::comparison;
-use crate::tables::{Levels, Tables};
+use crate::tables::{Cell, Levels, Tables};
 use crate::value::MOST_LEVELS;
 
 /// The entries of a sound card, and tables with the card's T and columns.
@@ -32,9 +33,13 @@ impl<'a> Runner<'a> {
             card::OR => self.entry(at + 1, level, levels) || self.entry(self.second(at), level, levels),
             card::SOME_ROW => self.some_row(true, at, level, levels),
             card::EVERY_ROW => !self.some_row(false, at, level, levels),
-            card::BLANK => self.tables.value(entry.left, levels).is_none(),
-            card::NOT_BLANK => self.tables.value(entry.left, levels).is_some(),
-            _ => self.compares(entry, levels),
+            card::COMPARISON_OR_NO => self.compares(false, entry, levels),
+            card::COMPARISON_OR_YES => self.compares(true, entry, levels),
+            card::BLANK => self.tables.value(entry.left, levels).is_blank(),
+            card::NOT_BLANK => !self.tables.value(entry.left, levels).is_blank(),
+            card::DECLINED => self.tables.value(entry.left, levels).is_declined(),
+            card::NOT_DECLINED => !self.tables.value(entry.left, levels).is_declined(),
+            _ => unreachable!("a sound card has entries of kinds 1 to 10"),
         }
     }
 
@@ -51,11 +56,11 @@ impl<'a> Runner<'a> {
         })
     }
 
-    /// Kinds 5 and 6: a comparison with a blank is unknown, which counts as no for the one and as yes for the other.
-    fn compares(&self, entry: &Entry, levels: &Levels) -> bool {
+    /// Kinds 5 and 6: a comparison with a blank or declined cell is unknown, which counts as no for the one and as yes for the other.
+    fn compares(&self, unknown: bool, entry: &Entry, levels: &Levels) -> bool {
         match (self.tables.value(entry.left, levels), self.tables.value(entry.right, levels)) {
-            (Some(left), Some(right)) => comparison::holds(entry.comparison, left, right),
-            _ => entry.kind == card::COMPARISON_OR_YES,
+            (Cell::Present(left), Cell::Present(right)) => comparison::holds(entry.comparison, left, right),
+            (Cell::Blank | Cell::Declined, _) | (_, Cell::Blank | Cell::Declined) => unknown,
         }
     }
 }

@@ -1,4 +1,5 @@
-//! The tables file (section "Tables"): sizes first, then the values and the marks of all cells.
+//! The tables file (section "Tables"; document 02, Point 4, for declined cells): sizes first, then the values and the marks of all
+//! cells.
 
 use crate::refusal::{self, Refusal};
 use crate::value::{Value, CONSTANT, MOST_LEVELS};
@@ -19,11 +20,38 @@ const SIZE_BYTES: usize = 3;
 const VALUE_BYTES: usize = 4;
 /// The mark of a cell that has a number.
 const PRESENT: u8 = 0;
-/// The mark of a blank cell, the highest.
+/// The mark of a blank cell.
 const BLANK: u8 = 1;
+/// The mark of a declined cell, the highest.
+const DECLINED: u8 = 2;
 
 /// For each level the number of the first cell of the row that it stands at.
 pub type Levels = [usize; MOST_LEVELS];
+
+/// What a cell has in it, by its mark; the value bytes under a blank or declined cell affect no answer.
+#[derive(Clone, Copy, Debug)]
+pub enum Cell {
+    /// Nothing was answered.
+    Blank,
+    /// The answer was declined: blank in every respect, and told apart only by the tests for it and in comma lines.
+    Declined,
+    /// A number.
+    Present(i32),
+}
+
+impl Cell {
+    /// Whether it is blank, which a declined cell is too.
+    #[inline]
+    pub fn is_blank(self) -> bool {
+        matches!(self, Cell::Blank | Cell::Declined)
+    }
+
+    /// Whether it is declined, which a blank cell is not.
+    #[inline]
+    pub fn is_declined(self) -> bool {
+        matches!(self, Cell::Declined)
+    }
+}
 
 /// The window on one table: where its cells begin, and its sizes.
 #[derive(Clone, Copy, Debug)]
@@ -70,7 +98,7 @@ impl<'a> Tables<'a> {
     pub fn read(bytes: &'a [u8]) -> Result<Tables<'a>, Refusal> {
         let (windows, cells) = sizes(bytes).ok_or(refusal::TABLES)?;
         let (values, marks) = cells.split_at(cells.len() / (VALUE_BYTES + 1) * VALUE_BYTES);
-        if marks.iter().copied().fold(0, u8::max) > BLANK {
+        if marks.iter().copied().fold(0, u8::max) > DECLINED {
             return Err(refusal::MARK);
         }
         let (values, _) = values.as_chunks();
@@ -93,17 +121,22 @@ impl<'a> Tables<'a> {
         self.window(JUDGED_TABLE)
     }
 
-    /// The number in a cell, or none where the cell is blank: then its value bytes affect no answer.
+    /// What the cell of this number has in it.
     #[inline]
-    pub fn cell(&self, cell: usize) -> Option<i32> {
-        (self.marks[cell] != BLANK).then(|| i32::from_le_bytes(self.values[cell]))
+    pub fn cell(&self, cell: usize) -> Cell {
+        match self.marks[cell] {
+            PRESENT => Cell::Present(i32::from_le_bytes(self.values[cell])),
+            BLANK => Cell::Blank,
+            DECLINED => Cell::Declined,
+            _ => unreachable!("a mark above 2 is refused"),
+        }
     }
 
-    /// The number that a value stands for with the levels at these rows, or none where it is blank. A constant never is.
+    /// What a value stands for with the levels at these rows. A constant is never blank and never declined.
     #[inline]
-    pub fn value(&self, value: Value, levels: &Levels) -> Option<i32> {
+    pub fn value(&self, value: Value, levels: &Levels) -> Cell {
         if value.tag == CONSTANT {
-            Some(value.number)
+            Cell::Present(value.number)
         } else {
             self.cell(levels[usize::from(value.tag)] + value.number as usize - 1)
         }
@@ -111,18 +144,21 @@ impl<'a> Tables<'a> {
 }
 
 /// The bytes of a tables file with a single table of this many columns, 1 to 16, and these cells, which are whole rows within the
-/// limits. The value under a blank is 0.
-pub fn single(columns: usize, cells: &[Option<i32>]) -> Vec<u8> {
+/// limits. The value under a blank or declined cell is 0.
+pub fn single(columns: usize, cells: &[Cell]) -> Vec<u8> {
     let mut bytes = vec![0; 1 + SIZE_BYTES + cells.len() * (VALUE_BYTES + 1)];
     let (sizes, cell_bytes) = bytes.split_at_mut(1 + SIZE_BYTES);
     let [low, high] = ((cells.len() / columns) as u16).to_le_bytes();
     sizes.copy_from_slice(&[1, columns as u8, low, high]);
     let (values, marks) = cell_bytes.split_at_mut(cells.len() * VALUE_BYTES);
-    for (value, cell) in values.as_chunks_mut().0.iter_mut().zip(cells) {
-        *value = cell.unwrap_or(0).to_le_bytes();
-    }
-    for (mark, cell) in marks.iter_mut().zip(cells) {
-        *mark = if cell.is_none() { BLANK } else { PRESENT };
+    for ((value, mark), cell) in values.as_chunks_mut().0.iter_mut().zip(marks).zip(cells) {
+        let (number, its_mark) = match *cell {
+            Cell::Blank => (0, BLANK),
+            Cell::Declined => (0, DECLINED),
+            Cell::Present(number) => (number, PRESENT),
+        };
+        *value = number.to_le_bytes();
+        *mark = its_mark;
     }
     bytes
 }

@@ -1,4 +1,4 @@
-//! Tokens of the rule text (section "Rule text", the first paragraph; document 02, Point 1, for three of the words).
+//! Tokens of the rule text (section "Rule text", the first paragraph; document 02, Points 1 and 4, for four of the words).
 
 use crate::comparison::{AT_LEAST, AT_MOST, EQUAL, LESS, MORE, NOT_EQUAL};
 use crate::number;
@@ -27,6 +27,7 @@ pub enum Word {
     True,
     False,
     Unknown,
+    Declined,
 }
 
 /// One token of a rule text.
@@ -117,6 +118,7 @@ fn word(bytes: &[u8]) -> Option<(Token, usize)> {
         b"TRUE" => Word::True,
         b"FALSE" => Word::False,
         b"UNKNOWN" => Word::Unknown,
+        b"DECLINED" => Word::Declined,
         _ => return None,
     };
     Some((Token::Word(word), length))

@@ -1,7 +1,8 @@
 //! The translation of parts to card entries, which have no negation (section "Card", the second paragraph; document 02,
-//! Point 1, for truth tests).
+//! Point 1, for truth tests, and Point 4, for declined values).
 
-use crate::card::{Entry, AND, BLANK, COMPARISON_OR_NO, COMPARISON_OR_YES, EVERY_ROW, NOT_BLANK, OR, SOME_ROW};
+use crate::card::{Entry, AND, COMPARISON_OR_NO, COMPARISON_OR_YES, EVERY_ROW, OR, SOME_ROW};
+use crate::card::{BLANK, DECLINED, NOT_BLANK, NOT_DECLINED};
 use crate::comparison;
 use crate::part::{self, Part};
 
@@ -72,13 +73,15 @@ fn sum_between(parts: &[Part], mut at: usize, end: usize) -> usize {
         at += 1;
         let entries = match part.kind {
             part::NOT | part::IS_TRUE | part::IS_NOT_TRUE | part::IS_FALSE | part::IS_NOT_FALSE => 0,
+            part::AND | part::OR | part::COMPARISON | part::EXISTS => 1,
+            part::IS_NULL | part::IS_NOT_NULL | part::IS_DECLINED | part::IS_NOT_DECLINED => 1,
             part::SOME | part::ALL => 3,
             part::IS_UNKNOWN | part::IS_NOT_UNKNOWN => {
                 let inner = sum_between(parts, at, usize::from(part.end));
                 at = usize::from(part.end);
                 inner.saturating_mul(2).saturating_add(1)
             }
-            _ => 1,
+            _ => unreachable!("a rule has parts of kinds 1 to 17"),
         };
         sum = sum.saturating_add(entries);
     }
@@ -100,15 +103,18 @@ impl Translator<'_> {
             part::OR => self.joined(sense.choose(OR, AND), at, sense),
             part::NOT => self.part(at + 1, sense.of_not()),
             part::COMPARISON => self.comparison(part, sense),
-            part::IS_NULL => self.blank(sense.choose(BLANK, NOT_BLANK), part),
-            part::IS_NOT_NULL => self.blank(sense.choose(NOT_BLANK, BLANK), part),
+            part::IS_NULL => self.mark(sense.choose(BLANK, NOT_BLANK), part),
+            part::IS_NOT_NULL => self.mark(sense.choose(NOT_BLANK, BLANK), part),
+            part::IS_DECLINED => self.mark(sense.choose(DECLINED, NOT_DECLINED), part),
+            part::IS_NOT_DECLINED => self.mark(sense.choose(NOT_DECLINED, DECLINED), part),
+            part::EXISTS | part::SOME | part::ALL => self.rows(at, sense),
             part::IS_TRUE => self.part(at + 1, sense.false_interpretation()),
             part::IS_NOT_TRUE => self.part(at + 1, sense.false_interpretation().negation()),
             part::IS_FALSE => self.part(at + 1, sense.true_interpretation().negation()),
             part::IS_NOT_FALSE => self.part(at + 1, sense.true_interpretation()),
             part::IS_UNKNOWN => self.unknown(at, sense),
             part::IS_NOT_UNKNOWN => self.unknown(at, sense.negation()),
-            _ => self.rows(at, sense),
+            _ => unreachable!("a rule has parts of kinds 1 to 17"),
         }
     }
 
@@ -133,7 +139,7 @@ impl Translator<'_> {
     /// comparison. Negating swaps the two shapes.
     fn rows(&mut self, at: usize, sense: Sense) {
         let part = self.parts[at];
-        let some = (part.kind != part::ALL) != sense.negated;
+        let some = matches!(part.kind, part::EXISTS | part::SOME) != sense.negated;
         let (row_kind, join_kind) = if some { (SOME_ROW, AND) } else { (EVERY_ROW, OR) };
         let row = self.open(row_kind, part.table);
         if part.kind == part::EXISTS {
@@ -159,8 +165,8 @@ impl Translator<'_> {
         });
     }
 
-    /// A test for a blank, which is true or false in either interpretation.
-    fn blank(&mut self, kind: u8, part: Part) {
+    /// A test by the mark, for a blank or a declined value, which is true or false in either interpretation.
+    fn mark(&mut self, kind: u8, part: Part) {
         self.simple(Entry { kind, left: part.left, ..Entry::default() });
     }
 

@@ -1,42 +1,57 @@
 //! The paper's cases, its worked card, its refusals, and places where a reading goes wrong easily.
 
 use reference::{card, check, export, import, judge, list, read, run, Part, Refusal, Truth, Value};
+use Cell::{Blank, Declined, Number};
 
 const T: Truth = Truth::True;
 const U: Truth = Truth::Unknown;
 const F: Truth = Truth::False;
 
-/// One table: its columns, then its rows, `None` for a blank.
-type Table = (u8, Vec<Vec<Option<i32>>>);
+/// What a cell of a tables file has in it.
+#[derive(Clone, Copy, Debug, PartialEq, Eq)]
+enum Cell {
+    Blank,
+    Declined,
+    Number(i32),
+}
 
-/// A tables file. Blank cells get value bytes that would be seen if they were read.
+/// One table: its columns, then its rows.
+type Table = (u8, Vec<Vec<Cell>>);
+
+/// A tables file. Blank and declined cells get value bytes that would be seen if they were read.
 fn tables_file(tables: &[Table]) -> Vec<u8> {
     tables_file_with(tables, 1)
 }
 
-/// A tables file with this value under each blank.
-fn tables_file_with(tables: &[Table], under_blank: i32) -> Vec<u8> {
+/// A tables file with this value under each blank or declined cell.
+fn tables_file_with(tables: &[Table], under: i32) -> Vec<u8> {
     let mut bytes = vec![tables.len() as u8];
     for (columns, rows) in tables {
         bytes.push(*columns);
         bytes.extend((rows.len() as u16).to_le_bytes());
     }
     let cells = || tables.iter().flat_map(|(_, rows)| rows.iter().flatten());
-    bytes.extend(cells().flat_map(|cell| cell.unwrap_or(under_blank).to_le_bytes()));
-    bytes.extend(cells().map(|cell| u8::from(cell.is_none())));
+    let value = |cell: &Cell| if let Number(number) = cell { *number } else { under };
+    let mark = |cell: &Cell| match cell {
+        Number(_) => 0,
+        Blank => 1,
+        Declined => 2,
+    };
+    bytes.extend(cells().flat_map(|cell| value(cell).to_le_bytes()));
+    bytes.extend(cells().map(mark));
     bytes
 }
 
 /// The tables of the proved cases.
 fn paper_tables() -> Vec<u8> {
-    let first = vec![vec![Some(1), Some(5)], vec![Some(2), None], vec![Some(3), Some(0)]];
-    let second = vec![vec![Some(1)], vec![None]];
+    let first = vec![vec![Number(1), Number(5)], vec![Number(2), Blank], vec![Number(3), Number(0)]];
+    let second = vec![vec![Number(1)], vec![Blank]];
     tables_file(&[(2, first), (1, second), (1, vec![])])
 }
 
 /// One table of 3 columns and two rows, for the worked card.
 fn three_columns() -> Vec<u8> {
-    let rows = vec![vec![Some(0), Some(4), Some(0)], vec![Some(0), Some(5), Some(0)]];
+    let rows = vec![vec![Number(0), Number(4), Number(0)], vec![Number(0), Number(5), Number(0)]];
     tables_file(&[(3, rows)])
 }
 
@@ -88,6 +103,22 @@ fn unknowns(count: usize, condition: &str) -> String {
     format!("{}{condition}{}", "(".repeat(count), ") IS UNKNOWN".repeat(count))
 }
 
+/// What a text is on each row of table 1, by JUDGE, and by RUN and LIST with its card; what lies past the list stays.
+fn assert_truths(text: &str, tables: &[u8], truths: &[Truth]) {
+    let bytes = card_of(text, tables).unwrap();
+    assert_eq!(check(&bytes), Ok(()), "{text}");
+    let mut admitted = vec![];
+    for (row, &truth) in truths.iter().enumerate() {
+        assert_eq!(judge(text.as_bytes(), tables, row), Ok(truth), "{text}, row {row}");
+        assert_eq!(run(&bytes, tables, row), Ok(truth == T), "{text}, row {row}");
+        admitted.extend((truth == T).then_some(row as u32));
+    }
+    let mut rows = vec![99; truths.len() + 1];
+    assert_eq!(list(&bytes, tables, &mut rows), Ok(admitted.len()), "{text}");
+    assert!(rows.starts_with(&admitted), "{text}");
+    assert!(rows[admitted.len()..].iter().all(|&row| row == 99), "{text}");
+}
+
 const WORKED: [u8; 19] = [1, 0, 1, 3, 5, 1, 0, 0, 6, 0, 2, 0, 0, 0, 0xFF, 5, 0, 0, 0];
 
 #[test]
@@ -109,20 +140,7 @@ fn the_twelve_proved_cases() {
         ("m.1 = SOME (SELECT m.1 FROM 2 m WHERE m.1 = 1)".to_string(), [T, F, F]),
     ];
     let tables = paper_tables();
-    for (text, truths) in &cases {
-        let bytes = card_of(text, &tables).unwrap();
-        assert_eq!(check(&bytes), Ok(()), "{text}");
-        let mut admitted = vec![];
-        for (row, &truth) in truths.iter().enumerate() {
-            assert_eq!(judge(text.as_bytes(), &tables, row), Ok(truth), "{text}, row {row}");
-            assert_eq!(run(&bytes, &tables, row), Ok(truth == T), "{text}, row {row}");
-            admitted.extend((truth == T).then_some(row as u32));
-        }
-        let mut rows = [99; 4];
-        assert_eq!(list(&bytes, &tables, &mut rows), Ok(admitted.len()), "{text}");
-        assert!(rows.starts_with(&admitted), "{text}");
-        assert!(rows[admitted.len()..].iter().all(|&row| row == 99), "{text}");
-    }
+    cases.iter().for_each(|(text, truths)| assert_truths(text, &tables, truths));
 }
 
 #[test]
@@ -141,7 +159,7 @@ fn the_worked_card() {
 fn the_examples_of_the_refusal_table() {
     let tables = paper_tables();
     assert_eq!(judge(b"1 = 1", &[0], 0), Err(1));
-    assert_eq!(judge(b"1 = 1", &[1, 1, 1, 0, 0, 0, 0, 0, 2], 0), Err(2));
+    assert_eq!(judge(b"1 = 1", &[1, 1, 1, 0, 0, 0, 0, 0, 3], 0), Err(2));
     assert_eq!(refused(&[b' '; 4_097]), 3);
     assert_eq!(refused(b"m.1 = 2147483648"), 4);
     assert_eq!(refused(&[b'('; 33]), 5);
@@ -165,7 +183,7 @@ fn the_examples_of_the_refusal_table() {
 fn the_first_refusal_over_the_whole_input() {
     let tables = paper_tables();
     let mut spoilt = tables.clone();
-    *spoilt.last_mut().unwrap() = 2;
+    *spoilt.last_mut().unwrap() = 3;
     assert_eq!(judge(&[b'?'; 5_000], &spoilt, 9), Err(2));
     assert_eq!(run(&[], &spoilt, 9), Err(2));
     spoilt.push(0);
@@ -204,7 +222,7 @@ fn the_sum_is_refused_after_names_and_before_row_and_buffer() {
     assert_eq!(card(six.as_bytes(), &tables, &mut [0; 1_910]), Err(12));
     assert_eq!(card(six.as_bytes(), &tables, &mut [0; 1_911]), Ok(1_911));
     let mut spoilt = tables.clone();
-    *spoilt.last_mut().unwrap() = 2;
+    *spoilt.last_mut().unwrap() = 3;
     assert_eq!(read(unknowns(7, "1 = 1").as_bytes(), &spoilt, &mut []), Err(2));
 }
 
@@ -326,14 +344,7 @@ fn truth_tests_on_each_of_the_three_values() {
         let never = format!("((m.2 > 0) {test}) IS UNKNOWN");
         let texts = same.iter().map(|text| (text, truths));
         let texts = texts.chain(reversed.iter().map(|text| (text, truths.map(reverse)))).chain([(&never, [F; 3])]);
-        for (text, truths) in texts {
-            let bytes = card_of(text, &tables).unwrap();
-            assert_eq!(check(&bytes), Ok(()), "{text}");
-            for (row, &truth) in truths.iter().enumerate() {
-                assert_eq!(judge(text.as_bytes(), &tables, row), Ok(truth), "{text}, row {row}");
-                assert_eq!(run(&bytes, &tables, row), Ok(truth == T), "{text}, row {row}");
-            }
-        }
+        texts.for_each(|(text, truths)| assert_truths(text, &tables, &truths));
     }
 }
 
@@ -351,7 +362,7 @@ fn cards_of_truth_tests() {
         assert_eq!(entry_kinds(&inner), [&[(3, 0)], cards[number]].concat(), "{test}");
         assert_eq!(entry_kinds(&format!("NOT {inner}")), [&[(4, 0)], cards[number ^ 1]].concat(), "{test}");
     }
-    let blank_third = tables_file(&[(3, vec![vec![None; 3], vec![Some(1); 3], vec![Some(0); 3]])]);
+    let blank_third = tables_file(&[(3, vec![vec![Blank; 3], vec![Number(1); 3], vec![Number(0); 3]])]);
     let bytes = card_of("(m.3 > 0) IS UNKNOWN", &blank_third).unwrap();
     let and = [3, 0, 0, 0, 0, 0, 0, 0, 0, 0, 0, 0, 0, 0];
     let at_most = [2, 0, 0, 4, 0, 3, 0, 0, 0, 255, 0, 0, 0, 0];
@@ -495,7 +506,7 @@ fn soundness_of_ends_and_levels() {
 fn a_card_that_no_rule_makes_runs_by_its_kinds() {
     // m.1 = m.1 where unknown counts as yes, outside any row entry
     let bytes = card_with(&[(6, [1, 0, 0, 1, 0, 1, 0, 0, 0, 0, 1, 0, 0, 0])]);
-    let tables = tables_file(&[(3, vec![vec![None; 3], vec![Some(2); 3]])]);
+    let tables = tables_file(&[(3, vec![vec![Blank; 3], vec![Number(2); 3]])]);
     let mut rows = [9; 3];
     assert_eq!(list(&bytes, &tables, &mut rows), Ok(2));
     assert_eq!(rows, [0, 1, 9]);
@@ -558,18 +569,20 @@ impl Dice {
     fn condition(&mut self, size: u64, letters: &[&str]) -> String {
         let left = self.value(letters);
         let comparison = self.pick(&["=", "<>", "<", "<=", ">", ">="]);
-        match self.below(if size == 0 { 3 } else { 15 }) {
+        match self.below(if size == 0 { 5 } else { 17 }) {
             0 => format!("{left} IS NULL"),
             1 => format!("{left} IS NOT NULL"),
             2 => format!("{left} {comparison} {}", self.value(letters)),
-            3 | 4 => format!("NOT {}", self.condition(size - 1, letters)),
-            5 => format!("({}) AND {}", self.condition(size / 2, letters), self.condition(size / 2, letters)),
-            6 => format!("({} OR {})", self.condition(size / 2, letters), self.condition(size / 2, letters)),
-            7 => format!("EXISTS {}", self.subquery(size - 1, letters, false)),
-            8 => format!("{left} {comparison} SOME {}", self.subquery(size - 1, letters, true)),
-            9 => format!("{left} {comparison} ALL {}", self.subquery(size - 1, letters, true)),
-            10 => format!("{left} IN {}", self.subquery(size - 1, letters, true)),
-            11..=13 => format!("({}) {}", self.condition(size - 1, letters), self.pick(&TRUTH_TESTS)),
+            3 => format!("{left} IS DECLINED"),
+            4 => format!("{left} IS NOT DECLINED"),
+            5 | 6 => format!("NOT {}", self.condition(size - 1, letters)),
+            7 => format!("({}) AND {}", self.condition(size / 2, letters), self.condition(size / 2, letters)),
+            8 => format!("({} OR {})", self.condition(size / 2, letters), self.condition(size / 2, letters)),
+            9 => format!("EXISTS {}", self.subquery(size - 1, letters, false)),
+            10 => format!("{left} {comparison} SOME {}", self.subquery(size - 1, letters, true)),
+            11 => format!("{left} {comparison} ALL {}", self.subquery(size - 1, letters, true)),
+            12 => format!("{left} IN {}", self.subquery(size - 1, letters, true)),
+            13..=15 => format!("({}) {}", self.condition(size - 1, letters), self.pick(&TRUTH_TESTS)),
             _ => format!("{left} NOT IN {}", self.subquery(size - 1, letters, true)),
         }
     }
@@ -577,9 +590,10 @@ impl Dice {
     /// A test with its number of parts and its sum, as its form gives them.
     fn summed(&mut self, size: u64) -> (String, usize, usize) {
         if size == 0 {
-            return match self.below(3) {
+            return match self.below(4) {
                 0 => ("m.2 IN (SELECT v.1 FROM 2 v WHERE v.1 = 1)".to_string(), 2, 4),
                 1 => ("EXISTS (FROM 2 v WHERE v.1 > m.2)".to_string(), 2, 2),
+                2 => ("m.2 IS NOT DECLINED".to_string(), 1, 1),
                 _ => ("m.2 > 0".to_string(), 1, 1),
             };
         }
@@ -598,7 +612,11 @@ impl Dice {
 
     fn table(&mut self) -> Table {
         let rows = self.below(5);
-        let cell = |dice: &mut Dice| (dice.below(3) > 0).then(|| dice.below(4) as i32 - 1);
+        let cell = |dice: &mut Dice| match dice.below(6) {
+            0 => Blank,
+            1 => Declined,
+            _ => Number(dice.below(4) as i32 - 1),
+        };
         (2, (0..rows).map(|_| vec![cell(self), cell(self)]).collect())
     }
 }
@@ -608,9 +626,11 @@ fn sum_of(parts: &[Part]) -> usize {
     let own = |kind: u8| match kind {
         3 | 10..=13 => 0,
         8 | 9 => 3,
-        _ => 1,
+        1 | 2 | 4..=7 | 14..=17 => 1,
+        _ => panic!("no part has kind {kind}"),
     };
-    let doublings = |at: usize| parts[..at].iter().filter(|part| part.kind >= 14 && usize::from(part.end) > at).count();
+    let doubles = |part: &Part| matches!(part.kind, 14 | 15);
+    let doublings = |at: usize| parts[..at].iter().filter(|part| doubles(part) && usize::from(part.end) > at).count();
     (0..parts.len()).map(|at| own(parts[at].kind) << doublings(at)).sum()
 }
 
@@ -676,14 +696,14 @@ fn the_sum_of_any_form_decides() {
 fn any_bytes_give_an_answer() {
     let mut dice = Dice(0x2545_F491_4F6C_DD1D);
     let words = ["(", ")", "NOT ", "m", ".", "1", "=", "IN", " AND ", " OR ", "SELECT ", " FROM ", "EXISTS", " WHERE ", "v", "\t", " "];
-    let words = [&words[..], &[" IS ", "TRUE", "FALSE ", "UNKNOWN", "(1 = 1) IS "]].concat();
+    let words = [&words[..], &[" IS ", "TRUE", "FALSE ", "UNKNOWN", "(1 = 1) IS ", "DECLINED ", "m.1 IS ", "!"]].concat();
     for _ in 0..20_000 {
         let text: String = (0..dice.below(30)).map(|_| dice.pick(&words)).collect();
         refused(text.as_bytes());
-        let mut bytes = card_of("m.1 NOT IN (SELECT v.1 FROM 2 v WHERE v.1 = 1 AND m.2 IS NULL)", &paper_tables()).unwrap();
+        let mut bytes = card_of("m.1 NOT IN (SELECT v.1 FROM 2 v WHERE v.1 = 1 AND m.2 IS DECLINED)", &paper_tables()).unwrap();
         for _ in 0..1 + dice.below(3) {
             let at = dice.below(bytes.len() as u64) as usize;
-            bytes[at] = dice.below(8) as u8;
+            bytes[at] = dice.below(12) as u8;
         }
         let sound = check(&bytes);
         let ran = run(&bytes, &paper_tables(), 0);
@@ -736,8 +756,8 @@ fn exported(file: &[u8]) -> Result<Vec<u8>, Refusal> {
     answer.map(|length| buffer[..length].to_vec())
 }
 
-/// The file that IMPORT gives for a table: that single table, 0 under each blank.
-fn single(columns: usize, rows: &[&[Option<i32>]]) -> Result<Vec<u8>, Refusal> {
+/// The file that IMPORT gives for a table: that single table, 0 under each blank or declined cell.
+fn single(columns: usize, rows: &[&[Cell]]) -> Result<Vec<u8>, Refusal> {
     Ok(tables_file_with(&[(columns as u8, rows.iter().map(|row| row.to_vec()).collect())], 0))
 }
 
@@ -751,9 +771,12 @@ fn split_import(lines: &str, columns: usize) -> Result<Vec<u8>, Refusal> {
     let mut rows = vec![];
     for line in lines.split_inclusive('\n') {
         let line = line.strip_suffix("\r\n").or(line.strip_suffix('\n')).unwrap_or(line);
-        let cells: Vec<_> =
-            line.split(',').map(|field| if field.is_empty() { Ok(None) } else { number(field).map(Some).ok_or(14) }).collect();
-        let row = cells.into_iter().collect::<Result<Vec<_>, Refusal>>()?;
+        let cell = |field: &str| match field {
+            "" => Ok(Blank),
+            "!" => Ok(Declined),
+            _ => number(field).map(Number).ok_or(14),
+        };
+        let row = line.split(',').map(cell).collect::<Result<Vec<_>, Refusal>>()?;
         if row.len() != columns {
             return Err(14);
         }
@@ -786,7 +809,7 @@ fn an_empty_file_has_no_rows() {
 
 #[test]
 fn lines_end_in_lf_or_crlf() {
-    let two = single(2, &[&[Some(1), Some(2)], &[Some(3), None]]);
+    let two = single(2, &[&[Number(1), Number(2)], &[Number(3), Blank]]);
     let accepted = ["1,2\n3,\n", "1,2\n3,", "1,2\r\n3,\r\n", "1,2\r\n3,", "1,2\n3,\r\n", "1,2\r\n3,\n"];
     accepted.iter().for_each(|lines| assert_eq!(imported(lines.as_bytes(), 2), two, "{lines:?}"));
     // a CR by itself, twice, before or within a line, or at the end of the file
@@ -797,22 +820,22 @@ fn lines_end_in_lf_or_crlf() {
         assert_eq!(imported(lines.as_bytes(), 1), Err(14), "{lines:?}");
     });
     // LF and then CR is an LF with a line after it
-    assert_eq!(imported(b"1\n\r\n", 1), single(1, &[&[Some(1)], &[None]]));
+    assert_eq!(imported(b"1\n\r\n", 1), single(1, &[&[Number(1)], &[Blank]]));
 }
 
 #[test]
 fn no_line_begins_after_the_last_line_end() {
-    assert_eq!(imported(b"1\n", 1), single(1, &[&[Some(1)]]));
-    assert_eq!(imported(b"1\r\n", 1), single(1, &[&[Some(1)]]));
-    assert_eq!(imported(b"1\n\n", 1), single(1, &[&[Some(1)], &[None]]));
+    assert_eq!(imported(b"1\n", 1), single(1, &[&[Number(1)]]));
+    assert_eq!(imported(b"1\r\n", 1), single(1, &[&[Number(1)]]));
+    assert_eq!(imported(b"1\n\n", 1), single(1, &[&[Number(1)], &[Blank]]));
     // an empty line is one empty field
     ["\n", "\r\n"].iter().for_each(|lines| {
-        assert_eq!(imported(lines.as_bytes(), 1), single(1, &[&[None]]), "{lines:?}");
-        assert_eq!(imported(lines.repeat(2).as_bytes(), 1), single(1, &[&[None], &[None]]), "{lines:?}");
+        assert_eq!(imported(lines.as_bytes(), 1), single(1, &[&[Blank]]), "{lines:?}");
+        assert_eq!(imported(lines.repeat(2).as_bytes(), 1), single(1, &[&[Blank], &[Blank]]), "{lines:?}");
         (2..=16).for_each(|columns| assert_eq!(imported(lines.as_bytes(), columns), Err(14), "{lines:?}"));
     });
-    assert_eq!(imported(b"\n1\n", 1), single(1, &[&[None], &[Some(1)]]));
-    assert_eq!(imported(b"\r\n\n1", 1), single(1, &[&[None], &[None], &[Some(1)]]));
+    assert_eq!(imported(b"\n1\n", 1), single(1, &[&[Blank], &[Number(1)]]));
+    assert_eq!(imported(b"\r\n\n1", 1), single(1, &[&[Blank], &[Blank], &[Number(1)]]));
     assert_eq!(imported(b"1,2\n\n", 2), Err(14));
     assert_eq!(imported(b"1,2\n\r\n", 2), Err(14));
     assert_eq!(imported(b"\n1,2\n", 2), Err(14));
@@ -820,10 +843,10 @@ fn no_line_begins_after_the_last_line_end() {
 
 #[test]
 fn an_empty_field_is_blank() {
-    assert_eq!(imported(b",", 2), single(2, &[&[None, None]]));
-    assert_eq!(imported(b",\n,", 2), single(2, &[&[None, None], &[None, None]]));
-    assert_eq!(imported(b",1\r\n2,\r\n", 2), single(2, &[&[None, Some(1)], &[Some(2), None]]));
-    assert_eq!(imported(",".repeat(15).as_bytes(), 16), single(16, &[&[None; 16]]));
+    assert_eq!(imported(b",", 2), single(2, &[&[Blank, Blank]]));
+    assert_eq!(imported(b",\n,", 2), single(2, &[&[Blank, Blank], &[Blank, Blank]]));
+    assert_eq!(imported(b",1\r\n2,\r\n", 2), single(2, &[&[Blank, Number(1)], &[Number(2), Blank]]));
+    assert_eq!(imported(",".repeat(15).as_bytes(), 16), single(16, &[&[Blank; 16]]));
     // a blank and a 0 differ in the mark alone
     let (blank, zero) = (imported(b",1\n", 2).unwrap(), imported(b"0,1\n", 2).unwrap());
     assert_eq!((&blank[..12], &blank[12..], &zero[12..]), (&zero[..12], &[1, 0][..], &[0, 0][..]));
@@ -846,8 +869,8 @@ fn a_field_is_a_number_as_in_a_rule() {
         ("1999999999", 1_999_999_999),
     ];
     for (text, number) in numbers {
-        assert_eq!(imported(text.as_bytes(), 1), single(1, &[&[Some(number)]]), "{text}");
-        assert_eq!(imported(format!(",{text},{text}\r\n").as_bytes(), 3), single(3, &[&[None, Some(number), Some(number)]]), "{text}");
+        assert_eq!(imported(text.as_bytes(), 1), single(1, &[&[Number(number)]]), "{text}");
+        assert_eq!(imported(format!(",{text},{text}\r\n").as_bytes(), 3), single(3, &[&[Blank, Number(number), Number(number)]]), "{text}");
         assert_eq!(judge(format!("{text} = {number}").as_bytes(), &paper_tables(), 0), Ok(T), "{text}");
     }
 }
@@ -875,18 +898,19 @@ fn bad_fields() {
 fn each_byte_as_a_field_and_between_fields() {
     for byte in 0..=255_u8 {
         let alone = match byte {
-            b'0'..=b'9' => single(1, &[&[Some(i32::from(byte - b'0'))]]),
-            b'\n' => single(1, &[&[None]]),
+            b'0'..=b'9' => single(1, &[&[Number(i32::from(byte - b'0'))]]),
+            b'\n' => single(1, &[&[Blank]]),
+            b'!' => single(1, &[&[Declined]]),
             _ => Err(14),
         };
         assert_eq!(imported(&[byte], 1), alone, "{byte}");
         let between = match byte {
-            b'0'..=b'9' => single(1, &[&[Some(104 + 10 * i32::from(byte - b'0'))]]),
-            b'\n' => single(1, &[&[Some(1)], &[Some(4)]]),
+            b'0'..=b'9' => single(1, &[&[Number(104 + 10 * i32::from(byte - b'0'))]]),
+            b'\n' => single(1, &[&[Number(1)], &[Number(4)]]),
             _ => Err(14),
         };
         assert_eq!(imported(&[b'1', byte, b'4'], 1), between, "{byte}");
-        let two = if byte == b',' { single(2, &[&[Some(1), Some(4)]]) } else { Err(14) };
+        let two = if byte == b',' { single(2, &[&[Number(1), Number(4)]]) } else { Err(14) };
         assert_eq!(imported(&[b'1', byte, b'4'], 2), two, "{byte}");
     }
 }
@@ -895,7 +919,7 @@ fn each_byte_as_a_field_and_between_fields() {
 fn every_line_has_a_field_for_each_column() {
     for columns in 1..=16 {
         let line = |fields: usize| vec!["1"; fields].join(",");
-        let row = vec![Some(1); columns];
+        let row = vec![Number(1); columns];
         assert_eq!(imported(line(columns).as_bytes(), columns), single(columns, &[&row]));
         for wrong in (1..=20).filter(|&fields| fields != columns) {
             for end in ["", "\n", "\r\n"] {
@@ -933,7 +957,7 @@ fn rows_and_cells_at_their_limits() {
     for columns in 1..=16 {
         let most = most_rows(columns);
         for end in ["\n", "\r\n"] {
-            let row = vec![Some(i32::MIN); columns];
+            let row = vec![Number(i32::MIN); columns];
             let answer = imported(file(columns, most, end).as_bytes(), columns);
             assert_eq!(answer, single(columns, &vec![&row[..]; most]), "{columns}");
             assert_eq!(answer, imported(file(columns, most, end).trim_end().as_bytes(), columns), "{columns}");
@@ -987,7 +1011,7 @@ fn the_lent_buffers_of_comma_files() {
     assert_eq!(buffer, [1, 2, 1, 0, 1, 0, 0, 0, 0, 0, 0, 0, 0, 1, 9, 9]);
     let mut lines = [9; 10];
     assert_eq!((export(&[0], &mut lines), lines), (Err(1), [9; 10]));
-    assert_eq!((export(&[1, 1, 1, 0, 0, 0, 0, 0, 2], &mut lines), lines), (Err(2), [9; 10]));
+    assert_eq!((export(&[1, 1, 1, 0, 0, 0, 0, 0, 3], &mut lines), lines), (Err(2), [9; 10]));
     assert_eq!((export(&paper_tables(), &mut lines), lines), (Err(12), [9; 10]));
     assert_eq!((export(&buffer[..14], &mut lines), &lines), (Ok(3), b"1,\n\x09\x09\x09\x09\x09\x09\x09"));
 }
@@ -995,22 +1019,26 @@ fn the_lent_buffers_of_comma_files() {
 #[test]
 fn table_1_as_comma_lines() {
     assert_eq!(exported(&paper_tables()), Ok(b"1,5\n2,\n3,0\n".to_vec()));
-    let ends = vec![vec![Some(i32::MIN), Some(i32::MAX), Some(0)], vec![Some(-1), None, Some(10)], vec![None, Some(-1_000), Some(100)]];
+    let ends = vec![
+        vec![Number(i32::MIN), Number(i32::MAX), Number(0)],
+        vec![Number(-1), Blank, Number(10)],
+        vec![Blank, Number(-1_000), Number(100)],
+    ];
     assert_eq!(exported(&tables_file(&[(3, ends)])), Ok(b"-2147483648,2147483647,0\n-1,,10\n,-1000,100\n".to_vec()));
-    assert_eq!(exported(&tables_file(&[(1, vec![vec![None], vec![Some(7)], vec![None]])])), Ok(b"\n7\n\n".to_vec()));
-    assert_eq!(exported(&tables_file(&[(4, vec![vec![None; 4]])])), Ok(b",,,\n".to_vec()));
-    // what lies under a blank is not seen
-    let blank = (1, vec![vec![None]]);
+    assert_eq!(exported(&tables_file(&[(1, vec![vec![Blank], vec![Number(7)], vec![Blank]])])), Ok(b"\n7\n\n".to_vec()));
+    assert_eq!(exported(&tables_file(&[(4, vec![vec![Blank; 4]])])), Ok(b",,,\n".to_vec()));
+    // what lies under a blank or declined cell is not seen
+    let hidden = [(2, vec![vec![Blank, Declined]])];
     [0, 1, -1, i32::MIN, i32::MAX].iter().for_each(|&under| {
-        assert_eq!(exported(&tables_file_with(std::slice::from_ref(&blank), under)), Ok(b"\n".to_vec()), "{under}");
+        assert_eq!(exported(&tables_file_with(&hidden, under)), Ok(b",!\n".to_vec()), "{under}");
     });
     // the cells of table 1 among those of others
-    let tables = [(2, vec![vec![Some(1), None]]), (1, vec![vec![Some(8)], vec![None]]), (3, vec![vec![None, Some(9), Some(9)]])];
+    let tables = [(2, vec![vec![Number(1), Blank]]), (1, vec![vec![Number(8)], vec![Blank]]), (3, vec![vec![Blank, Number(9), Number(9)]])];
     assert_eq!(exported(&tables_file(&tables)), Ok(b"1,\n".to_vec()));
-    let empty_first = [(2, vec![]), (1, vec![vec![Some(8)]])];
+    let empty_first = [(2, vec![]), (1, vec![vec![Number(8)]])];
     assert_eq!(exported(&tables_file(&empty_first)), Ok(vec![]));
     // the longest there is
-    let longest = tables_file(&[(16, vec![vec![Some(i32::MIN); 16]; 512])]);
+    let longest = tables_file(&[(16, vec![vec![Number(i32::MIN); 16]; 512])]);
     assert_eq!(exported(&longest).map(|lines| lines.len()), Ok(8_192 * 12));
 }
 
@@ -1019,7 +1047,7 @@ fn numbers_without_spare_zeros() {
     let powers = (0..31).map(|power| 1 << power).chain((0..10).map(|power| 10_i32.pow(power)));
     let near = powers.flat_map(|number| [number - 1, number, number + 1]);
     let numbers: Vec<i32> = near.flat_map(|number| [number, -number]).chain([i32::MIN, i32::MIN + 1, i32::MAX - 1, i32::MAX]).collect();
-    let rows = numbers.iter().map(|&number| vec![Some(number)]).collect();
+    let rows = numbers.iter().map(|&number| vec![Number(number)]).collect();
     let lines: String = numbers.iter().map(|number| format!("{number}\n")).collect();
     let file = tables_file(&[(1, rows)]);
     assert_eq!(exported(&file), Ok(lines.clone().into_bytes()));
@@ -1035,11 +1063,11 @@ fn refusals_of_writing_lines() {
     assert_eq!(exported(&[]), Err(1));
     assert_eq!(exported(&[0]), Err(1));
     assert_eq!(exported(&[1, 17, 0, 0]), Err(1));
-    assert_eq!(exported(&[1, 1, 1, 0, 0, 0, 0, 0, 2]), Err(2));
+    assert_eq!(exported(&[1, 1, 1, 0, 0, 0, 0, 0, 3]), Err(2));
     (0..file.len()).for_each(|length| assert_eq!(exported(&file[..length]), Err(1), "{length}"));
     // the last mark is that of table 2, and a byte too many comes before it
     let mut spoilt = file.clone();
-    *spoilt.last_mut().unwrap() = 2;
+    *spoilt.last_mut().unwrap() = 3;
     assert_eq!(exported(&spoilt), Err(2));
     spoilt.push(0);
     assert_eq!(exported(&spoilt), Err(1));
@@ -1050,7 +1078,7 @@ fn refusals_of_writing_lines() {
 
 #[test]
 fn every_short_text_as_comma_lines() {
-    let letters = *b"10-,\n\r ";
+    let letters = *b"10-,\n\r !";
     for length in 0..=6 {
         for number in 0..letters.len().pow(length) {
             let text: Vec<u8> = (0..length).map(|place| letters[number / letters.len().pow(place) % letters.len()]).collect();
@@ -1063,8 +1091,8 @@ fn every_short_text_as_comma_lines() {
 #[test]
 fn any_comma_lines_give_an_answer() {
     let mut dice = Dice(0x94D0_49BB_1331_11EB);
-    let fields = ["", "0", "-0", "1", "-1", "0012", "2147483647", "-2147483648", "999999999"];
-    let bad = ["2147483648", "-2147483649", "00000000001", "-", "1 ", "\r", "\"1\"", "1,2"];
+    let fields = ["", "!", "0", "-0", "1", "-1", "0012", "2147483647", "-2147483648", "999999999"];
+    let bad = ["2147483648", "-2147483649", "00000000001", "-", "1 ", "\r", "\"1\"", "1,2", "!!", "!1", "1!", "! "];
     let (mut accepted, mut refused) = (0, 0);
     for _ in 0..20_000 {
         let columns = 1 + dice.below(4) as usize;
@@ -1095,11 +1123,12 @@ fn any_comma_lines_give_an_answer() {
 #[test]
 fn writing_and_importing_again() {
     let mut dice = Dice(0xBF58_476D_1CE4_E5B9);
-    let cell = |dice: &mut Dice| match dice.below(4) {
-        0 => None,
-        1 => Some(dice.below(20) as i32 - 10),
-        2 => Some(dice.below(1 << 32) as u32 as i32),
-        _ => Some((dice.below(1 << 32) as u32 as i32) >> dice.below(32)),
+    let cell = |dice: &mut Dice| match dice.below(5) {
+        0 => Blank,
+        1 => Declined,
+        2 => Number(dice.below(20) as i32 - 10),
+        3 => Number(dice.below(1 << 32) as u32 as i32),
+        _ => Number((dice.below(1 << 32) as u32 as i32) >> dice.below(32)),
     };
     for turn in 0..600 {
         let columns = 1 + dice.below(16) as usize;
@@ -1112,11 +1141,15 @@ fn writing_and_importing_again() {
         }
         let file = tables_file_with(&tables, dice.below(1 << 32) as u32 as i32);
         let lines = exported(&file).unwrap();
-        let written =
-            |row: &Vec<Option<i32>>| row.iter().map(|cell| cell.map_or(String::new(), |number| number.to_string())).collect::<Vec<_>>();
-        let expected: String = tables[0].1.iter().map(|row| written(row).join(",") + "\n").collect();
+        let field = |cell: &Cell| match cell {
+            Blank => String::new(),
+            Declined => "!".to_string(),
+            Number(number) => number.to_string(),
+        };
+        let written = |row: &Vec<Cell>| row.iter().map(field).collect::<Vec<_>>().join(",") + "\n";
+        let expected: String = tables[0].1.iter().map(written).collect();
         assert_eq!(lines, expected.as_bytes());
-        // the same cells and marks, with 0 under each blank; then nothing changes any more
+        // the same cells and marks, with 0 under each blank or declined cell; then nothing changes any more
         let again = imported(&lines, columns);
         assert_eq!(again, Ok(tables_file_with(&tables[..1], 0)));
         let again = again.unwrap();
@@ -1138,4 +1171,573 @@ fn rules_on_an_imported_table() {
         (0..3).for_each(|row| assert_eq!(judge(text.as_bytes(), &file, row), Ok(truths[row]), "{text}, row {row}"));
         assert_eq!(judge(text.as_bytes(), &file, 3), Err(11));
     }
+}
+
+/// Table 1, two columns: (1, 5), (2, blank), (3, declined). Table 2, one column: 1, declined. Table 3, one column, no rows.
+fn declined_tables() -> Vec<u8> {
+    declined_tables_with(1)
+}
+
+/// The same with this value under the blank and the declined cells.
+fn declined_tables_with(under: i32) -> Vec<u8> {
+    let first = vec![vec![Number(1), Number(5)], vec![Number(2), Blank], vec![Number(3), Declined]];
+    let second = vec![vec![Number(1)], vec![Declined]];
+    tables_file_with(&[(2, first), (1, second), (1, vec![])], under)
+}
+
+/// The refusals of the six calls that read tables, none where a call answers, for a file with one cell.
+fn refusals_of_one_cell(file: &[u8]) -> [Option<Refusal>; 6] {
+    let bytes = card_of("1 = 1", &[1, 1, 1, 0, 0, 0, 0, 0, 0]).unwrap();
+    [
+        parts_of("1 = 1", file).err(),
+        judge(b"1 = 1", file, 0).err(),
+        card_of("1 = 1", file).err(),
+        run(&bytes, file, 0).err(),
+        list(&bytes, file, &mut [0]).err(),
+        exported(file).err(),
+    ]
+}
+
+#[test]
+fn refusal_2_means_a_mark_above_2() {
+    for mark in 0..=255 {
+        let expected = (mark > 2).then_some(2);
+        assert_eq!(refusals_of_one_cell(&[1, 1, 1, 0, 0, 0, 0, 0, mark]), [expected; 6], "{mark}");
+        // the value bytes are no marks
+        assert_eq!(refusals_of_one_cell(&[1, 1, 1, 0, mark, mark, mark, mark, 2]), [None; 6], "{mark}");
+        assert_eq!(refusals_of_one_cell(&[1, 1, 1, 0, 0, 0, 0, 0, mark, 0]), [Some(1); 6], "{mark}");
+    }
+    // the marks of all tables, which are the last 8 bytes
+    let file = declined_tables();
+    for at in file.len() - 8..file.len() {
+        for (mark, expected) in [(0, Ok(1)), (1, Ok(1)), (2, Ok(1)), (3, Err(2)), (255, Err(2))] {
+            let mut marked = file.clone();
+            marked[at] = mark;
+            assert_eq!(parts_of("1 = 1", &marked).map(|parts| parts.len()), expected, "byte {at} as {mark}");
+            assert_eq!(exported(&marked).map(|_| 1), expected, "byte {at} as {mark}");
+        }
+    }
+    // after 1 and before all others
+    let spoilt = [1, 1, 1, 0, 0, 0, 0, 0, 3];
+    assert_eq!(read(&[b'?'; 5_000], &spoilt, &mut []), Err(2));
+    assert_eq!((run(&[], &spoilt, 9), list(&[], &spoilt, &mut []), export(&spoilt, &mut [])), (Err(2), Err(2), Err(2)));
+}
+
+#[test]
+fn declined_tests_go_by_the_mark() {
+    let tables = declined_tables();
+    let cases = [
+        ("m.2 IS DECLINED", [F, F, T]),
+        ("m.2 IS NOT DECLINED", [T, T, F]),
+        ("NOT m.2 IS DECLINED", [T, T, F]),
+        ("NOT m.2 IS NOT DECLINED", [F, F, T]),
+        ("NOT NOT m.2 IS DECLINED", [F, F, T]),
+        ("NOT NOT NOT m.2 IS NOT DECLINED", [F, F, T]),
+        ("m.1 IS DECLINED", [F, F, F]),
+        ("m.1 IS NOT DECLINED", [T, T, T]),
+        // blank alone, and declined or a number
+        ("m.2 IS NULL AND NOT m.2 IS DECLINED", [F, T, F]),
+        ("m.2 IS NULL AND m.2 IS NOT DECLINED", [F, T, F]),
+        ("m.2 IS DECLINED OR m.2 IS NOT NULL", [T, F, T]),
+        ("NOT (m.2 IS DECLINED OR m.2 IS NOT NULL)", [F, T, F]),
+        // beside an unknown
+        ("m.2 > 0 OR m.2 IS DECLINED", [T, U, T]),
+        ("m.2 > 0 AND m.2 IS DECLINED", [F, F, U]),
+        ("NOT (m.2 > 0 AND m.2 IS DECLINED)", [T, T, U]),
+        ("m.2 = 0 OR m.2 IS NOT DECLINED", [T, T, U]),
+    ];
+    cases.iter().for_each(|(text, truths)| assert_truths(text, &tables, truths));
+}
+
+#[test]
+fn a_number_is_never_declined() {
+    let tables = declined_tables();
+    for number in ["0", "-0", "1", "2", "-1", "2147483647", "-2147483648"] {
+        assert_truths(&format!("{number} IS DECLINED"), &tables, &[F; 3]);
+        assert_truths(&format!("{number} IS NOT DECLINED"), &tables, &[T; 3]);
+        assert_truths(&format!("NOT {number} IS DECLINED"), &tables, &[T; 3]);
+        assert_truths(&format!("NOT {number} IS NOT DECLINED"), &tables, &[F; 3]);
+    }
+    // nor is a present cell, whatever its number
+    let present = tables_file(&[(1, [0, 1, 2, -1, i32::MIN, i32::MAX].map(|number| vec![Number(number)]).to_vec())]);
+    assert_truths("m.1 IS DECLINED", &present, &[F; 6]);
+    assert_truths("m.1 IS NOT DECLINED", &present, &[T; 6]);
+}
+
+#[test]
+fn a_declined_cell_is_blank_for_is_null() {
+    let tables = declined_tables();
+    let cases = [
+        ("m.2 IS NULL", [F, T, T]),
+        ("m.2 IS NOT NULL", [T, F, F]),
+        ("NOT m.2 IS NULL", [T, F, F]),
+        ("NOT m.2 IS NOT NULL", [F, T, T]),
+        ("(m.2 IS NULL) IS UNKNOWN", [F, F, F]),
+        ("m.2 IS NULL AND m.2 IS DECLINED", [F, F, T]),
+        ("m.2 IS NOT NULL AND m.2 IS DECLINED", [F, F, F]),
+        ("EXISTS (FROM 2 v WHERE v.1 IS NULL)", [T, T, T]),
+    ];
+    cases.iter().for_each(|(text, truths)| assert_truths(text, &tables, truths));
+}
+
+#[test]
+fn a_comparison_with_a_declined_cell_is_unknown() {
+    // 5 compared with 5
+    let comparisons = [("=", T, F), ("<>", F, T), ("<", F, T), ("<=", T, F), (">", F, T), (">=", T, F)];
+    // the number compares with itself; all other pairs have a blank or a declined cell, with the same number under it
+    let cells = [Number(5), Blank, Declined];
+    let pairs = cells.iter().flat_map(|&left| cells.map(|right| vec![left, right])).collect();
+    let pairs = tables_file_with(&[(2, pairs)], 5);
+    for (comparison, equal, reverse) in comparisons {
+        for text in [format!("m.2 {comparison} 5"), format!("5 {comparison} m.2"), format!("m.2 {comparison} m.2")] {
+            assert_truths(&text, &declined_tables_with(5), &[equal, U, U]);
+            assert_truths(&format!("NOT {text}"), &declined_tables_with(5), &[reverse, U, U]);
+            assert_truths(&format!("({text}) IS UNKNOWN"), &declined_tables_with(5), &[F, T, T]);
+            assert_truths(&format!("({text}) IS NOT UNKNOWN"), &declined_tables_with(5), &[T, F, F]);
+        }
+        let text = format!("m.1 {comparison} m.2");
+        assert_truths(&text, &pairs, &[equal, U, U, U, U, U, U, U, U]);
+        assert_truths(&format!("NOT {text}"), &pairs, &[reverse, U, U, U, U, U, U, U, U]);
+    }
+    // what counts as yes in a card made by hand
+    let yes = card_with(&[(6, [1, 0, 0, 2, 0, 1, 0, 0, 0, 255, 5, 0, 0, 0])]);
+    let no = card_with(&[(5, [1, 0, 0, 1, 0, 1, 0, 0, 0, 255, 5, 0, 0, 0])]);
+    let rows = tables_file_with(&[(3, vec![vec![Number(5); 3], vec![Blank; 3], vec![Declined; 3]])], 5);
+    assert_eq!([0, 1, 2].map(|row| run(&yes, &rows, row)), [Ok(false), Ok(true), Ok(true)]);
+    assert_eq!([0, 1, 2].map(|row| run(&no, &rows, row)), [Ok(true), Ok(false), Ok(false)]);
+}
+
+#[test]
+fn declined_cells_in_subqueries() {
+    let all2 = "(SELECT v.1 FROM 2 v WHERE 1 = 1)";
+    let all3 = "(SELECT v.1 FROM 3 v WHERE 1 = 1)";
+    let declined2 = "(SELECT v.1 FROM 2 v WHERE v.1 IS DECLINED)";
+    let cases = [
+        (format!("m.1 IN {all2}"), [T, U, U]),
+        (format!("m.1 NOT IN {all2}"), [F, U, U]),
+        (format!("m.1 = ALL {all2}"), [U, F, F]),
+        (format!("m.2 = SOME {all2}"), [U, U, U]),
+        (format!("m.2 = ALL {all2}"), [F, U, U]),
+        (format!("m.2 = SOME {all3}"), [F, F, F]),
+        (format!("m.2 = ALL {all3}"), [T, T, T]),
+        (format!("m.1 IN {declined2}"), [U, U, U]),
+        (format!("m.1 <> ALL {declined2}"), [U, U, U]),
+        ("m.1 IN (SELECT v.1 FROM 2 v WHERE v.1 IS NOT DECLINED)".to_string(), [T, F, F]),
+        ("m.1 <> ALL (SELECT v.1 FROM 2 v WHERE NOT v.1 IS DECLINED)".to_string(), [F, T, T]),
+        // no row is retained where the WHERE is unknown
+        ("m.1 <> ALL (SELECT v.1 FROM 2 v WHERE v.1 = 1)".to_string(), [F, T, T]),
+        ("EXISTS (FROM 2 v WHERE v.1 > 1)".to_string(), [F, F, F]),
+        ("EXISTS (FROM 2 v WHERE NOT v.1 = 1)".to_string(), [F, F, F]),
+        ("EXISTS (FROM 2 v WHERE v.1 IS DECLINED)".to_string(), [T, T, T]),
+        ("NOT EXISTS (FROM 2 v WHERE v.1 IS DECLINED)".to_string(), [F, F, F]),
+        ("EXISTS (FROM 3 v WHERE v.1 IS NOT DECLINED)".to_string(), [F, F, F]),
+        ("NOT EXISTS (FROM 3 v WHERE v.1 IS DECLINED)".to_string(), [T, T, T]),
+        ("EXISTS (FROM 2 v WHERE v.1 IS NULL AND m.2 IS DECLINED)".to_string(), [F, F, T]),
+        // a letter means its nearest binding
+        ("EXISTS (FROM 2 m WHERE m.1 IS DECLINED)".to_string(), [T, T, T]),
+        ("m.2 IS DECLINED AND EXISTS (FROM 2 m WHERE m.1 IS NOT DECLINED)".to_string(), [F, F, T]),
+        // the judged row decides what is retained, and is selected
+        ("1 = SOME (SELECT m.2 FROM 2 v WHERE m.2 IS DECLINED)".to_string(), [F, F, U]),
+        ("1 = ALL (SELECT m.2 FROM 2 v WHERE m.2 IS DECLINED)".to_string(), [T, T, U]),
+    ];
+    cases.iter().for_each(|(text, truths)| assert_truths(text, &declined_tables(), truths));
+}
+
+#[test]
+fn truth_tests_on_declined_tests() {
+    let tables = declined_tables();
+    // on false, false and true, which `m.2 IS DECLINED` is on rows 0, 1 and 2
+    let values = [[F, F, T], [T, T, F], [T, T, F], [F, F, T], [F, F, F], [T, T, T]];
+    let reversed = [[T, T, F], [F, F, T], [F, F, T], [T, T, F], [F, F, F], [T, T, T]];
+    for (number, test) in TRUTH_TESTS.iter().enumerate() {
+        assert_truths(&format!("(m.2 IS DECLINED) {test}"), &tables, &values[number]);
+        assert_truths(&format!("(m.2 IS NOT DECLINED) {test}"), &tables, &reversed[number]);
+        assert_truths(&format!("(NOT m.2 IS DECLINED) {test}"), &tables, &reversed[number]);
+    }
+    // who left the field empty and did not decline goes to the help screen
+    assert_truths("(m.2 > 0) IS UNKNOWN AND m.2 IS NOT DECLINED", &tables, &[F, T, F]);
+    assert_truths("(m.2 > 0 OR m.2 IS DECLINED) IS UNKNOWN", &tables, &[F, T, F]);
+}
+
+#[test]
+fn what_lies_under_a_declined_cell_is_not_seen() {
+    let all2 = "(SELECT v.1 FROM 2 v WHERE v.1 = 1 OR v.1 IS DECLINED)";
+    let tests = ["m.2 = 1", "m.2 IS NULL", "m.2 IS DECLINED", "m.2 IS NOT DECLINED", "(m.2 > 0) IS UNKNOWN"];
+    let lists = [format!("m.1 IN {all2}"), format!("m.2 <> ALL {all2}"), format!("NOT m.1 >= SOME {all2}")];
+    let answers = |under: i32| {
+        let file = declined_tables_with(under);
+        let answer = |text: &str| {
+            let bytes = card_of(text, &file).unwrap();
+            let mut rows = [99; 3];
+            let count = list(&bytes, &file, &mut rows);
+            let truths = [0, 1, 2].map(|row| judge(text.as_bytes(), &file, row));
+            let ran = [0, 1, 2].map(|row| run(&bytes, &file, row));
+            (parts_of(text, &file), truths, bytes, ran, count, rows)
+        };
+        let texts = tests.into_iter().chain(lists.iter().map(|text| text.as_str()));
+        (texts.map(answer).collect::<Vec<_>>(), exported(&file))
+    };
+    let expected = answers(0);
+    assert_eq!(expected.1, Ok(b"1,5\n2,\n3,!\n".to_vec()));
+    [1, 2, 3, 5, -1, 256, i32::MIN, i32::MAX].iter().for_each(|&under| assert_eq!(answers(under), expected, "{under}"));
+}
+
+#[test]
+fn a_declined_cell_is_blank_where_no_rule_asks_for_it() {
+    let mut dice = Dice(0x8CB9_2BA7_2F3D_8DD7);
+    let mut compared = 0;
+    for _ in 0..20_000 {
+        let text = dice.condition(5, &["m"]);
+        let tables = [dice.table(), dice.table(), dice.table()];
+        let blank = |cell: &Cell| if *cell == Declined { Blank } else { *cell };
+        let blanked = |(columns, rows): &Table| (*columns, rows.iter().map(|row| row.iter().map(blank).collect()).collect());
+        let files = (tables_file(&tables), tables_file(&tables.iter().map(blanked).collect::<Vec<_>>()));
+        if text.contains("DECLINED") || files.0 == files.1 {
+            continue;
+        }
+        let Ok(bytes) = card_of(&text, &files.0) else {
+            continue;
+        };
+        compared += 1;
+        assert_eq!(card_of(&text, &files.1), Ok(bytes.clone()), "{text}");
+        assert_eq!(parts_of(&text, &files.0), parts_of(&text, &files.1), "{text}");
+        for row in 0..tables[0].1.len() {
+            assert_eq!(judge(text.as_bytes(), &files.0, row), judge(text.as_bytes(), &files.1, row), "{text}");
+            assert_eq!(run(&bytes, &files.0, row), run(&bytes, &files.1, row), "{text}");
+        }
+    }
+    assert!(compared > 3_000, "only {compared} rules were compared");
+}
+
+#[test]
+fn where_declined_may_stand() {
+    let accepted = [
+        "m.1 IS DECLINED",
+        "m.1 IS NOT DECLINED",
+        "1IS DECLINED",
+        "-1 IS NOT\nDECLINED",
+        " m . 1\nIS\nNOT DECLINED\n",
+        "NOT m.1 IS NOT DECLINED",
+        "(m.1 IS DECLINED)",
+        "((m.1 IS DECLINED)) IS NOT UNKNOWN",
+        "m.1 IS DECLINED AND m.1 IS NULL OR 1 IS NOT DECLINED",
+        "m.1 IN (SELECT v.1 FROM 2 v WHERE v.1 IS DECLINED)",
+    ];
+    let alone = ["DECLINED", "NOT DECLINED", "(DECLINED)", "(DECLINED) IS TRUE", "IS DECLINED", "DECLINED IS DECLINED", "DECLINED.1 = 1"];
+    let unfinished = ["m.1 IS", "m.1 IS NOT", "m.1 DECLINED", "m.1 NOT DECLINED", "m IS DECLINED", "m. IS DECLINED", "m.1 IS (DECLINED)"];
+    let doubled = ["m.1 IS NOT NOT DECLINED", "m.1 IS IS DECLINED", "m.1 IS DECLINED DECLINED", "m.1 IS DECLINED NOT"];
+    let joined = ["m.1 IS DECLINED NULL", "m.1 IS NULL DECLINED", "m.1 IS NOT NULL DECLINED", "m.1 IS DECLINED IS DECLINED"];
+    let exists = "EXISTS (FROM 2 v WHERE 1 = 1) IS DECLINED";
+    let after_others = ["(1 = 1) IS DECLINED", "(1 = 1) IS NOT DECLINED", "1 = 1 IS DECLINED", "(m.1) IS DECLINED", exists];
+    let brackets = ["(m.1 IS DECLINED) IS DECLINED", "(m.1 IS DECLINED) IS NULL", "m.1 IS DECLINED IS TRUE", "m.1 IS DECLINED)"];
+    let values =
+        ["m.1 = DECLINED", "DECLINED = m.1", "m.DECLINED = 1", "m.1 IN DECLINED", "m.1 = SOME DECLINED", "m.1 IS TRUE", "m.1 IS 1"];
+    let selected = "m.1 IN (SELECT DECLINED FROM 2 v WHERE 1 = 1)";
+    let subqueries = ["EXISTS (FROM 2 v WHERE DECLINED)", "EXISTS (FROM 2 DECLINED WHERE 1 = 1)", "EXISTS DECLINED", selected];
+    let letters = ["m.1 IS declined", "m.1 IS DECLINED1", "m.1 IS DECLINEDd"];
+    let no_tokens =
+        ["m.1 IS DECLINE", "m.1 IS DECLINEDS", "m.1 ISDECLINED", "m.1 IS NOTDECLINED", "m.1 IS DECLINEDNULL", "m.1 IS Declined"];
+    let signs = ["!", "m.1 IS !", "m.1 = !", "! IS DECLINED", "!= 1"];
+    accepted.iter().for_each(|text| assert_eq!(refused(text.as_bytes()), 0, "{text}"));
+    let ungrammatical = [&alone[..], &unfinished, &doubled, &joined, &after_others, &brackets, &values, &subqueries, &letters].concat();
+    ungrammatical.iter().for_each(|text| assert_eq!(refused(text.as_bytes()), 6, "{text}"));
+    [&no_tokens[..], &signs].concat().iter().for_each(|text| assert_eq!(refused(text.as_bytes()), 4, "{text}"));
+    // the value's letter and column are names as elsewhere
+    let names = ["k.1 IS DECLINED", "m.3 IS DECLINED", "m.0 IS NOT DECLINED", "EXISTS (FROM 2 v WHERE v.2 IS DECLINED)"];
+    names.iter().for_each(|text| assert_eq!(refused(text.as_bytes()), 8, "{text}"));
+    // each test is counted in the 64 parts
+    let tests = |count: usize| vec!["m.1 IS DECLINED"; count].join(" OR ");
+    assert_eq!((refused(format!("NOT {}", tests(32)).as_bytes()), refused(tests(33).as_bytes())), (0, 7));
+    assert_eq!(refused(format!("NOT NOT {}", tests(32)).as_bytes()), 7);
+}
+
+#[test]
+fn declined_tests_are_parts() {
+    let tables = paper_tables();
+    let test = |kind: u8, end: u8, left: Value| Part { kind, end, left, ..Part::default() };
+    let unused = |kind: u8, end: u8| Part { kind, end, ..Part::default() };
+    assert_eq!(parts_of("m.2 IS DECLINED", &tables), Ok(vec![test(16, 1, column(0, 2))]));
+    assert_eq!(parts_of("m.2 IS NOT DECLINED", &tables), Ok(vec![test(17, 1, column(0, 2))]));
+    assert_eq!(parts_of("-7 IS DECLINED", &tables), Ok(vec![test(16, 1, constant(-7))]));
+    assert_eq!(parts_of("0 IS NOT DECLINED", &tables), Ok(vec![test(17, 1, constant(0))]));
+    // NOT stays a part of its own
+    assert_eq!(parts_of("NOT m.1 IS DECLINED", &tables), Ok(vec![unused(3, 2), test(16, 2, column(0, 1))]));
+    assert_eq!(parts_of("NOT m.1 IS NOT DECLINED", &tables), Ok(vec![unused(3, 2), test(17, 2, column(0, 1))]));
+    let exists = Part { kind: 7, table: 2, end: 4, ..Part::default() };
+    let inner = vec![exists, unused(2, 4), test(16, 3, column(1, 1)), test(17, 4, column(0, 2))];
+    assert_eq!(parts_of("EXISTS (FROM 2 v WHERE v.1 IS DECLINED OR m.2 IS NOT DECLINED)", &tables), Ok(inner));
+    assert_eq!(part_kinds("(m.1 IS DECLINED) IS NOT UNKNOWN AND (m.1 IS NOT DECLINED)"), [1, 15, 16, 17]);
+    assert_eq!(part_kinds("m.1 IS NULL OR m.1 IS NOT NULL OR m.1 IS DECLINED"), [2, 2, 5, 6, 16]);
+    // what is past the answer stays
+    let mut lent = [exists; 2];
+    assert_eq!((read(b"1 IS DECLINED", &tables, &mut lent), lent), (Ok(1), [test(16, 1, constant(1)), exists]));
+    assert_eq!((read(b"1 IS DECLINED", &tables, &mut []), judge(b"1 IS DECLINED", &tables, 3)), (Err(12), Err(11)));
+}
+
+/// The card of `m.2 IS DECLINED` for one table of 3 columns.
+const DECLINED_CARD: [u8; 19] = [1, 0, 1, 3, 9, 1, 0, 0, 0, 0, 2, 0, 0, 0, 0, 0, 0, 0, 0];
+
+#[test]
+fn cards_of_declined_tests() {
+    let tables = three_columns();
+    let mut not_declined = DECLINED_CARD;
+    not_declined[4] = 10;
+    assert_eq!(card_of("m.2 IS DECLINED", &tables), Ok(DECLINED_CARD.to_vec()));
+    assert_eq!(card_of("m.2 IS NOT DECLINED", &tables), Ok(not_declined.to_vec()));
+    assert_eq!(card_of("NOT m.2 IS DECLINED", &tables), Ok(not_declined.to_vec()));
+    assert_eq!(card_of("NOT m.2 IS NOT DECLINED", &tables), Ok(DECLINED_CARD.to_vec()));
+    assert_eq!(card_of("NOT NOT m.2 IS DECLINED", &tables), Ok(DECLINED_CARD.to_vec()));
+    let constant = card_with(&[(10, [1, 0, 0, 0, 255, 0xFE, 0xFF, 0xFF, 0xFF, 0, 0, 0, 0, 0])]);
+    assert_eq!(card_of("NOT -2 IS DECLINED", &tables), Ok(constant));
+    let row = [2, 0, 1, 0, 0, 0, 0, 0, 0, 0, 0, 0, 0, 0];
+    let inner = [2, 0, 0, 0, 1, 3, 0, 0, 0, 0, 0, 0, 0, 0];
+    assert_eq!(card_of("EXISTS (FROM 1 v WHERE v.3 IS DECLINED)", &tables), Ok(card_with(&[(3, row), (9, inner)])));
+    assert_eq!(card_of("NOT EXISTS (FROM 1 v WHERE v.3 IS DECLINED)", &tables), Ok(card_with(&[(4, row), (10, inner)])));
+    let mut buffer = [7; 20];
+    assert_eq!(card(b"m.2 IS DECLINED", &tables, &mut buffer[..18]), Err(12));
+    assert_eq!(buffer, [7; 20]);
+    assert_eq!(card(b"m.2 IS DECLINED", &tables, &mut buffer), Ok(19));
+    assert_eq!((&buffer[..19], buffer[19]), (&DECLINED_CARD[..], 7));
+}
+
+#[test]
+fn negating_swaps_declined_and_not_declined() {
+    let joined = "m.1 IS DECLINED AND m.2 IS NOT DECLINED OR m.1 IS NULL";
+    assert_eq!(entry_kinds(joined), [(2, 0), (1, 0), (9, 0), (10, 0), (7, 0)]);
+    assert_eq!(entry_kinds(&format!("NOT ({joined})")), [(1, 0), (2, 0), (10, 0), (9, 0), (8, 0)]);
+    let some = "m.1 = SOME (SELECT v.1 FROM 2 v WHERE v.1 IS DECLINED)";
+    assert_eq!(entry_kinds(some), [(3, 0), (1, 0), (9, 0), (5, 1)]);
+    assert_eq!(entry_kinds(&format!("NOT {some}")), [(4, 0), (2, 0), (10, 0), (5, 2)]);
+    let all = "m.1 = ALL (SELECT v.1 FROM 2 v WHERE v.1 IS NOT DECLINED)";
+    assert_eq!(entry_kinds(all), [(4, 0), (2, 0), (9, 0), (5, 1)]);
+    assert_eq!(entry_kinds(&format!("NOT {all}")), [(3, 0), (1, 0), (10, 0), (5, 2)]);
+    // in either interpretation the same
+    let cards: [&[(u8, u8)]; 6] = [&[(9, 0)], &[(10, 0)], &[(10, 0)], &[(9, 0)], &[(1, 0), (10, 0), (9, 0)], &[(2, 0), (9, 0), (10, 0)]];
+    for (number, test) in TRUTH_TESTS.iter().enumerate() {
+        assert_eq!(entry_kinds(&format!("(m.2 IS DECLINED) {test}")), cards[number], "{test}");
+        assert_eq!(entry_kinds(&format!("NOT (m.2 IS DECLINED) {test}")), cards[number ^ 1], "{test}");
+    }
+}
+
+#[test]
+fn declined_tests_add_one_to_the_sum() {
+    let length = |text: &str| card_of(text, &paper_tables()).map(|bytes| (bytes.len() - 6) / 15);
+    for test in ["m.1 IS DECLINED", "m.1 IS NOT DECLINED"] {
+        assert_eq!((length(test), length(&format!("NOT {test}"))), (Ok(1), Ok(1)));
+        assert_eq!(length(&format!("{test} OR {test}")), Ok(3));
+        assert_eq!(length(&format!("EXISTS (FROM 2 v WHERE {test})")), Ok(2));
+        assert_eq!(length(&format!("m.1 IN (SELECT v.1 FROM 2 v WHERE {test})")), Ok(4));
+        // 1 + 2 × 1, and so on
+        assert_eq!((length(&unknowns(1, test)), length(&unknowns(2, test))), (Ok(3), Ok(7)));
+        assert_eq!((length(&unknowns(6, test)), length(&unknowns(7, test))), (Ok(127), Err(13)));
+        // 127 + 63 + 1, then one more, then two
+        let odd = format!("{} AND {}", unknowns(6, test), unknowns(5, test));
+        assert_eq!((length(&odd), length(&format!("EXISTS (FROM 2 v WHERE {odd})"))), (Ok(191), Ok(192)));
+        assert_eq!(length(&format!("{odd} AND {test}")), Err(13));
+    }
+    // 64 parts: 32 tests, 31 ORs, and a NOT, which adds nothing
+    assert_eq!(length(&format!("NOT ({})", vec!["m.1 IS DECLINED"; 32].join(" OR "))), Ok(63));
+}
+
+#[test]
+fn soundness_of_declined_entries_byte_by_byte() {
+    // which values each byte may have: the kinds 7 to 10, which use the left value alone
+    let free = |at: usize, byte: u8| match at {
+        3 => (2..=16).contains(&byte),
+        4 => (7..=10).contains(&byte),
+        9 => byte == 255,
+        10 => (1..=3).contains(&byte),
+        _ => false,
+    };
+    for kind in [9, 10] {
+        let mut sound_card = DECLINED_CARD;
+        sound_card[4] = kind;
+        for at in 0..sound_card.len() {
+            for byte in 0..=255 {
+                let mut bytes = sound_card;
+                bytes[at] = byte;
+                let expected = if byte == sound_card[at] || free(at, byte) { Ok(()) } else { Err(9) };
+                assert_eq!(check(&bytes), expected, "kind {kind}, byte {at} as {byte}");
+            }
+            assert_eq!(check(&sound_card[..at]), Err(9));
+        }
+        assert_eq!(check(&[&sound_card[..], &[0]].concat()), Err(9));
+        // a constant may be any number
+        [[0, 0, 0, 0], [255, 255, 255, 255], [0, 0, 0, 128], [1, 2, 3, 4]].iter().for_each(|number| {
+            let mut bytes = sound_card;
+            bytes[9] = 255;
+            bytes[10..14].copy_from_slice(number);
+            assert_eq!(check(&bytes), Ok(()), "kind {kind}, constant {number:?}");
+        });
+    }
+}
+
+#[test]
+fn unused_fields_of_declined_entries_are_0() {
+    let sound_record = [1, 0, 0, 0, 0, 1, 0, 0, 0, 0, 0, 0, 0, 0];
+    let with = |at: usize, bytes: &[u8]| {
+        let mut record = sound_record;
+        record[at..at + bytes.len()].copy_from_slice(bytes);
+        record
+    };
+    let table = with(2, &[1]);
+    let comparison = with(3, &[1]);
+    let right_column = with(9, &[0, 1, 0, 0, 0]);
+    let right_constant = with(9, &[255, 0, 0, 0, 0]);
+    let right_number = with(12, &[1]);
+    for kind in [9, 10] {
+        assert_eq!(check(&card_with(&[(kind, sound_record)])), Ok(()));
+        for record in [table, comparison, right_column, right_constant, right_number] {
+            let bytes = card_with(&[(kind, record)]);
+            assert_eq!(check(&bytes), Err(9), "kind {kind}, {record:?}");
+            assert_eq!(run(&bytes, &three_columns(), 0), Err(9), "kind {kind}, {record:?}");
+            assert_eq!(list(&bytes, &three_columns(), &mut [0; 2]), Err(9), "kind {kind}, {record:?}");
+        }
+    }
+    // kinds 5 and 6 have a comparison, which 9 and 10 have not; the others have no left value
+    let comparing = with(3, &[1, 0, 1, 0, 0, 0, 255]);
+    assert_eq!([5, 6, 7, 8, 9, 10].map(|kind| check(&card_with(&[(kind, comparing)])).is_ok()), [true, true, false, false, false, false]);
+    let kinds = (0..=255).filter(|&kind| check(&card_with(&[(kind, sound_record)])).is_ok());
+    assert_eq!(kinds.collect::<Vec<u8>>(), [7, 8, 9, 10]);
+}
+
+#[test]
+fn ends_levels_and_kinds_of_declined_entries() {
+    let test = |kind: u8, end: u8, level: u8| (kind, [end, 0, 0, 0, level, 3, 0, 0, 0, 0, 0, 0, 0, 0]);
+    let row = |end: u8| (3, [end, 0, 1, 0, 0, 0, 0, 0, 0, 0, 0, 0, 0, 0]);
+    let and = |end: u8| (1, [end, 0, 0, 0, 0, 0, 0, 0, 0, 0, 0, 0, 0, 0]);
+    for kind in [9, 10] {
+        assert_eq!(check(&card_with(&[row(4), row(4), row(4), test(kind, 4, 3)])), Ok(()));
+        assert_eq!(check(&card_with(&[row(4), row(4), row(4), test(kind, 4, 4)])), Err(9));
+        assert_eq!(check(&card_with(&[and(4), row(3), test(kind, 3, 1), test(kind, 4, 0)])), Ok(()));
+        assert_eq!(check(&card_with(&[and(4), row(3), test(kind, 3, 1), test(kind, 4, 1)])), Err(9));
+        // they have no inner entries
+        assert_eq!(check(&card_with(&[test(kind, 2, 0), test(kind, 2, 0)])), Err(9));
+        assert_eq!(check(&card_with(&[test(kind, 1, 0), test(kind, 2, 0)])), Err(9));
+        assert_eq!(check(&card_with(&[and(3), test(kind, 2, 0), test(kind, 3, 0)])), Ok(()));
+        // there is no kind 11, nor 0, also as an inner entry
+        [0, 11, 12, 16, 17, 255].iter().for_each(|&other| {
+            assert_eq!(check(&card_with(&[test(other, 1, 0)])), Err(9), "{other}");
+            assert_eq!(check(&card_with(&[and(3), test(kind, 2, 0), test(other, 3, 0)])), Err(9), "{other}");
+            assert_eq!(check(&card_with(&[and(3), test(other, 2, 0), test(kind, 3, 0)])), Err(9), "{other}");
+            assert_eq!(check(&card_with(&[row(2), test(other, 2, 1)])), Err(9), "{other}");
+        });
+    }
+}
+
+#[test]
+fn declined_entries_run_by_their_kinds() {
+    let rows = [Number(1), Blank, Declined].map(|cell| vec![Number(2), cell, Number(3)]).to_vec();
+    let tables = tables_file(&[(3, rows)]);
+    let left = |tag: u8, number: u8| [1, 0, 0, 0, tag, number, 0, 0, 0, 0, 0, 0, 0, 0];
+    let ran = |kind: u8, tag: u8, number: u8| [0, 1, 2].map(|row| run(&card_with(&[(kind, left(tag, number))]), &tables, row).unwrap());
+    assert_eq!(ran(7, 0, 2), [false, true, true]);
+    assert_eq!(ran(8, 0, 2), [true, false, false]);
+    assert_eq!(ran(9, 0, 2), [false, false, true]);
+    assert_eq!(ran(10, 0, 2), [true, true, false]);
+    assert_eq!((ran(9, 0, 3), ran(10, 0, 3)), ([false; 3], [true; 3]));
+    assert_eq!((ran(9, 255, 2), ran(10, 255, 2)), ([false; 3], [true; 3]));
+    // over the rows of table 1: some are declined and some are not
+    let over_rows = |row_kind: u8, kind: u8| {
+        let row = [2, 0, 1, 0, 0, 0, 0, 0, 0, 0, 0, 0, 0, 0];
+        let inner = [2, 0, 0, 0, 1, 2, 0, 0, 0, 0, 0, 0, 0, 0];
+        let mut rows = [9; 3];
+        list(&card_with(&[(row_kind, row), (kind, inner)]), &tables, &mut rows).unwrap()
+    };
+    assert_eq!((over_rows(3, 9), over_rows(3, 10), over_rows(4, 9), over_rows(4, 10)), (3, 3, 0, 0));
+    let mut listed = [9; 3];
+    assert_eq!((list(&DECLINED_CARD, &tables, &mut listed), listed), (Ok(1), [2, 9, 9]));
+    assert_eq!(list(&DECLINED_CARD, &tables, &mut []), Err(12));
+    assert_eq!(list(&DECLINED_CARD, &tables_file(&[(2, vec![])]), &mut []), Err(10));
+}
+
+#[test]
+fn a_declined_field_is_a_lone_sign() {
+    assert_eq!(imported(b"!", 1), Ok(vec![1, 1, 1, 0, 0, 0, 0, 0, 2]));
+    let bytes = [1, 2, 2, 0, 1, 0, 0, 0, 0, 0, 0, 0, 0, 0, 0, 0, 0xFE, 0xFF, 0xFF, 0xFF, 0, 2, 1, 0];
+    assert_eq!(imported(b"1,!\n,-2\n", 2), Ok(bytes.to_vec()));
+    // before a comma, either line end, and the end of the file
+    ["!", "!\n", "!\r\n"].iter().for_each(|lines| assert_eq!(imported(lines.as_bytes(), 1), single(1, &[&[Declined]]), "{lines:?}"));
+    ["!\n!", "!\r\n!\n", "!\n!\r\n"].iter().for_each(|lines| {
+        assert_eq!(imported(lines.as_bytes(), 1), single(1, &[&[Declined], &[Declined]]), "{lines:?}");
+    });
+    assert_eq!(imported(b"!,,7\r\n,!,!", 3), single(3, &[&[Declined, Blank, Number(7)], &[Blank, Declined, Declined]]));
+    assert_eq!(imported(b"\n!\n\n", 1), single(1, &[&[Blank], &[Declined], &[Blank]]));
+    assert_eq!(imported(["!"; 16].join(",").as_bytes(), 16), single(16, &[&[Declined; 16]]));
+    // it is one field
+    [(&b"!,"[..], 1), (b",!", 1), (b"!", 2), (b"!,!", 1), (b"!,!", 3), (b"!\n!", 2), (b"!,!\n\n", 2)].iter().for_each(
+        |&(lines, columns)| {
+            assert_eq!(imported(lines, columns), Err(14), "{lines:?}");
+        },
+    );
+    // blank, 0 and declined differ in the mark alone
+    let files = [imported(b",1\n", 2).unwrap(), imported(b"0,1\n", 2).unwrap(), imported(b"!,1\n", 2).unwrap()];
+    files.iter().for_each(|file| assert_eq!(file[..12], files[0][..12]));
+    assert_eq!(files.map(|file| file[12..].to_vec()), [[1, 0], [0, 0], [2, 0]]);
+}
+
+#[test]
+fn a_sign_with_anything_beside_it_is_a_bad_field() {
+    let beside = ["!1", "1!", "!0", "! ", " !", "!!", "!!!", "-!", "!-", "!-1", "-1!", "1!1", "!\t", "!.", "!\0", "!\r\r", "!;!", "\r!"];
+    let others = ["\"!\"", "'!'", "DECLINED", "!DECLINED", "\u{A1}", "\u{FF01}", "!\u{301}", "\u{FEFF}!"];
+    for text in [&beside[..], &others].concat() {
+        for lines in [text.to_string(), format!("{text}\n"), format!("!\n{text}\r\n!\n"), format!("\n{text}")] {
+            assert_eq!(imported(lines.as_bytes(), 1), Err(14), "{lines:?}");
+        }
+        for lines in [format!("{text},!"), format!("!,{text}"), format!("!,!\n!,{text}\n")] {
+            assert_eq!(imported(lines.as_bytes(), 2), Err(14), "{lines:?}");
+        }
+    }
+    // a CR without its LF
+    assert_eq!((imported(b"!\r", 1), imported(b"!\r!", 1), imported(b"!\n!\r", 1)), (Err(14), Err(14), Err(14)));
+    for byte in 0..=255_u8 {
+        let after = if byte == b'\n' { single(1, &[&[Declined]]) } else { Err(14) };
+        assert_eq!(imported(&[b'!', byte], 1), after, "{byte}");
+        let before = if byte == b'\n' { single(1, &[&[Blank], &[Declined]]) } else { Err(14) };
+        assert_eq!(imported(&[byte, b'!'], 1), before, "{byte}");
+    }
+}
+
+#[test]
+fn declined_fields_at_the_limits() {
+    let lines = |columns: usize, rows: usize| (vec!["!"; columns].join(",") + "\n").repeat(rows);
+    for (columns, most) in [(1, 1_000), (8, 1_000), (9, 910), (16, 512)] {
+        let row = vec![Declined; columns];
+        assert_eq!(imported(lines(columns, most).as_bytes(), columns), single(columns, &vec![&row[..]; most]), "{columns}");
+        assert_eq!(imported(lines(columns, most + 1).as_bytes(), columns), Err(15), "{columns}");
+        assert_eq!(imported((lines(columns, most + 1) + "!!").as_bytes(), columns), Err(14), "{columns}");
+        assert_eq!(exported(&tables_file(&[(columns as u8, vec![row; most])])), Ok(lines(columns, most).into_bytes()), "{columns}");
+    }
+    assert_eq!((import(b"!", 1, &mut [0; 8]), import(b"!", 1, &mut [0; 9])), (Err(12), Ok(9)));
+    assert_eq!((imported(b"!", 0), imported(b"!", 17)), (Err(14), Err(14)));
+}
+
+#[test]
+fn declined_cells_are_written_as_signs() {
+    assert_eq!(exported(&[1, 1, 1, 0, 9, 9, 9, 9, 2]), Ok(b"!\n".to_vec()));
+    assert_eq!(exported(&declined_tables()), Ok(b"1,5\n2,\n3,!\n".to_vec()));
+    assert_eq!(exported(&tables_file(&[(1, vec![vec![Blank], vec![Declined], vec![Blank]])])), Ok(b"\n!\n\n".to_vec()));
+    let mixed = [(3, vec![vec![Declined, Blank, Number(-1)], vec![Number(0), Declined, Declined]]), (1, vec![vec![Declined]])];
+    for under in [0, 1, 33, i32::MIN, i32::MAX] {
+        let lines = exported(&tables_file_with(&mixed, under));
+        assert_eq!(lines, Ok(b"!,,-1\n0,!,!\n".to_vec()), "{under}");
+        // the same cells and marks again, with 0 as value
+        let again = imported(&lines.unwrap(), 3);
+        assert_eq!(again, Ok(tables_file_with(&mixed[..1], 0)), "{under}");
+        assert_eq!(exported(&again.unwrap()), Ok(b"!,,-1\n0,!,!\n".to_vec()), "{under}");
+    }
+    let mut lines = [9; 3];
+    assert_eq!((export(&[1, 1, 1, 0, 9, 9, 9, 9, 2], &mut lines[..1]), lines), (Err(12), [9; 3]));
+    assert_eq!((export(&[1, 1, 1, 0, 9, 9, 9, 9, 2], &mut lines), lines), (Ok(2), [b'!', b'\n', 9]));
+}
+
+#[test]
+fn rules_on_imported_declined_cells() {
+    let file = imported(b"1,5\r\n2,\r\n3,!", 2).unwrap();
+    assert_truths("m.2 > 0", &file, &[T, U, U]);
+    assert_truths("m.2 = 0", &file, &[F, U, U]);
+    assert_truths("m.2 IS NULL", &file, &[F, T, T]);
+    assert_truths("m.2 IS DECLINED", &file, &[F, F, T]);
+    assert_truths("m.2 IS NOT DECLINED", &file, &[T, T, F]);
+    assert_truths("(m.2 = 0) IS UNKNOWN AND NOT m.2 IS DECLINED", &file, &[F, T, F]);
 }

@@ -1,5 +1,5 @@
-/* The eight calls from C: document 01's cases and worked card, the examples of its refusals, document 02's truth tests and their card, and its comma lines,
- * there and back; and buffers around and below what is needed. */
+/* The eight calls from C: document 01's cases and worked card, the examples of its refusals, document 02's truth tests and their card, its comma lines, there
+ * and back, and its declined cells; and buffers around and below what is needed. */
 #include "expect.h"
 #include <stdlib.h>
 
@@ -35,6 +35,29 @@ static const struct { const char *text, *values; } cases[] = {
     {"(m.2 <= ALL (SELECT k.2 FROM 1 k WHERE (m.2 IS NULL) IS NOT UNKNOWN)) IS NOT FALSE", "FTT"}};
 enum { CASES = sizeof cases / sizeof cases[0], ROWS = 3 };
 
+/* a rule, and its values on rows 0 to 3 of declined_tables: column 2 is 5, blank, declined and 0, and column 1 is declined in the last */
+static const struct { const char *text, *values; } declined_cases[] = {
+    {"m.2 IS DECLINED", "FFTF"},
+    {"m.2 IS NOT DECLINED", "TTFT"},
+    {"NOT m.2 IS DECLINED", "TTFT"},
+    {"NOT m.2 IS NOT DECLINED", "FFTF"},
+    {"5 IS DECLINED", "FFFF"},
+    {"2 IS NOT DECLINED", "TTTT"},
+    {"m.2 IS NULL", "FTTF"},
+    {"m.2 IS NOT NULL", "TFFT"},
+    {"m.2 = m.2", "TUUT"},
+    {"m.2 > 0", "TUUF"},
+    {"NOT m.2 > 0", "FUUT"},
+    {"m.1 < m.2", "TUUU"},
+    {"(m.2 > 0) IS UNKNOWN", "FTTF"},
+    {"(m.2 IS DECLINED) IS UNKNOWN", "FFFF"},
+    {"(NOT m.2 IS DECLINED) IS NOT FALSE", "TTFT"},
+    {"m.2 IS NULL AND m.2 IS NOT DECLINED", "FTFF"},
+    {"m.1 IN " ALL2, "TUUU"},
+    {"m.1 NOT IN (SELECT v.1 FROM 2 v WHERE v.1 IS NOT DECLINED)", "FTTU"},
+    {"NOT EXISTS (FROM 2 v WHERE v.1 IS DECLINED AND m.2 IS DECLINED)", "TTFT"}};
+enum { DECLINED_CASES = sizeof declined_cases / sizeof declined_cases[0] };
+
 /* the truth tests, in the order of their kinds from 10 on, with their values on true, unknown and false: m.2 > 0 is these on rows 0, 1, 2 */
 static const struct { const char *ending, *values, *negated; } truth_tests[] = {
     {"IS TRUE", "TFF", "FTT"},
@@ -52,19 +75,23 @@ static const uint8_t unknown_card[] = {
     2, 0, 0, 4, 0, 3, 0, 0, 0, 0xFF, 0, 0, 0, 0,
     3, 0, 0, 5, 0, 3, 0, 0, 0, 0xFF, 0, 0, 0, 0};
 
+/* for worked_tables, the card of NOT m.2 IS DECLINED */
+static const uint8_t declined_card[] = {1, 0, 1, 3, 10, 1, 0, 0, 0, 0, 2, 0, 0, 0, 0, 0, 0, 0, 0};
+
 static const uint8_t *bytes_of(const char *text) { return (const uint8_t *)text; }
 
-static void one_case(const char *text, const char *values) {
+/* the values of a rule on all rows of table 1, and what its card says of them */
+static void has_values(const char *text, const char *values, const uint8_t *tables, size_t tables_len) {
     uint8_t card[ROSKUDLA_MOST_CARD_BYTES], value, answer;
     uint32_t rows[ROSKUDLA_MOST_ROWS];
     size_t length = 0, count = 0, place = 0, row;
-    EXPECT(roskudla_card(bytes_of(text), strlen(text), case_tables, sizeof case_tables, card, sizeof card, &length) == ROSKUDLA_OK);
+    EXPECT(roskudla_card(bytes_of(text), strlen(text), tables, tables_len, card, sizeof card, &length) == ROSKUDLA_OK);
     EXPECT(roskudla_check(card, length) == ROSKUDLA_OK);
-    EXPECT(roskudla_list(card, length, case_tables, sizeof case_tables, rows, ROSKUDLA_MOST_ROWS, &count) == ROSKUDLA_OK);
-    for (row = 0; row < ROWS; row++) {
-        EXPECT(roskudla_judge(bytes_of(text), strlen(text), case_tables, sizeof case_tables, row, &value) == ROSKUDLA_OK);
+    EXPECT(roskudla_list(card, length, tables, tables_len, rows, ROSKUDLA_MOST_ROWS, &count) == ROSKUDLA_OK);
+    for (row = 0; row < strlen(values); row++) {
+        EXPECT(roskudla_judge(bytes_of(text), strlen(text), tables, tables_len, row, &value) == ROSKUDLA_OK);
         EXPECT(value < 3 && "FUT"[value] == values[row]);
-        EXPECT(roskudla_run(card, length, case_tables, sizeof case_tables, row, &answer) == ROSKUDLA_OK);
+        EXPECT(roskudla_run(card, length, tables, tables_len, row, &answer) == ROSKUDLA_OK);
         EXPECT(answer == (values[row] == 'T'));
         if (values[row] == 'T') {
             EXPECT(place < count && rows[place] == row);
@@ -72,6 +99,23 @@ static void one_case(const char *text, const char *values) {
         }
     }
     EXPECT(place == count);
+}
+
+static void one_case(const char *text, const char *values) { has_values(text, values, case_tables, sizeof case_tables); }
+
+/* each test of declined cells, on a number, a blank, a declined cell and a constant, and what else is blank there; the parts and the card of such tests */
+static void each_declined_case(void) {
+    static const char text[] = "NOT m.2 IS DECLINED AND -7 IS NOT DECLINED";
+    struct roskudla_part parts[4];
+    size_t number, count = 0;
+    for (number = 0; number < DECLINED_CASES; number++)
+        has_values(declined_cases[number].text, declined_cases[number].values, declined_tables, sizeof declined_tables);
+    EXPECT(roskudla_read(bytes_of(text), strlen(text), declined_tables, sizeof declined_tables, parts, 4, &count) == ROSKUDLA_OK && count == 4);
+    EXPECT(parts[0].kind == 1 && parts[1].kind == 3 && parts[2].kind == 16 && parts[3].kind == 17);
+    EXPECT(parts[0].end == 4 && parts[1].end == 3 && parts[2].end == 3 && parts[3].end == 4);
+    EXPECT(parts[2].left.tag == 0 && parts[2].left.number == 2 && parts[3].left.tag == 255 && parts[3].left.number == -7);
+    for (number = 0; number < 4; number++)
+        EXPECT(parts[number].comparison == 0 && parts[number].table == 0 && parts[number].right.tag == 0 && parts[number].right.number == 0);
 }
 
 /* each truth test on each value, alone and under NOT; its part, of the kind that is its own, stands before the comparison in it */
@@ -155,7 +199,7 @@ static char *within_unknowns(const char *condition, size_t times) {
 }
 
 static void refusal_examples(void) {
-    static const uint8_t bad_sizes[] = {0}, bad_mark[] = {1, 1, 1, 0, 0, 0, 0, 0, 2};
+    static const uint8_t bad_sizes[] = {0}, bad_mark[] = {1, 1, 1, 0, 0, 0, 0, 0, 3};
     char *spaces = repeated(" ", "", 4097), *brackets = repeated("(", "", 33), *tests = repeated("1 = 1", " OR ", 33);
     uint8_t value = UNTOUCHED;
     refused(ROSKUDLA_TABLES, "1 = 1", 5, bad_sizes, sizeof bad_sizes);
@@ -175,6 +219,13 @@ static void refusal_examples(void) {
     refused_text(ROSKUDLA_GRAMMAR, "EXISTS (FROM 2 v WHERE 1 = 1) IS TRUE");
     refused_text(ROSKUDLA_GRAMMAR, "m.1 IN " ALL2 " IS TRUE");
     refused_text(ROSKUDLA_GRAMMAR, "(1 = 1) IS NOT NOT TRUE");
+    refused_text(ROSKUDLA_TOKEN, "m.1 IS DECLINE");
+    refused_text(ROSKUDLA_TOKEN, "m.1 = !");
+    refused_text(ROSKUDLA_GRAMMAR, "DECLINED");
+    refused_text(ROSKUDLA_GRAMMAR, "m.1 IS NOT NOT DECLINED");
+    refused_text(ROSKUDLA_GRAMMAR, "(m.1) IS DECLINED");
+    refused_text(ROSKUDLA_GRAMMAR, "(1 = 1) IS NOT DECLINED");
+    refused_text(ROSKUDLA_NAMES, "m.3 IS DECLINED");
     EXPECT(roskudla_judge(bytes_of("1 = 1"), 5, case_tables, sizeof case_tables, ROWS, &value) == ROSKUDLA_ROW && value == UNTOUCHED);
     EXPECT(roskudla_judge(bytes_of("1 = 1"), 5, case_tables, sizeof case_tables, (size_t)-1, &value) == ROSKUDLA_ROW && value == UNTOUCHED);
     free(spaces);
@@ -265,6 +316,17 @@ static const struct import_case { const char *lines; size_t columns; uint32_t st
     {"-0,007\r\n,", 2, ROSKUDLA_OK, 2, "\0\0\0\0" "\7\0\0\0" "\0\0\0\0" "\0\0\0\0" "\0\0\1\1"},
     {"2147483647,-2147483648\n", 2, ROSKUDLA_OK, 1, "\377\377\377\177" "\0\0\0\200" "\0\0"},
     {"0000000001,-1\n,256", 2, ROSKUDLA_OK, 2, "\1\0\0\0" "\377\377\377\377" "\0\0\0\0" "\0\1\0\0" "\0\0\1\0"},
+    {"!", 1, ROSKUDLA_OK, 1, "\0\0\0\0" "\2"},
+    {"!\r\n", 1, ROSKUDLA_OK, 1, "\0\0\0\0" "\2"},
+    {"!,\n7,!\n", 2, ROSKUDLA_OK, 2, "\0\0\0\0" "\0\0\0\0" "\7\0\0\0" "\0\0\0\0" "\2\1\0\2"},
+    {"!1", 1, ROSKUDLA_FIELDS, 0, ""},
+    {"1!", 1, ROSKUDLA_FIELDS, 0, ""},
+    {"! ", 1, ROSKUDLA_FIELDS, 0, ""},
+    {"!!", 1, ROSKUDLA_FIELDS, 0, ""},
+    {"-!", 1, ROSKUDLA_FIELDS, 0, ""},
+    {"!\r", 1, ROSKUDLA_FIELDS, 0, ""},
+    {"!", 2, ROSKUDLA_FIELDS, 0, ""},
+    {"!,", 1, ROSKUDLA_FIELDS, 0, ""},
     {"", 0, ROSKUDLA_FIELDS, 0, ""},
     {"", 17, ROSKUDLA_FIELDS, 0, ""},
     {"1", 257, ROSKUDLA_FIELDS, 0, ""},
@@ -346,15 +408,18 @@ static void one_export(const uint8_t *tables, size_t tables_len, uint32_t status
     }
 }
 
-/* table 1 alone; the lowest number, 0 and a blank; other bytes than 0 below a blank; no rows; then wrong lengths, sizes and marks */
+/* table 1 alone; the lowest number, 0 and a blank; other bytes than 0 below a blank and below a declined cell; no rows; then wrong lengths, sizes and marks */
 static void each_export(void) {
     static const uint8_t three_cells[] = {1, 3, 1, 0, 0, 0, 0, 128, 0, 0, 0, 0, 0, 0, 0, 0, 0, 0, 1};
     static const uint8_t below_blank[] = {1, 1, 2, 0, 9, 9, 9, 9, 10, 0, 0, 0, 1, 0};
-    static const uint8_t bad_mark[] = {1, 1, 1, 0, 0, 0, 0, 0, 2}, bad_columns[] = {1, 17, 0, 0};
-    static const uint8_t bad_second[] = {2, 1, 1, 0, 1, 1, 0, 0, 0, 0, 0, 0, 0, 0, 0, 0, 2};
+    static const uint8_t below_declined[] = {1, 1, 2, 0, 9, 9, 9, 9, 10, 0, 0, 0, 2, 0};
+    static const uint8_t bad_mark[] = {1, 1, 1, 0, 0, 0, 0, 0, 3}, bad_columns[] = {1, 17, 0, 0};
+    static const uint8_t bad_second[] = {2, 1, 1, 0, 1, 1, 0, 0, 0, 0, 0, 0, 0, 0, 0, 0, 3};
     one_export(case_tables, sizeof case_tables, ROSKUDLA_OK, "1,5\n2,\n3,0\n");
     one_export(three_cells, sizeof three_cells, ROSKUDLA_OK, "-2147483648,0,\n");
     one_export(below_blank, sizeof below_blank, ROSKUDLA_OK, "\n10\n");
+    one_export(below_declined, sizeof below_declined, ROSKUDLA_OK, "!\n10\n");
+    one_export(declined_tables, sizeof declined_tables, ROSKUDLA_OK, "1,5\n2,\n3,!\n!,0\n");
     one_export(worked_tables, sizeof worked_tables, ROSKUDLA_OK, "");
     one_export(NULL, 0, ROSKUDLA_TABLES, "");
     one_export(bad_mark, sizeof bad_mark - 1, ROSKUDLA_TABLES, "");
@@ -415,7 +480,9 @@ int main(void) {
     size_t number;
     for (number = 0; number < CASES; number++) one_case(cases[number].text, cases[number].values);
     each_truth_test();
+    each_declined_case();
     card_rooms("NOT m.2 < 5", worked_card, sizeof worked_card);
+    card_rooms("NOT m.2 IS DECLINED", declined_card, sizeof declined_card);
     card_rooms("(m.3 > 0) IS UNKNOWN", unknown_card, sizeof unknown_card);
     refusal_examples();
     too_many_entries();

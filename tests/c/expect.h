@@ -1,4 +1,4 @@
-/* What the test programs here share: expectations that are counted and told, and the tables of document 01's proved cases. */
+/* What the test programs here share: expectations that are counted and told, the tables of document 01's proved cases, and tables with declined cells. */
 #ifndef EXPECT_H
 #define EXPECT_H
 #include "roskudla.h"
@@ -38,6 +38,12 @@ static const uint8_t case_tables[] = {
     3, 2, 3, 0, 1, 2, 0, 1, 0, 0,
     1, 0, 0, 0, 5, 0, 0, 0, 2, 0, 0, 0, 7, 0, 0, 0, 3, 0, 0, 0, 0, 0, 0, 0, 1, 0, 0, 0, 1, 0, 0, 0,
     0, 0, 0, 1, 0, 0, 0, 1};
+
+/* (1, 5), (2, blank), (3, declined), (declined, 0); 1, declined; no rows. Under the blank and declined cells stand 5, 5, 1 and 2. */
+static const uint8_t declined_tables[] = {
+    3, 2, 4, 0, 1, 2, 0, 1, 0, 0,
+    1, 0, 0, 0, 5, 0, 0, 0, 2, 0, 0, 0, 5, 0, 0, 0, 3, 0, 0, 0, 5, 0, 0, 0, 1, 0, 0, 0, 0, 0, 0, 0, 1, 0, 0, 0, 2, 0, 0, 0,
+    0, 0, 0, ROSKUDLA_MARK_BLANK, 0, ROSKUDLA_MARK_DECLINED, ROSKUDLA_MARK_DECLINED, 0, ROSKUDLA_MARK_PRESENT, ROSKUDLA_MARK_DECLINED};
 
 /* one table of 3 columns without rows, and document 01's worked card for it, that of NOT m.2 < 5 */
 static const uint8_t worked_tables[] = {1, 3, 0, 0};

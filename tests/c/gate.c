@@ -1,4 +1,4 @@
-/* CHECK, RUN and LIST, linked from the archive of the gate alone: a card given as bytes, and each of the gate's refusals. */
+/* CHECK, RUN and LIST, linked from the archive of the gate alone: a card given as bytes, cards with kinds 9 and 10, and each of the gate's refusals. */
 #include "expect.h"
 
 /* one table of 3 columns, three rows; column 2 is 7, blank with 7 under it, and 8 */
@@ -7,7 +7,7 @@ static const uint8_t three_rows[] = {
     1, 0, 0, 0, 7, 0, 0, 0, 1, 0, 0, 0, 1, 0, 0, 0, 7, 0, 0, 0, 1, 0, 0, 0, 1, 0, 0, 0, 8, 0, 0, 0, 1, 0, 0, 0,
     0, 0, 0, 0, 1, 0, 0, 0, 0};
 static const uint8_t other_columns[] = {1, 2, 0, 0};
-static const uint8_t bad_mark[] = {1, 1, 1, 0, 0, 0, 0, 0, 2};
+static const uint8_t bad_mark[] = {1, 1, 1, 0, 0, 0, 0, 0, 3};
 static const uint8_t bad_sizes[] = {0};
 static const uint8_t bad_card[] = {0, 0};
 
@@ -82,9 +82,76 @@ static void list_calls(void) {
     EXPECT(roskudla_list(worked_card, sizeof worked_card, worked_tables, sizeof worked_tables, NULL, 0, &count) == ROSKUDLA_OK && count == 0);
 }
 
+/* the card of one entry for declined_tables: its kind, table, comparison, left and right value */
+static size_t one_entry(uint8_t *card, uint8_t kind, uint8_t table, uint8_t comparison, const uint8_t *left, const uint8_t *right) {
+    static const uint8_t head[] = {1, 0, 3, 2, 1, 1};
+    memset(card, 0, sizeof head + 15);
+    memcpy(card, head, sizeof head);
+    card[6] = kind, card[7] = 1, card[9] = table, card[10] = comparison;
+    memcpy(card + 11, left, 5);
+    memcpy(card + 16, right, 5);
+    return sizeof head + 15;
+}
+
+/* values: unused, of columns of the judged row, of a level that is absent, and of a number */
+static const uint8_t none[] = {0, 0, 0, 0, 0}, column_2[] = {0, 2, 0, 0, 0}, column_3[] = {0, 3, 0, 0, 0};
+static const uint8_t level_1[] = {1, 1, 0, 0, 0}, number_2[] = {255, 2, 0, 0, 0};
+
+/* the rows 0 to 3 that RUN and LIST admit of declined_tables, as bits, by a card that CHECK passes; 255 where all three refuse with 9 */
+static unsigned admitted(uint8_t kind, uint8_t table, uint8_t comparison, const uint8_t *left, const uint8_t *right) {
+    uint8_t card[21], answer;
+    uint32_t rows[4], status;
+    size_t length = one_entry(card, kind, table, comparison, left, right), count = 0, place = 0, row;
+    unsigned bits = 0;
+    status = roskudla_list(card, length, declined_tables, sizeof declined_tables, rows, 4, &count);
+    EXPECT(roskudla_check(card, length) == status);
+    for (row = 0; row < 4; row++) {
+        EXPECT(run(card, length, declined_tables, sizeof declined_tables, row, &answer) == status);
+        if (status != ROSKUDLA_OK || answer == 0) continue;
+        EXPECT(place < count && rows[place] == row);
+        place++;
+        bits |= 1u << row;
+    }
+    EXPECT(place == count);
+    return status == ROSKUDLA_UNSOUND ? 255 : bits;
+}
+
+/* kinds 9 and 10 are by the mark, and never yes and never no of a number; a declined cell is blank to kinds 5 to 8. The left value is all that they use, and no
+ * kind comes behind them. */
+static void declined_cards(void) {
+    static const uint8_t declined_cell[] = {1, 1, 1, 0, 0, 0, 0, 0, ROSKUDLA_MARK_DECLINED}, card[] = {1, 0, 1, 1, 9, 1, 0, 0, 0, 0, 1, 0, 0, 0, 0, 0, 0, 0, 0};
+    uint8_t answer;
+    EXPECT(admitted(9, 0, 0, column_2, none) == 4);
+    EXPECT(admitted(10, 0, 0, column_2, none) == 11);
+    EXPECT(admitted(9, 0, 0, number_2, none) == 0);
+    EXPECT(admitted(10, 0, 0, number_2, none) == 15);
+    EXPECT(admitted(7, 0, 0, column_2, none) == 6);
+    EXPECT(admitted(8, 0, 0, column_2, none) == 9);
+    EXPECT(admitted(5, 0, 1, column_2, column_2) == 9);
+    EXPECT(admitted(6, 0, 2, column_2, column_2) == 6);
+    EXPECT(admitted(10, 0, 0, column_2, number_2) == 255);
+    EXPECT(admitted(10, 0, 0, column_2, column_2) == 255);
+    EXPECT(admitted(10, 0, 1, column_2, none) == 255);
+    EXPECT(admitted(10, 1, 0, column_2, none) == 255);
+    EXPECT(admitted(9, 0, 0, column_2, number_2) == 255);
+    EXPECT(admitted(9, 0, 6, column_2, none) == 255);
+    EXPECT(admitted(9, 2, 0, column_2, none) == 255);
+    EXPECT(admitted(9, 0, 0, column_3, none) == 255);
+    EXPECT(admitted(10, 0, 0, level_1, none) == 255);
+    EXPECT(admitted(11, 0, 0, column_2, none) == 255);
+    EXPECT(admitted(11, 0, 0, number_2, none) == 255);
+    EXPECT(admitted(11, 0, 0, none, none) == 255);
+    EXPECT(admitted(11, 0, 1, column_2, number_2) == 255);
+    EXPECT(admitted(16, 0, 0, column_2, none) == 255);
+    EXPECT(admitted(17, 0, 0, column_2, none) == 255);
+    EXPECT(run(card, sizeof card, declined_cell, sizeof declined_cell, 0, &answer) == ROSKUDLA_OK && answer == 1);
+    EXPECT(run(card, sizeof card, bad_mark, sizeof bad_mark, 0, &answer) == ROSKUDLA_MARK);
+}
+
 int main(void) {
     check_calls();
     run_calls();
     list_calls();
+    declined_cards();
     return report("gate");
 }

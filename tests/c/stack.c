@@ -117,8 +117,12 @@ int main(void) {
     size_t of_nothing = touched(nothing), of_check, of_run, of_list;
     times("NOT ", 63), times("1=1", 1);
     rule_within("63 NOTs");
+    times("NOT ", 63), times("m.1 IS NOT DECLINED", 1);
+    rule_within("63 NOTs before a test of declined cells");
     times("EXISTS(FROM 1 a WHERE ", 3), times("NOT ", 30), times("(", 29), times("NOT ", 30), times("1=1", 1), times(")", 32);
     rule_within("three FROMs, 60 NOTs and 29 brackets");
+    times("EXISTS(FROM 1 a WHERE ", 3), times("NOT ", 30), times("(", 29), times("NOT ", 30), times("a.1 IS DECLINED", 1), times(")", 32);
+    rule_within("three FROMs, 60 NOTs and 29 brackets, before a test of declined cells");
     times("(1=2 OR ", 31), times("1=1", 1), times(")", 31); /* a left side that is true would end JUDGE there */
     rule_within("31 ORs, each in the one before");
     times("1=SOME(SELECT 1 FROM 1 a WHERE ", 3), times("(1=1 AND ", 29), times("1=1", 1), times(")", 32);
@@ -145,5 +149,6 @@ int main(void) {
     lines_within("-2147483648", 1000, 8);
     lines_within("2147483647", 1000, 1);
     lines_within("", 1000, 8);
+    lines_within("!", 1000, 8);
     return report("stack");
 }

@@ -62,6 +62,11 @@ def sorts_of(call):
     return lambda *refusals: {call: given_sorts(*refusals)}
 
 
+def declined_cases(*calls):
+    """The model's own cases about declined cells that are of these calls; what they answer is worked out by hand beside them."""
+    return (case for case in cases.declined_cases() if case.call in calls)
+
+
 def refusal_sets(call, given):
     """Every set of a call's refusals together, of which the first in the call's order is given; without any, the answer is of the sort `given`."""
     refusals = cases.REFUSALS_OF[call]

@@ -1,11 +1,12 @@
-"""Texts with what document 01 answers to them, and Point 1 of document 02 to those with truth tests, worked out by hand from the papers: their own examples,
-and the nearest neighbours on the other side.
+"""Texts with what document 01 answers to them, Point 1 of document 02 to those with truth tests, and its Point 4 to those about declined cells, worked out by
+hand from the papers: their own examples, and the nearest neighbours on the other side.
 
 An example is a text, a tables file and an answer: the number of the refusal, or the numbers of the parts as they stand in the list, with a stroke between
 two parts. The numbers of a part are kind, comparison, table, end, tag and number of the left value, tag and number of the right value. Cards are written in
 the same way, entry by entry: kind, end, table, comparison, tag and number of the left value, tag and number of the right value.
 
-Comma lines, of Point 2 of document 02, stand with a number of columns and the number of the refusal or the rows of the table; a blank cell is None.
+Comma lines, of Points 2 and 4 of document 02, stand with a number of columns and the number of the refusal or the rows of the table; a blank cell is None,
+and a declined one is DECLINED.
 """
 import struct
 import typing
@@ -18,6 +19,12 @@ CASE_TABLES = bytes.fromhex(
     "03 02 03 00 01 02 00 01 00 00"
     " 01 00 00 00 05 00 00 00  02 00 00 00 07 00 00 00  03 00 00 00 00 00 00 00  01 00 00 00  01 00 00 00"
     " 00 00  00 01  00 00  00  01")
+# tables of as many columns: (1, 5), (2, blank), (3, declined), (declined, 0); 1, declined; no rows. Under the blank and declined cells stand 5, 5, 1 and 2,
+# which no answer may show
+DECLINED_TABLES = bytes.fromhex(
+    "03 02 04 00 01 02 00 01 00 00"
+    " 01 00 00 00 05 00 00 00  02 00 00 00 05 00 00 00  03 00 00 00 05 00 00 00  01 00 00 00 00 00 00 00  01 00 00 00  02 00 00 00"
+    " 00 00  00 01  00 02  02 00  00  02")
 ONE_CELL = "01 01 01 00 00 00 00 00"
 
 TEST = b"1 = 1"
@@ -72,7 +79,9 @@ REFUSALS = (
     (TEST, bytes.fromhex("01 01 00 00"), PARTS_OF_TEST),
     (TEST, bytes.fromhex("01 01 00 00 00"), 1),
     # 2
-    (TEST, bytes.fromhex(ONE_CELL + "02"), 2),
+    (TEST, bytes.fromhex(ONE_CELL + "03"), 2),
+    (TEST, bytes.fromhex(ONE_CELL + "ff"), 2),
+    (TEST, bytes.fromhex(ONE_CELL + "02"), PARTS_OF_TEST),
     (TEST, bytes.fromhex(ONE_CELL + "01"), PARTS_OF_TEST),
     (TEST, bytes.fromhex(ONE_CELL + "00"), PARTS_OF_TEST),
     # 3
@@ -87,6 +96,12 @@ REFUSALS = (
     (b"m.1 = -2147483649", ONE_COLUMN, 4),
     (b"m.1 = 0000000001", ONE_COLUMN, "4 1 0 1 0 1 255 1"),
     (b"m.1 = 00000000001", ONE_COLUMN, 4),
+    (b"m.1 IS DECLINE", ONE_COLUMN, 4),
+    (b"m.1 IS DECLINEDS", ONE_COLUMN, 4),
+    (b"m.1 ISDECLINED", ONE_COLUMN, 4),
+    (b"m.1 IS NOTDECLINED", ONE_COLUMN, 4),
+    (b"m.1IS DECLINED", ONE_COLUMN, "16 0 0 1 0 1 0 0"),
+    (b"m.1 = !", ONE_COLUMN, 4),
     # 5
     (b"(" * 33, ONE_COLUMN, 5),
     (b"(" * 32, ONE_COLUMN, 6),
@@ -113,6 +128,23 @@ REFUSALS = (
     (b"(1 = 1) IS NOT NOT TRUE", ONE_COLUMN, 6),
     (b"(1 = 1) NOT IS TRUE", ONE_COLUMN, 6),
     (b"(1 = 1) IS", ONE_COLUMN, 6),
+    (b"DECLINED", ONE_COLUMN, 6),
+    (b"m.1 DECLINED", ONE_COLUMN, 6),
+    (b"m.1 IS DECLINED", ONE_COLUMN, "16 0 0 1 0 1 0 0"),
+    (b"m.1 NOT DECLINED", ONE_COLUMN, 6),
+    (b"m.1 IS NOT DECLINED", ONE_COLUMN, "17 0 0 1 0 1 0 0"),
+    (b"m.1 IS NOT NOT DECLINED", ONE_COLUMN, 6),
+    (b"m.1 IS DECLINED NULL", ONE_COLUMN, 6),
+    (b"m.1 IS DECLINED IS DECLINED", ONE_COLUMN, 6),
+    (b"m.1 IS DECLINED IS TRUE", ONE_COLUMN, 6),
+    (b"(m.1 IS DECLINED) IS TRUE", ONE_COLUMN, "10 0 0 2 0 0 0 0 / 16 0 0 2 0 1 0 0"),
+    (b"(m.1 IS DECLINED) IS DECLINED", ONE_COLUMN, 6),
+    (b"(1 = 1) IS NOT DECLINED", ONE_COLUMN, 6),
+    (b"(m.1) IS DECLINED", ONE_COLUMN, 6),
+    (b"m.1 = DECLINED", ONE_COLUMN, 6),
+    (b"m.1 = 1 IS DECLINED", ONE_COLUMN, 6),
+    (within_exists(TEST) + b" IS DECLINED", ONE_COLUMN, 6),
+    (within_exists(b"v.1 IS DECLINED"), ONE_COLUMN, "7 0 1 2 0 0 0 0 / 16 0 0 2 1 1 0 0"),
     # 7
     (joined_by_or(33), ONE_COLUMN, 7),
     (joined_by_or(32), ONE_COLUMN, parts_of_32_joined(0)),
@@ -122,6 +154,8 @@ REFUSALS = (
     (b"NOT " * 64 + TEST, ONE_COLUMN, 7),
     (b"NOT " * 62 + b"(1 = 1) IS TRUE", ONE_COLUMN, "3 0 0 64 0 0 0 0 / " * 62 + "10 0 0 64 0 0 0 0 / 4 1 0 64 255 1 255 1"),
     (b"NOT " * 63 + b"(1 = 1) IS TRUE", ONE_COLUMN, 7),
+    (b"NOT " * 63 + b"m.1 IS DECLINED", ONE_COLUMN, "3 0 0 64 0 0 0 0 / " * 63 + "16 0 0 64 0 1 0 0"),
+    (b"NOT " * 64 + b"m.1 IS DECLINED", ONE_COLUMN, 7),
     (under_froms("abc"), ONE_COLUMN, "7 0 1 4 0 0 0 0 / " * 3 + "4 1 0 4 0 1 3 1"),
     (under_froms("abcd"), ONE_COLUMN, 7),
     # 8
@@ -133,9 +167,14 @@ REFUSALS = (
     (b"EXISTS (FROM 2 v WHERE 1 = 1)", ONE_COLUMN, 8),
     (b"EXISTS (FROM 0 v WHERE 1 = 1)", ONE_COLUMN, 8),
     (within_unknowns(7, b"k.1 = 1"), ONE_COLUMN, 8),
+    (b"k.1 IS DECLINED", ONE_COLUMN, 8),
+    (b"m.2 IS NOT DECLINED", ONE_COLUMN, 8),
     # 13
     (within_unknowns(7), ONE_COLUMN, 13),
     (within_unknowns(6), ONE_COLUMN, "14 0 0 7 0 0 0 0 / " * 6 + "4 1 0 7 255 1 255 1"),
+    (within_unknowns(7, b"m.1 IS DECLINED"), ONE_COLUMN, 13),
+    (within_unknowns(6, b"m.1 IS NOT DECLINED"), ONE_COLUMN, "14 0 0 7 0 0 0 0 / " * 6 + "17 0 0 7 0 1 0 0"),
+    (SUM_191 + b" AND m.1 IS DECLINED", ONE_COLUMN, 13),
     (SUM_192, ONE_COLUMN, PARTS_OF_192),
     (within_exists(SUM_192), ONE_COLUMN, 13),
     (SUM_191 + b" AND 1 = 1", ONE_COLUMN, 13),
@@ -146,7 +185,7 @@ REFUSALS = (
 
 
 class WorkedCase(typing.NamedTuple):
-    """A rule over the tables of the proved cases: its values on rows 0, 1 and 2, its parts, and the entries of its card."""
+    """A rule over the tables of the proved cases, or over those with declined cells: its values on the rows, its parts, and the entries of its card."""
     text: bytes
     values: str
     parts: str
@@ -207,9 +246,63 @@ TRUTH_CASES = (
                "4 6 1 0 0 0 0 0 / 2 6 0 0 0 0 0 0 / 1 5 0 0 0 0 0 0 / 8 4 0 0 0 2 0 0 / 7 5 0 0 0 2 0 0 / 6 6 0 4 0 2 1 2"),
 )
 
-# the proved cases 1 to 12, the truth tests, the rule of the card that the paper works out, and forms that are not among them
+# declined cells, over the tables with these: tests of them, of a plain blank and of numbers, under NOT and in truth tests; and that they are blank in every
+# other respect
+DECLINED_CASES = (
+    WorkedCase(b"m.2 IS DECLINED", "FFTF", "16 0 0 1 0 2 0 0", "9 1 0 0 0 2 0 0"),
+    WorkedCase(b"m.2 IS NOT DECLINED", "TTFT", "17 0 0 1 0 2 0 0", "10 1 0 0 0 2 0 0"),
+    WorkedCase(b"NOT m.2 IS DECLINED", "TTFT", "3 0 0 2 0 0 0 0 / 16 0 0 2 0 2 0 0", "10 1 0 0 0 2 0 0"),
+    WorkedCase(b"NOT m.2 IS NOT DECLINED", "FFTF", "3 0 0 2 0 0 0 0 / 17 0 0 2 0 2 0 0", "9 1 0 0 0 2 0 0"),
+    WorkedCase(b"m.1 IS DECLINED", "FFFT", "16 0 0 1 0 1 0 0", "9 1 0 0 0 1 0 0"),
+    WorkedCase(b"5 IS DECLINED", "FFFF", "16 0 0 1 255 5 0 0", "9 1 0 0 255 5 0 0"),
+    WorkedCase(b"2 IS NOT DECLINED", "TTTT", "17 0 0 1 255 2 0 0", "10 1 0 0 255 2 0 0"),
+    WorkedCase(b"NOT 2 IS DECLINED", "TTTT", "3 0 0 2 0 0 0 0 / 16 0 0 2 255 2 0 0", "10 1 0 0 255 2 0 0"),
+    WorkedCase(b"m.2 IS NULL", "FTTF", "5 0 0 1 0 2 0 0", "7 1 0 0 0 2 0 0"),
+    WorkedCase(b"m.2 IS NOT NULL", "TFFT", "6 0 0 1 0 2 0 0", "8 1 0 0 0 2 0 0"),
+    WorkedCase(b"m.2 = m.2", "TUUT", "4 1 0 1 0 2 0 2", "5 1 0 1 0 2 0 2"),
+    WorkedCase(b"m.2 = 5", "TUUF", "4 1 0 1 0 2 255 5", "5 1 0 1 0 2 255 5"),
+    WorkedCase(b"NOT m.2 = 5", "FUUT", "3 0 0 2 0 0 0 0 / 4 1 0 2 0 2 255 5", "5 1 0 2 0 2 255 5"),
+    WorkedCase(b"m.1 < m.2", "TUUU", "4 3 0 1 0 1 0 2", "5 1 0 3 0 1 0 2"),
+    WorkedCase(b"m.2 IS NULL AND m.2 IS NOT DECLINED", "FTFF", "1 0 0 3 0 0 0 0 / 5 0 0 2 0 2 0 0 / 17 0 0 3 0 2 0 0",
+               "1 3 0 0 0 0 0 0 / 7 2 0 0 0 2 0 0 / 10 3 0 0 0 2 0 0"),
+    WorkedCase(b"NOT (m.2 IS NULL AND m.2 IS NOT DECLINED)", "TFTT", "3 0 0 4 0 0 0 0 / 1 0 0 4 0 0 0 0 / 5 0 0 3 0 2 0 0 / 17 0 0 4 0 2 0 0",
+               "2 3 0 0 0 0 0 0 / 8 2 0 0 0 2 0 0 / 9 3 0 0 0 2 0 0"),
+    WorkedCase(b"m.2 IS DECLINED OR m.2 > 0", "TUTF", "2 0 0 3 0 0 0 0 / 16 0 0 2 0 2 0 0 / 4 5 0 3 0 2 255 0",
+               "2 3 0 0 0 0 0 0 / 9 2 0 0 0 2 0 0 / 5 3 0 5 0 2 255 0"),
+    WorkedCase(b"(m.2 > 0) IS UNKNOWN", "FTTF", "14 0 0 2 0 0 0 0 / 4 5 0 2 0 2 255 0", "1 3 0 0 0 0 0 0 / 6 2 0 4 0 2 255 0 / 6 3 0 5 0 2 255 0"),
+    WorkedCase(b"(m.2 IS DECLINED) IS TRUE", "FFTF", "10 0 0 2 0 0 0 0 / 16 0 0 2 0 2 0 0", "9 1 0 0 0 2 0 0"),
+    WorkedCase(b"(m.2 IS DECLINED) IS NOT TRUE", "TTFT", "11 0 0 2 0 0 0 0 / 16 0 0 2 0 2 0 0", "10 1 0 0 0 2 0 0"),
+    WorkedCase(b"(m.2 IS DECLINED) IS FALSE", "TTFT", "12 0 0 2 0 0 0 0 / 16 0 0 2 0 2 0 0", "10 1 0 0 0 2 0 0"),
+    WorkedCase(b"(m.2 IS DECLINED) IS NOT FALSE", "FFTF", "13 0 0 2 0 0 0 0 / 16 0 0 2 0 2 0 0", "9 1 0 0 0 2 0 0"),
+    WorkedCase(b"(NOT m.2 IS DECLINED) IS TRUE", "TTFT", "10 0 0 3 0 0 0 0 / 3 0 0 3 0 0 0 0 / 16 0 0 3 0 2 0 0", "10 1 0 0 0 2 0 0"),
+    WorkedCase(b"(NOT m.2 IS DECLINED) IS NOT FALSE", "TTFT", "13 0 0 3 0 0 0 0 / 3 0 0 3 0 0 0 0 / 16 0 0 3 0 2 0 0", "10 1 0 0 0 2 0 0"),
+    WorkedCase(b"(NOT m.2 IS NOT DECLINED) IS NOT FALSE", "FFTF", "13 0 0 3 0 0 0 0 / 3 0 0 3 0 0 0 0 / 17 0 0 3 0 2 0 0", "9 1 0 0 0 2 0 0"),
+    WorkedCase(b"(m.2 IS DECLINED) IS UNKNOWN", "FFFF", "14 0 0 2 0 0 0 0 / 16 0 0 2 0 2 0 0",
+               "1 3 0 0 0 0 0 0 / 10 2 0 0 0 2 0 0 / 9 3 0 0 0 2 0 0"),
+    WorkedCase(b"(m.2 IS NOT DECLINED) IS NOT UNKNOWN", "TTTT", "15 0 0 2 0 0 0 0 / 17 0 0 2 0 2 0 0",
+               "2 3 0 0 0 0 0 0 / 10 2 0 0 0 2 0 0 / 9 3 0 0 0 2 0 0"),
+    WorkedCase(b"m.1 IN " + ALL2, "TUUU", "8 1 2 2 0 1 1 1 / 4 1 0 2 255 1 255 1",
+               "3 4 2 0 0 0 0 0 / 1 4 0 0 0 0 0 0 / 5 3 0 1 255 1 255 1 / 5 4 0 1 0 1 1 1"),
+    WorkedCase(b"m.1 NOT IN (SELECT v.1 FROM 2 v WHERE v.1 IS NOT DECLINED)", "FTTU", "9 2 2 2 0 1 1 1 / 17 0 0 2 1 1 0 0",
+               "4 4 2 0 0 0 0 0 / 2 4 0 0 0 0 0 0 / 9 3 0 0 1 1 0 0 / 5 4 0 2 0 1 1 1"),
+    WorkedCase(b"m.1 >= ALL (SELECT v.1 FROM 2 v WHERE NOT v.1 IS DECLINED)", "TTTU", "9 6 2 3 0 1 1 1 / 3 0 0 3 0 0 0 0 / 16 0 0 3 1 1 0 0",
+               "4 4 2 0 0 0 0 0 / 2 4 0 0 0 0 0 0 / 9 3 0 0 1 1 0 0 / 5 4 0 6 0 1 1 1"),
+    WorkedCase(b"m.2 = SOME (SELECT m.1 FROM 2 m WHERE m.1 IS DECLINED)", "UUUU", "8 1 2 2 0 2 1 1 / 16 0 0 2 1 1 0 0",
+               "3 4 2 0 0 0 0 0 / 1 4 0 0 0 0 0 0 / 9 3 0 0 1 1 0 0 / 5 4 0 1 0 2 1 1"),
+    WorkedCase(b"EXISTS (FROM 2 v WHERE v.1 IS DECLINED AND m.2 IS DECLINED)", "FFTF",
+               "7 0 2 4 0 0 0 0 / 1 0 0 4 0 0 0 0 / 16 0 0 3 1 1 0 0 / 16 0 0 4 0 2 0 0",
+               "3 4 2 0 0 0 0 0 / 1 4 0 0 0 0 0 0 / 9 3 0 0 1 1 0 0 / 9 4 0 0 0 2 0 0"),
+    WorkedCase(b"NOT EXISTS (FROM 2 v WHERE v.1 IS DECLINED AND m.2 IS DECLINED)", "TTFT",
+               "3 0 0 5 0 0 0 0 / 7 0 2 5 0 0 0 0 / 1 0 0 5 0 0 0 0 / 16 0 0 4 1 1 0 0 / 16 0 0 5 0 2 0 0",
+               "4 4 2 0 0 0 0 0 / 2 4 0 0 0 0 0 0 / 10 3 0 0 1 1 0 0 / 10 4 0 0 0 2 0 0"),
+)
+
+# the worked cases with their tables
+WORKED = tuple((case, CASE_TABLES) for case in CASES + TRUTH_CASES) + tuple((case, DECLINED_TABLES) for case in DECLINED_CASES)
+
+# the proved cases 1 to 12, the truth tests, the tests of declined cells, the rule of the card that the paper works out, and forms that are not among them
 THREE_LEVELS = b"EXISTS (FROM 1 a WHERE a.1 < SOME (SELECT b.1 FROM 2 b WHERE EXISTS (FROM 3 c WHERE c.1 = m.2 AND a.2 > b.1)))"
-RULES = tuple((case.text, CASE_COLUMNS, case.parts) for case in CASES + TRUTH_CASES) + (
+RULES = tuple((case.text, CASE_COLUMNS, case.parts) for case, _ in WORKED) + (
     (b"NOT m.2 < 5", THREE_COLUMNS, "3 0 0 2 0 0 0 0 / 4 3 0 2 0 2 255 5"),
     (b"1 = 1 OR 2 = 2 OR 3 = 3", ONE_COLUMN,
      "2 0 0 5 0 0 0 0 / 2 0 0 4 0 0 0 0 / 4 1 0 3 255 1 255 1 / 4 1 0 4 255 2 255 2 / 4 1 0 5 255 3 255 3"),
@@ -238,6 +331,8 @@ def numbers(parts):
 
 WORKED_TEXT = b"NOT m.2 < 5"
 WORKED_CARD = bytes.fromhex("01 00 01 03 05 01 00 00 06 00 02 00 00 00 FF 05 00 00 00")
+DECLINED_TEXT = b"NOT m.2 IS DECLINED"
+DECLINED_CARD = bytes.fromhex("01 00 01 03 0A 01 00 00 00 00 02 00 00 00 00 00 00 00 00")
 UNKNOWN_TEXT = b"(m.3 > 0) IS UNKNOWN"
 UNKNOWN_CARD = bytes.fromhex(
     "03 00 01 03 01 06 06"
@@ -246,7 +341,7 @@ UNKNOWN_CARD = bytes.fromhex(
     " 03 00 00 05 00 03 00 00 00 FF 00 00 00 00")
 
 # rules over the columns of the proved cases, and the entries of their cards: NOT over each connective, over lists and inside them, and numbers at their ends
-CARDS = tuple((case.text, case.entries) for case in CASES + TRUTH_CASES) + (
+CARDS = tuple((case.text, case.entries) for case, _ in WORKED) + (
     (b"NOT NOT m.1 = 1", "5 1 0 1 0 1 255 1"),
     (b"NOT (m.1 IS NULL AND NOT m.2 >= 3)", "2 3 0 0 0 0 0 0 / 8 2 0 0 0 1 0 0 / 5 3 0 6 0 2 255 3"),
     (b"NOT (m.1 IS NOT NULL OR m.2 <= m.1)", "1 3 0 0 0 0 0 0 / 7 2 0 0 0 1 0 0 / 5 3 0 5 0 2 0 1"),
@@ -260,6 +355,55 @@ CARDS = tuple((case.text, case.entries) for case in CASES + TRUTH_CASES) + (
 )
 
 
+# entries, and the rows that a card of them admits with the tables that have declined cells, or 9: kinds 9 and 10 use the left value alone, as 7 and 8 do
+GATE_CARDS = (
+    ("9 1 0 0 0 2 0 0", [2]),
+    ("10 1 0 0 0 2 0 0", [0, 1, 3]),
+    ("9 1 0 0 0 1 0 0", [3]),
+    ("9 1 0 0 255 2 0 0", []),
+    ("10 1 0 0 255 2 0 0", [0, 1, 2, 3]),
+    ("7 1 0 0 0 2 0 0", [1, 2]),
+    ("8 1 0 0 0 2 0 0", [0, 3]),
+    ("5 1 0 1 0 2 0 2", [0, 3]),
+    ("6 1 0 1 0 2 0 2", [0, 1, 2, 3]),
+    ("6 1 0 2 0 2 255 5", [1, 2, 3]),
+    ("1 3 0 0 0 0 0 0 / 7 2 0 0 0 2 0 0 / 10 3 0 0 0 2 0 0", [1]),
+    ("3 2 2 0 0 0 0 0 / 9 2 0 0 1 1 0 0", [0, 1, 2, 3]),
+    ("4 2 2 0 0 0 0 0 / 10 2 0 0 1 1 0 0", []),
+    # a right value, a comparison, a table
+    ("9 1 0 0 0 2 255 5", 9),
+    ("9 1 0 0 0 2 255 0", 9),
+    ("9 1 0 0 0 2 0 1", 9),
+    ("9 1 0 1 0 2 0 0", 9),
+    ("9 1 1 0 0 2 0 0", 9),
+    ("10 1 0 0 0 2 255 5", 9),
+    ("10 1 0 0 0 2 255 0", 9),
+    ("10 1 0 0 0 2 0 1", 9),
+    ("10 1 0 0 0 2 1 0", 9),
+    ("10 1 0 6 0 2 0 0", 9),
+    ("10 1 3 0 0 2 0 0", 9),
+    # a column or a level that is absent
+    ("9 1 0 0 0 0 0 0", 9),
+    ("9 1 0 0 0 3 0 0", 9),
+    ("10 1 0 0 1 1 0 0", 9),
+    ("10 1 0 0 254 1 0 0", 9),
+    ("3 2 2 0 0 0 0 0 / 9 2 0 0 1 2 0 0", 9),
+    # an inner entry, and ends that do not fit
+    ("9 2 0 0 0 2 0 0 / 9 2 0 0 0 2 0 0", 9),
+    ("10 1 0 0 0 2 0 0 / 10 2 0 0 0 2 0 0", 9),
+    ("10 2 0 0 0 2 0 0", 9),
+    ("9 0 0 0 0 2 0 0", 9),
+    # no such kind, the kinds of parts among them
+    ("11 1 0 0 0 2 0 0", 9),
+    ("11 1 0 0 255 2 0 0", 9),
+    ("11 1 0 0 0 0 0 0", 9),
+    ("12 1 0 0 0 2 0 0", 9),
+    ("16 1 0 0 0 2 0 0", 9),
+    ("17 1 0 0 0 2 0 0", 9),
+    ("0 1 0 0 0 2 0 0", 9),
+)
+
+
 def card(columns, entries):
     """The bytes of a card for tables of these columns, with entries as they are written above."""
     fields = [[int(number) for number in entry.split()] for entry in entries.split("/")]
@@ -270,11 +414,15 @@ def card(columns, entries):
 
 # ---- comma lines
 
+DECLINED = "declined"
+MARKS = {None: 1, DECLINED: 2}  # of the cells that have no number
+
+
 def table(columns, rows):
-    """The bytes of a tables file with one table, with 0 as the value of each blank cell."""
+    """The bytes of a tables file with one table, with 0 as the value of each blank or declined cell."""
     cells = [cell for row in rows for cell in row]
-    values = b"".join(struct.pack("<i", 0 if cell is None else cell) for cell in cells)
-    return struct.pack("<BBH", 1, columns, len(rows)) + values + bytes(cell is None for cell in cells)
+    values = b"".join(struct.pack("<i", 0 if cell in MARKS else cell) for cell in cells)
+    return struct.pack("<BBH", 1, columns, len(rows)) + values + bytes(MARKS.get(cell, 0) for cell in cells)
 
 
 LOWEST, HIGHEST = -2147483648, 2147483647
@@ -298,6 +446,15 @@ IMPORTS = (
     (b",\n", 2, [[None, None]]),
     (b",5\n2,\n", 2, [[None, 5], [2, None]]),
     (b"," * 15 + b"\n", 16, [[None] * 16]),
+    # a lone ! is declined
+    (b"!", 1, [[DECLINED]]),
+    (b"!\n", 1, [[DECLINED]]),
+    (b"!\r\n", 1, [[DECLINED]]),
+    (b"!\n\n!\r\n5", 1, [[DECLINED], [None], [DECLINED], [5]]),
+    (b"!,!", 2, [[DECLINED, DECLINED]]),
+    (b",!\n!,\r\n", 2, [[None, DECLINED], [DECLINED, None]]),
+    (b"3,!,-4\n", 3, [[3, DECLINED, -4]]),
+    (b"!," * 15 + b"!", 16, [[DECLINED] * 16]),
     # numbers as in document 01
     (b"-0,007\r\n,", 2, [[0, 7], [None, None]]),
     (b"0000000001,-0000000001", 2, [[1, -1]]),
@@ -337,10 +494,41 @@ IMPORTS = (
     (b"-2147483649", 1, 14),
     (b"\xef\xbb\xbf1", 1, 14),
     (b"1\0", 1, 14),
+    # 14: a ! that is not alone in its field, or in a field too many or too few
+    (b"!1", 1, 14),
+    (b"1!", 1, 14),
+    (b"! ", 1, 14),
+    (b" !", 1, 14),
+    (b"!!", 1, 14),
+    (b"-!", 1, 14),
+    (b"!-", 1, 14),
+    (b"!-1", 1, 14),
+    (b"!0", 1, 14),
+    (b"0!", 1, 14),
+    (b'"!"', 1, 14),
+    (b"!\r", 1, 14),
+    (b"\r!", 1, 14),
+    (b"!\r\r\n", 1, 14),
+    (b"!\0", 1, 14),
+    (b"1,!2", 2, 14),
+    (b"!!,1\n", 2, 14),
+    (b"1,! \r\n", 2, 14),
+    (b"!,", 1, 14),
+    (b"!", 2, 14),
+    (b"!;!", 2, 14),
+    (b"!", 0, 14),
+    (b"!", 17, 14),
+    (b'"', 1, 14),
+    (b"#", 1, 14),
+    (b"DECLINED", 1, 14),
+    (b"\2", 1, 14),
     # 15: over 1,000 rows or 8,192 cells; 14 comes before it, wherever it stands
     (b"1\n" * 1000, 1, [[1]] * 1000),
     (b"\n" * 999 + b"1", 1, [[None]] * 999 + [[1]]),
     (b"1\n" * 1001, 1, 15),
+    (b"!\n" * 1000, 1, [[DECLINED]] * 1000),
+    (b"!\n" * 1001, 1, 15),
+    (b"!\n" * 1001 + b"!!", 1, 14),
     (b"\n" * 1001, 1, 15),
     (b"1\n" * 1000 + b"1", 1, 15),
     (b"1\n" * 1001 + b"x", 1, 14),
@@ -352,6 +540,8 @@ IMPORTS = (
     ((b"," * 8 + b"\n") * 911 + b"x", 9, 14),
     ((b"," * 15 + b"\n") * 512, 16, [[None] * 16] * 512),
     ((b"," * 15 + b"\n") * 513, 16, 15),
+    ((b"!," * 15 + b"!\r\n") * 512, 16, [[DECLINED] * 16] * 512),
+    ((b"!," * 15 + b"!\r\n") * 513, 16, 15),
 )
 
 # tables files, and the lines of their table 1 or the number of the refusal
@@ -367,17 +557,25 @@ EXPORTS = (
     (CASE_COLUMNS, b""),
     (bytes.fromhex(ONE_CELL + "01"), b"\n"),
     (bytes.fromhex("01 01 01 00 ff ff ff ff 01"), b"\n"),
+    (table(1, [[DECLINED]]), b"!\n"),
+    (table(3, [[LOWEST, DECLINED, None], [None, -1, DECLINED]]), b"-2147483648,!,\n,-1,!\n"),
+    (DECLINED_TABLES, b"1,5\n2,\n3,!\n!,0\n"),
+    (bytes.fromhex(ONE_CELL + "02"), b"!\n"),
+    (bytes.fromhex("01 01 01 00 ff ff ff ff 02"), b"!\n"),
+    (CASE_TABLES[:-1] + b"\2", b"1,5\n2,\n3,0\n"),
     (b"", 1),
     (bytes.fromhex("00"), 1),
     (bytes.fromhex(ONE_CELL), 1),
     (bytes.fromhex(ONE_CELL + "00 00"), 1),
     (bytes.fromhex("01 00 00 00"), 1),
     (bytes.fromhex("01 11 00 00"), 1),
-    (bytes.fromhex(ONE_CELL + "02"), 2),
-    (CASE_TABLES[:-1] + b"\2", 2),
+    (bytes.fromhex(ONE_CELL + "03"), 2),
+    (bytes.fromhex(ONE_CELL + "ff"), 2),
+    (CASE_TABLES[:-1] + b"\3", 2),
+    (DECLINED_TABLES[:-1] + b"\3", 2),
 )
 
-# a file, and what becomes of it there and back: table 1 alone, with 0 under each blank
+# a file, and what becomes of it there and back: table 1 alone, with 0 under each blank and declined cell
 THERE_AND_BACK = (
     (CASE_TABLES, table(2, [[1, 5], [2, None], [3, 0]])),
     (CASE_COLUMNS, table(2, [])),
@@ -385,4 +583,8 @@ THERE_AND_BACK = (
     (table(1, [[None], [7], [None]]), table(1, [[None], [7], [None]])),
     (table(16, [[LOWEST] * 16] * 512), table(16, [[LOWEST] * 16] * 512)),
     (table(1, [[None]] * 1000), table(1, [[None]] * 1000)),
+    (DECLINED_TABLES, table(2, [[1, 5], [2, None], [3, DECLINED], [DECLINED, 0]])),
+    (bytes.fromhex("01 01 01 00 ff ff ff ff 02"), table(1, [[DECLINED]])),
+    (table(1, [[DECLINED], [None], [7]]), table(1, [[DECLINED], [None], [7]])),
+    (table(16, [[DECLINED] * 16] * 512), table(16, [[DECLINED] * 16] * 512)),
 )

@@ -1,27 +1,29 @@
 """Every kind of test in every kind of place, over tables in which each cell is blank, 0 or 1: small rules, and every small file for them. Truth tests are
-tests there, and places too."""
+tests there, and places too. And tests of declined cells, over tables in which each cell is blank, declined or 0."""
 import itertools
 
 import library  # noqa: F401  (it adds the model's folder to the path)
 
 import generate
+import model
 
 CELLS = (None, 0, 1)
+DECLINED_CELLS = (None, model.DECLINED_CELL, 0)
 SIGNS = generate.SIGNS
 NOTS = ("", "NOT ", "NOT NOT ")
 
 
-def rows_of(columns, count):
-    """Every content of so many rows."""
-    for cells in itertools.product(CELLS, repeat=columns * count):
-        yield [list(cells[place:place + columns]) for place in range(0, len(cells), columns)]
+def rows_of(columns, count, cells):
+    """Every content of so many rows, of these cells."""
+    for content in itertools.product(cells, repeat=columns * count):
+        yield [list(content[place:place + columns]) for place in range(0, len(content), columns)]
 
 
-def files(columns):
-    """Files with every row that there is in table 1, and every table 2 of at most two rows of so many columns."""
-    judged = [list(pair) for pair in itertools.product(CELLS, repeat=2)]
+def files(columns, cells=CELLS):
+    """Files with every row that there is in table 1, and every table 2 of at most two rows of so many columns, all of these cells."""
+    judged = [list(pair) for pair in itertools.product(cells, repeat=2)]
     for count in range(3):
-        for rows in rows_of(columns, count):
+        for rows in rows_of(columns, count, cells):
             yield generate.tables_file([(2, judged), (columns, rows)])
 
 
@@ -82,6 +84,27 @@ def truth_rules():
             yield truth_test(nots + truth_test(test, ending), around)
         for source, around in itertools.product(SOURCES, ENDINGS):
             yield truth_test(source.format(truth_test(in_where(test), ending)), around)
+
+
+DECLINED_TESTS = ("m.1 IS DECLINED", "m.1 IS NOT DECLINED")
+# tests of a number, tests in which a declined cell is a blank one, and lists with tests of declined cells in their WHERE
+BESIDE_DECLINED = (
+    "0 IS DECLINED", "0 IS NOT DECLINED", "m.1 IS NULL", "m.1 IS NOT NULL", "m.1=m.2", "m.1<>m.2", "0<=m.1", "m.1 IN(SELECT v.1 FROM 2 v WHERE 0=0)",
+    "m.1>=ALL(SELECT v.1 FROM 2 v WHERE v.1 IS NOT DECLINED)", "m.1=SOME(SELECT v.1 FROM 2 v WHERE v.1 IS DECLINED OR v.1=0)",
+    "EXISTS(FROM 2 v WHERE v.1 IS DECLINED AND m.1 IS NOT DECLINED)")
+
+
+def declined_rules():
+    """Each test of declined cells under NOTs, beside another test, in each truth test, and as a WHERE, also of others; and other tests over declined cells."""
+    for test in DECLINED_TESTS:
+        yield from (nots + test for nots in NOTS)
+        yield from (join.format(test) for join in JOINS)
+        for ending in ENDINGS:
+            yield from (truth_test(test, ending), "NOT " + truth_test(test, ending), truth_test("NOT " + test, ending))
+        for outer, source, inner in itertools.product(NOTS[:2], SOURCES, NOTS[:2]):
+            yield outer + source.format(inner + in_where(test))
+    for test, nots in itertools.product(BESIDE_DECLINED, NOTS[:2]):
+        yield from (nots + test, f"m.2 IS DECLINED OR {nots}{test}", nots + truth_test(test, "IS UNKNOWN"))
 
 
 # ---- rules for a table 2 of two columns

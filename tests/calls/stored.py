@@ -1,5 +1,6 @@
-"""Stored answers: texts of random tokens and of random bytes, rules right and damaged, texts around 4,096 bytes, and behind them texts with truth tests, right
-and damaged; comma lines and tables files, right and damaged; with the answers that the reference model gave.
+"""Stored answers: texts of random tokens and of random bytes, rules right and damaged, texts around 4,096 bytes, behind them texts with truth tests, right
+and damaged, and behind these texts with DECLINED, right and damaged; comma lines and tables files, right and damaged, and behind them such with declined cells;
+with the answers that the reference model gave.
 
 The files are not made anew by a test; `python3 -B tests/calls/stored.py` writes them, and a change of one is to be read line by line. It keeps the stored
 texts, whatever the functions that drew them would draw now, and gives each the model's answer; where a file has fewer than are wanted, it draws the others.
@@ -17,6 +18,7 @@ import cases
 import generate
 import model
 
+DECLINED = model.DECLINED_CELL
 FILES = (
     cases.SOME_TABLES,
     generate.tables_file([(1, [])]),
@@ -24,8 +26,10 @@ FILES = (
     generate.tables_file([(2, [[1, 2]])])[:-1],
     generate.tables_file([(2, [[1, 2]])])[:-1] + b"\x02",
     generate.tables_file([(2, [[0, None], [1, 2], [None, 1], [-2, 0], [2, -2**31]]), (2, [[1, None], [None, 0], [2, 2]]), (1, [[2**31 - 1], [None]])]),
+    generate.tables_file([(2, [[1, 2]])])[:-1] + b"\x03",
+    generate.tables_file([(2, [[0, DECLINED], [1, 2], [DECLINED, None], [None, 0], [DECLINED, DECLINED]]), (2, [[1, DECLINED], [None, 0]]), (1, [[DECLINED]])]),
 )
-REFUSED_FILES = (3, 4)
+REFUSED_FILES = (3, 6)
 TRUTHS = {"T": model.TRUE, "U": model.UNKNOWN, "F": model.FALSE}
 LETTERS = {truth: letter for letter, truth in TRUTHS.items()}
 
@@ -77,22 +81,22 @@ def columns_of(number):
     return [2] if number in REFUSED_FILES else model.tables_of(FILES[number]).columns
 
 
-def with_truth_word(draw, drawn):
-    """The first of the texts drawn in which TRUE, FALSE or UNKNOWN stands."""
+def with_declined(draw, drawn):
+    """The first of the texts drawn in which DECLINED stands."""
     while True:
         text, number = drawn(draw)
-        if any(word.encode() in text for word in model.TRUTH_WORDS):
+        if b"DECLINED" in text:
             return text, number
 
 
 # ---- READ
 
 def drawn_for_reading(draw):
-    number = draw.choice([0] * 6 + [1, 2, 2, 2, 3, 4])
+    number = draw.choice([7] * 6 + [0, 1, 2, 4, 6])
     columns = columns_of(number)
     sort = draw.random()
     if sort < .2:
-        return generate.spaced(draw, generate.misplaced_truth(draw, columns)), number
+        return generate.spaced(draw, generate.misplaced_declined(draw, columns)), number
     if sort < .4:
         return generate.damaged_text(draw, columns), number
     if sort < .45:
@@ -103,8 +107,8 @@ def drawn_for_reading(draw):
 READ = Store(
     name="stored_answers.txt",
     seed=20261201,
-    size=3104,
-    drawn=lambda draw: with_truth_word(draw, drawn_for_reading),
+    size=3504,
+    drawn=lambda draw: with_declined(draw, drawn_for_reading),
     answer=lambda text, file: model.read(text, file, cases.AMPLE_ROOM),
     written=lambda parts: " ".join(str(number) for number in cases.numbers_of(parts)),
     had_back=lambda answer: tuple(int(field) for field in answer.split()),
@@ -123,7 +127,7 @@ def judged_and_made(text, file):
 
 def drawn_for_judging(draw):
     """Short texts, and few with sums near 192, since their cards are long; a rule is drawn again, a few times, while it has the same value on all rows."""
-    number = draw.choice([5] * 12 + [0] * 4 + [1, 2, 3, 4])
+    number = draw.choice([7] * 12 + [0, 4, 5, 6])
     sort = draw.random()
     if sort < .1:
         return generate.damaged_text(draw, columns_of(number)), number
@@ -146,8 +150,8 @@ def values_and_card(answer):
 RULE = Store(
     name="stored_rule_answers.txt",
     seed=20261202,
-    size=1201,
-    drawn=lambda draw: with_truth_word(draw, drawn_for_judging),
+    size=1401,
+    drawn=lambda draw: with_declined(draw, drawn_for_judging),
     answer=judged_and_made,
     written=lambda answer: "".join(LETTERS[truth] for truth in answer[0]) + " " + answer[1].hex(),
     had_back=values_and_card,
@@ -161,25 +165,26 @@ LONGEST_TABLES = 200
 
 
 def drawn_for_importing(draw):
-    """Short comma lines, and how many columns."""
+    """Short comma lines with a !, and how many columns."""
     while True:
         lines, columns = cases.drawn_lines(draw)
-        if len(lines) <= LONGEST_LINES:
+        if len(lines) <= LONGEST_LINES and b"!" in lines:
             return lines, columns
 
 
 def drawn_for_exporting(draw):
-    """A short tables file, in place of a text."""
+    """A short tables file, in place of a text: one with a declined cell in table 1, or with a mark that is too high."""
     while True:
         file = cases.drawn_export(draw).file
-        if len(file) <= LONGEST_TABLES:
+        answer = model.export_lines(file, cases.AMPLE_COMMA_ROOM)
+        if len(file) <= LONGEST_TABLES and (answer == model.Refused(2) or not isinstance(answer, model.Refused) and b"!" in answer):
             return file, 0
 
 
 IMPORT = Store(
     name="stored_import_answers.txt",
     seed=20261203,
-    size=800,
+    size=950,
     drawn=drawn_for_importing,
     answer=lambda lines, columns: model.import_lines(lines, columns, cases.AMPLE_COMMA_ROOM),
     written=bytes.hex,
@@ -190,7 +195,7 @@ IMPORT = Store(
 EXPORT = Store(
     name="stored_export_answers.txt",
     seed=20261204,
-    size=500,
+    size=600,
     drawn=drawn_for_exporting,
     answer=lambda file, _: model.export_lines(file, cases.AMPLE_COMMA_ROOM),
     written=bytes.hex,

@@ -1,9 +1,9 @@
-"""IMPORT and EXPORT as built, against answers worked out by hand from document 02, stored answers, the reference model, and Python's csv module: every byte value at every
-place of small files, sizes around every limit, every set of refusals together, buffers of every length, random draws and damage; there and back; and that every
-tables file that IMPORT gives is one that READ and LIST accept.
+"""IMPORT and EXPORT as built, against answers worked out by hand from document 02, stored answers, the reference model, and Python's csv module: every byte
+value at every place of small files, sizes around every limit, every set of refusals together, buffers of every length, random draws and damage; there and back;
+blanks in place of declined cells; and that every tables file that IMPORT gives is one that READ and LIST accept.
 
 Exit status 0 when all answers and all lent buffers agree, and every sort of answer was seen, in each group those that belong to it. The csv module judges right
-lines alone: it takes quotes, and a CR by itself for a line end. An empty line is no field to it, and one blank field here.
+lines alone: it takes quotes, and a CR by itself for a line end. An empty line is no field to it, and one blank field here; a ! is a field like any other to it.
 """
 import collections
 import csv
@@ -38,27 +38,40 @@ WANTED = import_sorts(*cases.REFUSALS_OF["IMPORT"]) | export_sorts(*cases.REFUSA
 
 # ---- the tables files that are given
 
-def rows_of(file):
-    """The rows of a tables file with one table, which is laid out as document 01 says and has 0 under each blank."""
+CELLS_BY_MARK = {1: None, 2: model.DECLINED_CELL}  # of the cells that have no number
+
+
+def laid_out(file):
+    """The columns, values and marks of a tables file with one table, which is laid out as document 01 says and has 0 under each blank and declined cell."""
     tables, columns, count = struct.unpack_from("<BBH", file)
     cells = columns * count
     compare.same("tables of an imported file, whether it may have its columns, and length", (tables, 1 <= columns <= 16, len(file)), (1, True, 4 + 5 * cells))
     values, marks = struct.unpack_from(f"<{cells}i", file, 4), file[4 + 4 * cells:]
-    if any(mark > 1 or mark == 1 and value != 0 for value, mark in zip(values, marks)):
-        raise compare.Disagreement(f"an imported file has a mark above 1, or no 0 under a blank: {compare.shown(file.hex())}")
-    row = [None if mark else value for value, mark in zip(values, marks)]
-    return [row[place:place + columns] for place in range(0, cells, columns)]
+    if any(mark > 2 or mark != 0 and value != 0 for value, mark in zip(values, marks)):
+        raise compare.Disagreement(f"an imported file has a mark above 2, or no 0 under a blank or declined cell: {compare.shown(file.hex())}")
+    return columns, values, marks
 
 
-def last_is_blank(columns):
-    """A rule that is true where the last of so many columns is blank."""
-    return f"m.{columns} IS NULL".encode()
+def rows_of(file):
+    """The rows of such a file."""
+    columns, values, marks = laid_out(file)
+    cells = [CELLS_BY_MARK[mark] if mark else value for value, mark in zip(values, marks)]
+    return [cells[place:place + columns] for place in range(0, len(cells), columns)]
+
+
+NULL, DECLINED = "NULL", "DECLINED"
+KINDS = {NULL: 5, DECLINED: 16}  # of the parts
+
+
+def last_is(columns, word):
+    """A rule that is true where the last of so many columns is blank, or declined."""
+    return f"m.{columns} IS {word}".encode()
 
 
 @functools.cache
-def card_for(columns):
+def card_for(columns, word):
     """The card of that rule."""
-    return model.card(last_is_blank(columns), generate.tables_file([(columns, [])]), cases.AMPLE_ROOM)
+    return model.card(last_is(columns, word), generate.tables_file([(columns, [])]), cases.AMPLE_ROOM)
 
 
 class AllCalls:
@@ -68,11 +81,16 @@ class AllCalls:
         self.lines, self.rules, self.gate = library.Lines(whole), library.Rules(whole), library.Gate(whole)
 
     def accepted(self, file, columns):
-        """READ accepts a file, and LIST names the rows in which the last of so many columns is blank."""
-        blank = tuple(number for number, row in enumerate(rows_of(file)) if row[-1] is None)
-        part = model.Part(5, 0, 0, 1, model.TaggedValue(0, columns), model.TaggedValue(0, 0))
-        compare.same(("READ", file.hex()), self.rules.read(last_is_blank(columns), file, cases.lent("READ", 1)), (1, (part,)))
-        compare.same(("LIST", file.hex()), self.gate.list_rows(card_for(columns), file, (UNTOUCHED,) * len(blank)), (len(blank), blank))
+        """READ accepts a file, and LIST names the rows in which the last of so many columns is blank, as a declined cell is too, and those in which it is
+        declined."""
+        last = laid_out(file)[2][columns - 1::columns]
+        declined = tuple(number for number, mark in enumerate(last) if mark == 2)
+        blank = tuple(number for number, mark in enumerate(last) if mark != 0)
+        word = DECLINED if declined else NULL
+        part = model.Part(KINDS[word], 0, 0, 1, model.TaggedValue(0, columns), model.TaggedValue(0, 0))
+        compare.same(("READ", file.hex()), self.rules.read(last_is(columns, word), file, cases.lent("READ", 1)), (1, (part,)))
+        for word, wanted in ((NULL, blank), (DECLINED, declined)):
+            compare.same(("LIST", word, file.hex()), self.gate.list_rows(card_for(columns, word), file, (UNTOUCHED,) * len(wanted)), (len(wanted), wanted))
 
     def imported(self, lines, columns, buffer):
         """IMPORT's answer, and the buffer afterwards."""
@@ -169,9 +187,9 @@ def check_stored(calls):
 
 SMALL_LINES = (
     (b"", 1), (b"7", 1), (b"\n", 1), (b"-1\r\n\n30", 1), (b"1,-20\r\n,3\n", 2), (b"0,\n,-0", 2), (b",,\r\n1,,2", 3), (b"2147483647\n-2147483648\r\n", 1),
-    (b"0000000001\r\n", 1), (b"," * 15, 16))
+    (b"0000000001\r\n", 1), (b"," * 15, 16), (b"!", 1), (b"!,\r\n,!", 2))
 SMALL_FILES = tuple(generate.tables_file(tables) for tables in (
-    [(1, [])], [(1, [[7]])], [(2, [[1, None], [-20, 0]]), (1, [[3]])], [(1, [[2**31 - 1], [-2**31]])]))
+    [(1, [])], [(1, [[7]])], [(2, [[-20, None], [model.DECLINED_CELL, 0]]), (1, [[3]])], [(1, [[2**31 - 1], [-2**31]])]))
 
 
 def changed_lines():
@@ -183,7 +201,7 @@ def changed_lines():
 
 def changed_pairs():
     """Every pair of bytes that matter in lines, of which some together are one line end, in place of a field, at the start and at the end."""
-    for first, second in itertools.product(b"\r\n,-+ 019\x00.\"", repeat=2):
+    for first, second in itertools.product(b"\r\n,-!+ 019\x00.\"", repeat=2):
         pair = bytes([first, second])
         for lines, columns in ((pair, 1), (pair, 2), (b"1" + pair, 1), (pair + b"1", 1), (b"1," + pair, 2), (pair + b",1\n", 2), (b"1\n" + pair + b"\n2", 1)):
             yield cases.importing(lines, columns)
@@ -213,7 +231,7 @@ def row_count_of(draw, number, columns):
 def size_cases():
     """As many rows as there may be, one fewer and one more, for each number of columns, with each line end and with none behind the last line."""
     for columns in range(1, 17):
-        line = b",".join([b"-7"] + [b""] * (columns - 1))
+        line = b",".join(([b"-7"] + [b"", b"!"] * 8)[:columns])
         for rows, end in itertools.product(range(most_rows(columns) - 1, most_rows(columns) + 2), (b"\n", b"\r\n")):
             sort = "refused 15" if rows > most_rows(columns) else "given"
             for lines in ((line + end) * rows, (line + end) * (rows - 1) + line):
@@ -232,10 +250,10 @@ def file_size_cases():
 
 def room_cases():
     """Buffers of each length around the needed one, each byte of which is another."""
-    for lines, columns in ((b"", 1), (b"1", 1), (b"1,\n,-2", 2), (b"+1", 1), (b"\n" * 1001, 1)):
+    for lines, columns in ((b"", 1), (b"1", 1), (b"1,\n,-2", 2), (b"!\n\n!", 1), (b"+1", 1), (b"\n" * 1001, 1)):
         for room in range(cases.answer_length("IMPORT", lines, b"", columns) + 4):
             yield cases.Case("IMPORT", lines, buffer=different_bytes(room), columns=columns)
-    for file in SMALL_FILES + (paper.CASE_TABLES, b"\0", SMALL_FILES[1][:-1] + b"\2"):
+    for file in SMALL_FILES + (paper.CASE_TABLES, paper.DECLINED_TABLES, b"\0", SMALL_FILES[1][:-1] + b"\2", SMALL_FILES[1][:-1] + b"\3"):
         for room in range(cases.answer_length("EXPORT", b"", file) + 4):
             yield cases.Case("EXPORT", b"", file, buffer=different_bytes(room))
 
@@ -250,7 +268,7 @@ def refusal_cases():
 
 def targeted_cases():
     """The model's own targeted ones."""
-    return cases.comma_cases()
+    return itertools.chain(cases.comma_cases(), compare.declined_cases("IMPORT", "EXPORT"))
 
 
 def drawn_cases():
@@ -273,11 +291,12 @@ def damaged_draws():
 
 
 def damaged_tables():
-    """Lines of drawn tables of any size, and the same with one change."""
+    """Lines of drawn tables of any size, every twentieth with rows too many, and the same with one change."""
     draw = random.Random(SEED)
-    for _ in range(DRAWS_OF_DAMAGED_TABLES):
+    for number in range(DRAWS_OF_DAMAGED_TABLES):
         columns = draw.randint(1, 16)
-        lines = generate.comma_lines(draw, generate.random_rows(draw, columns, draw.randint(0, most_rows(columns) + 9)))
+        rows = most_rows(columns) + draw.randint(1, 9) if number % 20 == 0 else draw.randint(0, most_rows(columns))
+        lines = generate.comma_lines(draw, generate.random_rows(draw, columns, rows))
         yield cases.importing(lines, columns)
         yield cases.importing(generate.damaged_lines(draw, lines), columns)
 
@@ -300,7 +319,7 @@ GROUPS = (
 # ---- the csv module
 
 # LF after each line, and numbers without spare zeros
-WRITTEN = re.compile(rb"(?:{0}(?:,{0})*\n)*".replace(b"{0}", rb"(?:0|-?[1-9][0-9]*)?"))
+WRITTEN = re.compile(rb"(?:{0}(?:,{0})*\n)*".replace(b"{0}", rb"(?:0|-?[1-9][0-9]*|!)?"))
 # what has to occur among the lines that the csv module reads
 CSV_SORTS = {
     "LF": lambda lines, columns, rows: b"\n" in lines,
@@ -308,6 +327,8 @@ CSV_SORTS = {
     "no last line end": lambda lines, columns, rows: rows and not lines.endswith(b"\n"),
     "no rows": lambda lines, columns, rows: not rows,
     "an empty line": lambda lines, columns, rows: columns == 1 and [None] in rows,
+    "a line of one !": lambda lines, columns, rows: columns == 1 and [model.DECLINED_CELL] in rows,
+    "a blank beside a declined cell": lambda lines, columns, rows: any(None in row and model.DECLINED_CELL in row for row in rows),
     "a full table": lambda lines, columns, rows: len(rows) == most_rows(columns),
 }
 
@@ -315,7 +336,8 @@ CSV_SORTS = {
 def rows_by_csv(lines):
     """The rows of right lines, as the csv module reads them; an empty line, to which it gives no field, has one blank."""
     rows = csv.reader(io.StringIO(lines.decode("ascii"), newline=""), quoting=csv.QUOTE_NONE, strict=True)
-    return [[int(field) if field else None for field in row] or [None] for row in rows]
+    no_numbers = {"": None, "!": model.DECLINED_CELL}
+    return [[no_numbers[field] if field in no_numbers else int(field) for field in row] or [None] for row in rows]
 
 
 def check_csv(calls):
@@ -339,17 +361,6 @@ def check_csv(calls):
 
 # ---- there and back
 
-def with_other_values(draw, file):
-    """A tables file with any bytes under its blanks."""
-    tables = bytearray(file)
-    cells = sum(columns * rows for columns, rows in struct.iter_unpack("<BH", file[1:1 + 3 * file[0]]))
-    values = 1 + 3 * file[0]
-    for cell in range(cells):
-        if tables[values + 4 * cells + cell] == 1:
-            tables[values + 4 * cell:values + 4 * cell + 4] = draw.randbytes(4)
-    return bytes(tables)
-
-
 def drawn_file(draw, number):
     """A right tables file, of one table or several."""
     if number % 4 == 1:
@@ -360,7 +371,7 @@ def drawn_file(draw, number):
 
 
 def first_table(file):
-    """Table 1 of a file alone, with 0 under each blank: its columns and rows are the first in the file, and so are its values and marks."""
+    """Table 1 of a file alone, with 0 under each blank and declined cell: its columns and rows are the first in the file, and so are its values and marks."""
     tables, columns, rows = struct.unpack_from("<BBH", file)
     values, cells = 1 + 3 * tables, columns * rows
     marks = (len(file) - values) // 5 * 4 + values
@@ -369,12 +380,13 @@ def first_table(file):
 
 
 def check_there_and_back(calls):
-    """What is exported is imported as table 1 with 0 under each blank, and exported again as the same lines; no bytes under a blank show."""
+    """What is exported is imported as table 1 with 0 under each blank and declined cell, and exported again as the same lines; no bytes under such cells show.
+    In every third file, where blanks stand in place of declined cells, empty fields stand in place of each !, and the other way round."""
     draw = random.Random(SEED)
     seen = collections.Counter()
     for number in range(DRAWS_THERE_AND_BACK):
         plain = drawn_file(draw, number)
-        file = with_other_values(draw, plain)
+        file = generate.with_other_values(draw, plain)
         lines = calls.lines_of(file)
         back = calls.file_of(lines, file[1])
         compare.same((file.hex(), "there and back"), back, first_table(file))
@@ -382,7 +394,12 @@ def check_there_and_back(calls):
         seen["several tables", file[0] > 1] += 1
         seen["bytes under blanks", file != plain] += 1
         seen["rows", len(back) > 4] += 1
-    compare.agreed("there and back", seen, {sort: (True, False) for sort in ("several tables", "bytes under blanks", "rows")})
+        if number % 3 == 0:
+            without_declined = lines.replace(b"!", b"")
+            compare.same((file.hex(), "blanks in place of declined cells"), calls.lines_of(variants.with_blanks_for_declined(file)), without_declined)
+            compare.same((lines, "without !"), calls.file_of(without_declined, file[1]), variants.with_blanks_for_declined(back))
+            seen["declined cells", without_declined != lines] += 1
+    compare.agreed("there and back", seen, {sort: (True, False) for sort in ("several tables", "bytes under blanks", "declined cells", "rows")})
 
 
 def check_all(calls):

@@ -34,8 +34,10 @@ MEGABYTE = 1 << 20
 OUTPUTS = pathlib.Path(__file__).with_name("program_outputs.txt")
 TABLES_BY_NAME = {
     "cases": paper.CASE_TABLES,
+    "declined": paper.DECLINED_TABLES,
     "single byte 00": bytes.fromhex("00"),
     "mark 02": bytes.fromhex("01 01 01 00 00 00 00 00 02"),
+    "mark 03": bytes.fromhex("01 01 01 00 00 00 00 00 03"),
     "no rows": paper.ONE_COLUMN,
 }
 RULE = b"m.2 > 0"
@@ -113,11 +115,11 @@ def written_outputs():
 
 
 def check_written(program):
-    """The outputs that are written by hand; the proved cases and the truth tests are the first of them, and the model agrees."""
+    """The outputs that are written by hand; the proved cases, the truth tests and the tests of declined cells are the first of them, and the model agrees."""
     runs = Runs(program)
     outputs = list(written_outputs())
-    worked = paper.CASES + paper.TRUTH_CASES
-    compare.same("the first outputs", [(text, file) for text, file, _ in outputs[:len(worked)]], [(case.text, paper.CASE_TABLES) for case in worked])
+    worked = [(case.text, file) for case, file in paper.WORKED]
+    compare.same("the first outputs", [(text, file) for text, file, _ in outputs[:len(worked)]], worked)
     for text, file, output in outputs:
         compare.same((text, "by the model"), printed(text, file), output)
         runs.prints(text, output, rule=text, tables=file)
@@ -167,7 +169,8 @@ def check_missing(program):
     runs.prints("no files", REFUSED[1])
     runs.prints("no tables", REFUSED[1], rule=RULE)
     runs.prints("no rule", REFUSED[6], tables=paper.CASE_TABLES)
-    runs.prints("no rule, and a mark too high", REFUSED[2], tables=TABLES_BY_NAME["mark 02"])
+    runs.prints("no rule, and a mark too high", REFUSED[2], tables=TABLES_BY_NAME["mark 03"])
+    runs.prints("no rule, and a declined cell", REFUSED[6], tables=TABLES_BY_NAME["mark 02"])
     for what, content in COUNTED_AS_EMPTY.items():
         runs.prints(f"rule.txt is {what}", REFUSED[6], rule=content, tables=paper.CASE_TABLES)
         runs.prints(f"tables.bin is {what}", REFUSED[1], rule=RULE, tables=content)
@@ -190,7 +193,7 @@ def check_text_lengths(program):
             for more in (b" ", b"\n", b"@", b" " * MEGABYTE, b"@" * MEGABYTE, b" " + b"@" * MEGABYTE, b"\n" + b" OR 1 = 1" * (MEGABYTE // 9)):
                 runs.prints("more than 4,096 bytes", REFUSED[3], rule=text + more, tables=paper.CASE_TABLES)
     runs.prints("no rule at 4,096 bytes", REFUSED[4], rule=RULE + b" " * (model.MOST_TEXT_BYTES - len(RULE) - 1) + b"@", tables=paper.CASE_TABLES)
-    runs.prints("a long text, and a mark too high", REFUSED[2], rule=b" " * MEGABYTE, tables=TABLES_BY_NAME["mark 02"])
+    runs.prints("a long text, and a mark too high", REFUSED[2], rule=b" " * MEGABYTE, tables=TABLES_BY_NAME["mark 03"])
     runs.prints("a long text, and no tables", REFUSED[1], rule=b" " * MEGABYTE)
     runs.prints("an endless text", REFUSED[3], rule=linked_to("/dev/zero"), tables=paper.CASE_TABLES)
     runs.end("lengths of texts", 1, 2, 3, 4)
@@ -213,7 +216,10 @@ def check_tables_lengths(program):
     runs.prints("all rows", "rows 1000 of 1000\n" + all_rows(0, 1000), rule=b"EXISTS (FROM 8 v WHERE v.16 = 8191)", tables=largest)
     runs.prints("no row", "rows 0 of 1000\n", rule=b"m.8 IS NULL", tables=largest)
     runs.prints("the last row", "rows 1 of 1000\n999\n", rule=b"m.8 = 7999", tables=largest)
-    runs.prints("the last mark", REFUSED[2], rule=RULE, tables=largest[:-1] + b"\x02")
+    runs.prints("the last mark", REFUSED[2], rule=RULE, tables=largest[:-1] + b"\x03")
+    declined = b"EXISTS (FROM 8 v WHERE v.16 IS DECLINED)"
+    runs.prints("a declined cell, the last", "rows 1000 of 1000\n" + all_rows(0, 1000), rule=declined, tables=largest[:-1] + b"\x02")
+    runs.prints("no declined cell", "rows 0 of 1000\n", rule=declined, tables=largest)
     for file in (largest, paper.CASE_TABLES, paper.ONE_COLUMN):
         for more in (b"\0", b"\1", b"\2", bytes(MEGABYTE), b"\1" * MEGABYTE, file):
             runs.prints("tables with more behind", REFUSED[1], rule=RULE, tables=file + more)

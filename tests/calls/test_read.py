@@ -1,6 +1,6 @@
 """READ as built, against answers worked out by hand from documents 01 and 02, stored answers, and the reference model: both sides of every limit, sums of
-entries around theirs, every token next to every token, truth tests out of place, every set of refusals together, every byte value in small rules, lists of
-every length, and random draws.
+entries around theirs, every token next to every token, truth tests and tests of declined cells out of place, every set of refusals together, every byte value
+in small rules, lists of every length, and random draws.
 
 Exit status 0 when all answers and all lent lists agree, and every sort of answer was seen, in each group those that belong to it.
 """
@@ -25,6 +25,7 @@ SPACED_RULES = 150
 LONG_TEXTS = 150
 SUMMED_RULES = 600
 MISPLACED_TRUTHS = 1500
+MISPLACED_DECLINED = 700
 ROOM = 70
 TABLES = cases.SOME_TABLES
 
@@ -86,6 +87,7 @@ def limit_cases():
     for case in itertools.chain.from_iterable(group() for group in few):
         if case.call == "READ":
             yield case
+    yield from compare.declined_cases("READ")
 
 
 def sum_cases():
@@ -141,7 +143,7 @@ def damaged_files():
 EVERY_TOKEN = tuple(model.WORDS) + tuple(model.COMPARISONS) + ("(", ")", ".", "a", "m", "z", "0", "1", "-1", "2147483647", "-2147483648", "0000000001")
 AROUND = (
     "{}", "1=1 AND {}", "{} OR 1=1", "NOT {}=1", "m.1 {} 1", "m{}1 = 1", "1 IN(SELECT {} FROM 1 v WHERE 1=1)",
-    "(1=1){}", "(1=1) IS {}", "(1=1) IS TRUE {}", "m.1 {}", "EXISTS(FROM 1 v WHERE 1=1) {}")
+    "(1=1){}", "(1=1) IS {}", "(1=1) IS TRUE {}", "m.1 {}", "m.1 IS {}", "EXISTS(FROM 1 v WHERE 1=1) {}")
 
 
 def token_pairs():
@@ -163,20 +165,30 @@ def spaced_rules():
             yield read_case("".join(tokens[:place]).encode())
 
 
+def misplaced(drawn, count):
+    """Texts with a fault in the grammar, which `drawn` gives as tokens."""
+    draw = random.Random(SEED)
+    for _ in range(count):
+        file = generate.random_tables(draw)
+        text = generate.spaced(draw, drawn(draw, model.tables_of(file).columns))
+        yield compare.Stated(cases.fitting("READ", text, file), "refused 6")
+
+
 def misplaced_truths():
     """Truth tests behind something else than a bracketed condition, or not written as they are."""
-    draw = random.Random(SEED)
-    for _ in range(MISPLACED_TRUTHS):
-        file = generate.random_tables(draw)
-        text = generate.spaced(draw, generate.misplaced_truth(draw, model.tables_of(file).columns))
-        yield compare.Stated(cases.fitting("READ", text, file), "refused 6")
+    return misplaced(generate.misplaced_truth, MISPLACED_TRUTHS)
+
+
+def misplaced_declined():
+    """Tests of declined cells behind something else than a value, or not written as they are."""
+    return misplaced(generate.misplaced_declined, MISPLACED_DECLINED)
 
 
 # ---- damage
 
 SMALL_RULES = (
     b"m.2 < -5", b"NOT m.1 IS NOT NULL", b"1<>m.1 OR 2>=2", b"m.1 NOT IN(SELECT v.1 FROM 2 v WHERE m.1=v.1)", b"EXISTS(FROM 3 m WHERE m.3<=1)AND 1=1",
-    b"(m.1=1) IS NOT UNKNOWN", b"NOT((1=1)IS FALSE)IS TRUE")
+    b"(m.1=1) IS NOT UNKNOWN", b"NOT((1=1)IS FALSE)IS TRUE", b"m.1IS DECLINED")
 
 
 def damaged_rules():
@@ -219,6 +231,7 @@ GROUPS = (
     (token_pairs, read_sorts(4, 6, 8)),
     (spaced_rules, read_sorts(4, 6)),
     (misplaced_truths, {"READ": compare.refusal_sorts(6)}),
+    (misplaced_declined, {"READ": compare.refusal_sorts(6)}),
     (damaged_rules, read_sorts(4, 6, 8)),
     (long_texts, read_sorts(3, 4, 6, 7, 8)),
     (refusal_cases, WANTED),
@@ -231,7 +244,8 @@ GROUPS = (
 def check_rooms(reader):
     """Lists with room for every number of parts around what is needed."""
     texts = (b"1=1", b"NOT m.1=m.2", b" OR ".join([b"m.1<>-1"] * 32), b"m.1 = SOME (SELECT m.1 FROM 2 m WHERE m.1 = 1)", b"k.1=1", b"1=",
-             b"NOT (m.1=1 OR (m.2 IS NULL) IS NOT TRUE) IS FALSE", b"NOT " * 62 + b"(1=1)IS UNKNOWN", paper.SUM_192, paper.within_unknowns(7))
+             b"NOT (m.1=1 OR (m.2 IS NULL) IS NOT TRUE) IS FALSE", b"NOT " * 62 + b"(1=1)IS UNKNOWN", paper.SUM_192, paper.within_unknowns(7),
+             b"NOT m.2 IS NOT DECLINED AND 1 IS DECLINED")
     seen = collections.Counter()
     for text in texts:
         parts = model.read(text, TABLES, cases.AMPLE_ROOM)

@@ -1,7 +1,8 @@
 """JUDGE and CARD as built, against answers worked out by hand from documents 01 and 02, stored answers, and the reference model: both sides of every limit,
 sums of entries around theirs, buffers of every length, numbers at their ends, levels and letters, every set of refusals together, damaged texts and tables,
-random draws. AND, OR and NOT of drawn conditions, against arithmetic on the numbers that JUDGE gives these. And what demand 3 compares, from end to end: the
-cards that CARD makes, checked, run and listed as built with later tables, against the model's values of the rule.
+random draws. AND, OR and NOT of drawn conditions, against arithmetic on the numbers that JUDGE gives these. That no answer shows the values of blank and
+declined cells, and none to a rule without tests of declined cells shows which of the two a cell is. And what demand 3 compares, from end to end: the cards
+that CARD makes, checked, run and listed as built with later tables, against the model's values of the rule.
 
 Exit status 0 when all answers and all lent buffers agree, and every sort of answer was seen, in each group those that belong to it.
 """
@@ -27,6 +28,7 @@ DRAWS_OF_EACH_CALL = 5000
 DRAWS_OF_EACH_TRUTH = 300
 SUMMED_RULES = 400
 ARITHMETIC_PAIRS = 1200
+MARKED_RULES = 300
 LATER_RULES = 1200
 LATER_SUMMED_RULES = 100
 LATER_FILES = 3
@@ -89,16 +91,18 @@ class Written:
 
 
 def check_paper(rules):
-    """The proved cases, the truth tests, the worked cards, other cards, and the examples of the refusal table, as they are worked out by hand."""
+    """The proved cases, the truth tests, the tests of declined cells, the worked cards, other cards, and the examples of the refusal table, as they are worked
+    out by hand."""
     written = Written(rules)
-    for case in paper.CASES + paper.TRUTH_CASES:
+    for case, file in paper.WORKED:
         for row, letter in enumerate(case.values):
-            written.judge(case.text, paper.CASE_TABLES, row, stored.TRUTHS[letter])
-        written.judge(case.text, paper.CASE_TABLES, 3, model.Refused(11))
+            written.judge(case.text, file, row, stored.TRUTHS[letter])
+        written.judge(case.text, file, len(case.values), model.Refused(11))
     for text, entries in paper.CARDS:
-        for file in (paper.CASE_TABLES, paper.CASE_COLUMNS):
+        for file in (paper.CASE_TABLES, paper.CASE_COLUMNS, paper.DECLINED_TABLES):
             written.card(text, file, 100 + len(text), paper.card([2, 1, 1], entries))
-    for text, sheet, length in ((paper.WORKED_TEXT, paper.WORKED_CARD, 19), (paper.UNKNOWN_TEXT, paper.UNKNOWN_CARD, 49)):
+    worked = ((paper.WORKED_TEXT, paper.WORKED_CARD, 19), (paper.DECLINED_TEXT, paper.DECLINED_CARD, 19), (paper.UNKNOWN_TEXT, paper.UNKNOWN_CARD, 49))
+    for text, sheet, length in worked:
         for room, wanted in ((0, model.Refused(12)), (length - 1, model.Refused(12)), (length, sheet), (length + 2, sheet)):
             written.card(text, paper.THREE_COLUMNS, room, wanted)
     for text, file, answer in paper.REFUSALS:
@@ -139,6 +143,7 @@ def limit_cases():
            cases.table_limit_cases)
     for case in itertools.chain.from_iterable(group() for group in few):
         yield from both_calls(case.source, case.file, case.row)
+    yield from compare.declined_cases("JUDGE", "CARD")
 
 
 def sum_cases():
@@ -170,11 +175,11 @@ def size_cases():
 
 
 def row_cases():
-    """Row numbers in tables of several lengths, around and beyond them; the last row is blank, 0 or 1, so that no other row can stand in for it."""
-    for rows, last in itertools.product((0, 1, 2, 3, 255, 256, 257, 1000), (None, 0, 1)):
+    """Row numbers in tables of several lengths, around and beyond them; the last row is blank, declined, 0 or 1, so that no other row can stand in for it."""
+    for rows, last in itertools.product((0, 1, 2, 3, 255, 256, 257, 1000), (None, model.DECLINED_CELL, 0, 1)):
         file = generate.tables_file([(1, [[number % 7] for number in range(1, rows)] + [[last]] * (rows > 0))])
         for row in itertools.chain(range(min(rows, 10)), variants.row_numbers(rows)):
-            yield cases.Case("JUDGE", b"m.1>0", file, row=row)
+            yield cases.Case("JUDGE", b"m.1 IS DECLINED" if last == model.DECLINED_CELL else b"m.1>0", file, row=row)
 
 
 def cell_cases():
@@ -193,9 +198,24 @@ def cell_cases():
         yield compare.Stated(cases.Case("JUDGE", f"m.{column}={cell}".encode(), file, row=row), sort)
 
 
+def mark_cases():
+    """Each cell of eight tables is declined in turn: it is found in its own column, and in none beside it."""
+    rows, first = 2, 0
+    sizes = [(columns, rows) for columns in variants.COLUMNS]
+    plain = cases.numbered_tables(sizes)
+    for table, columns in enumerate(variants.COLUMNS, 1):
+        for cell in range(columns * rows):
+            place = generate.marks_at(plain) + first + cell
+            file = plain[:place] + bytes([model.MARK_DECLINED]) + plain[place + 1:]
+            for column in range(max(1, cell % columns), min(columns, cell % columns + 2) + 1):
+                sort = f"given {model.TRUE if column == cell % columns + 1 else model.FALSE}"
+                yield compare.Stated(cases.Case("JUDGE", f"EXISTS(FROM {table} v WHERE v.{column} IS DECLINED)".encode(), file), sort)
+        first += columns * rows
+
+
 def end_cases():
-    """Each comparison of two numbers from the ends of their range or blank, as cells and as constants."""
-    cells = variants.ENDS + (None,)
+    """Each comparison of two numbers from the ends of their range, blank or declined, as cells and as constants."""
+    cells = variants.ENDS + (None, model.DECLINED_CELL)
     file = generate.tables_file([(2, [[left, right] for left in cells for right in cells])])
     for sign in generate.SIGNS:
         for row in range(len(cells) ** 2):
@@ -234,7 +254,8 @@ MOST_ENTRIES = paper.within_exists(paper.within_unknowns(6, b"EXISTS(FROM 2 w WH
 ROOM_TEXTS = (
     paper.WORKED_TEXT, b"m.1 IS NULL OR NOT m.2<>-1", paper.CASES[11].text, b"NOT EXISTS(FROM 2 v WHERE v.1<=ALL(SELECT w.1 FROM 3 w WHERE w.3 IS NULL))",
     b"NOT " * 63 + b"1=1", largest_text(12).encode(), LARGEST,
-    b"(m.2>0)IS UNKNOWN", b"NOT(NOT m.1=1 OR(m.2=1)IS NOT UNKNOWN)IS FALSE", b"m.1 NOT IN(SELECT v.1 FROM 2 v WHERE(v.1<m.2)IS NOT TRUE)", MOST_ENTRIES)
+    b"(m.2>0)IS UNKNOWN", b"NOT(NOT m.1=1 OR(m.2=1)IS NOT UNKNOWN)IS FALSE", b"m.1 NOT IN(SELECT v.1 FROM 2 v WHERE(v.1<m.2)IS NOT TRUE)",
+    b"NOT m.2 IS DECLINED OR 1 IS DECLINED", MOST_ENTRIES)
 
 
 def check_rooms(rules):
@@ -278,11 +299,12 @@ def level_texts():
         yield f"EXISTS(FROM 2 {first} WHERE {left}.1<=ALL(SELECT {selected}.1 FROM 3 {second} WHERE {inside}.1<>1))"
         yield f"NOT {left}.1 IN(SELECT {selected}.1 FROM 2 {first} WHERE EXISTS(FROM 1 {second} WHERE {inside}.1=1))"
         yield f"({left}.1>=ALL(SELECT {selected}.1 FROM 2 {first} WHERE ({inside}.1=1)IS NOT TRUE))IS UNKNOWN OR ({left}.1=1)IS FALSE"
+        yield f"EXISTS(FROM 3 {first} WHERE {left}.1 IS DECLINED AND {selected}.1 NOT IN(SELECT 1 FROM 2 {second} WHERE NOT {inside}.1 IS NOT DECLINED))"
 
 
 def level_cases():
-    """These texts, on each row of tables with a blank in every column."""
-    file = generate.tables_file([(2, [[1, None], [-2, 2], [None, 0]]), (1, [[1], [None], [-2]]), (1, [[2], [-2], [None]])])
+    """These texts, on each row of tables with a blank or declined cell in every column."""
+    file = generate.tables_file([(2, [[1, None], [-2, 2], [model.DECLINED_CELL, 0]]), (1, [[1], [None], [-2]]), (1, [[2], [-2], [model.DECLINED_CELL]])])
     for text in level_texts():
         for row in range(3):
             yield cases.Case("JUDGE", text.encode(), file, row=row)
@@ -300,9 +322,11 @@ def damaged_cases():
         yield from both_calls(text, SMALL_FILE)
     for text in variants.damaged_texts(b"1<>ALL(SELECT 1FROM 1v WHERE v.1=1)"):
         yield cases.fitting("CARD", text, SMALL_FILE)
+    for text in variants.damaged_texts(b"1IS DECLINED"):
+        yield cases.fitting("CARD", text, SMALL_FILE)
     for file in itertools.chain(variants.each_byte(SMALL_FILE), variants.each_length(SMALL_FILE)):
         yield from both_calls(b"m.2>m.1", file)
-        yield cases.Case("JUDGE", b"m.1=1", file)
+        yield cases.Case("JUDGE", b"m.1=1 OR m.2 IS DECLINED", file)
 
 
 def refusal_cases():
@@ -326,6 +350,7 @@ GROUPS = (
     (size_cases, {"JUDGE": ("given true", "given false") + compare.refusal_sorts(1, 2, 11), "CARD": compare.given_sorts(1, 2)}),
     (row_cases, {"JUDGE": judge_sorts(11)}),
     (cell_cases, {"JUDGE": ("given true", "given false")}),
+    (mark_cases, {"JUDGE": ("given true", "given false")}),
     (end_cases, both_sorts()),
     (large_rules, both_sorts(5, 7)),
     (level_cases, both_sorts(8)),
@@ -348,10 +373,12 @@ RUN_WANTED = {"RUN": ("given True", "given False", "refused 11")}
 
 
 def check_small(rules, gate):
-    """Every kind of test in every kind of place, truth tests among the tests and among the places, on every small file."""
+    """Every kind of test in every kind of place, truth tests among the tests and among the places, on every small file; and tests of declined cells, on every
+    small file with such cells."""
     seen = collections.Counter()
-    for texts, columns in ((small.rules(), 1), (small.truth_rules(), 1), (small.list_rules(), 2)):
-        files = [(file, model.tables_of(file)) for file in small.files(columns)]
+    plain = itertools.product(((small.rules(), 1), (small.truth_rules(), 1), (small.list_rules(), 2)), (small.CELLS,))
+    for (texts, columns), cells in itertools.chain(plain, [((small.declined_rules(), 1), small.DECLINED_CELLS)]):
+        files = [(file, model.tables_of(file)) for file in small.files(columns, cells)]
         for text in texts:
             rule = end_to_end.Rule(rules, gate, text.encode(), files[0][0])
             for file, tables in files:
@@ -362,12 +389,21 @@ def check_small(rules, gate):
     compare.agreed("small rules and files", seen, GATE_WANTED)
 
 
-def accepted_rule(draw, file, sizes):
-    """A drawn rule that is accepted with a tables file."""
+def drawn_rule(draw, file, sizes, declined=.4):
+    """A drawn rule for a tables file; so many of its tests of a value are with DECLINED and not with NULL."""
+    maker = generate.RuleMaker(draw, model.tables_of(file).columns, truths=draw.choice([0, .1, .3]), declined=declined)
+    return generate.spaced(draw, maker.rule(draw.choice(sizes)))
+
+
+def is_accepted(text, file):
+    return not isinstance(model.read(text, file, cases.AMPLE_ROOM), model.Refused)
+
+
+def accepted_rule(draw, file, sizes, declined=.4):
+    """The same that is accepted."""
     while True:
-        maker = generate.RuleMaker(draw, model.tables_of(file).columns, truths=draw.choice([0, .1, .3]))
-        text = generate.spaced(draw, maker.rule(draw.choice(sizes)))
-        if not isinstance(model.read(text, file, cases.AMPLE_ROOM), model.Refused):
+        text = drawn_rule(draw, file, sizes, declined)
+        if is_accepted(text, file):
             return text
 
 
@@ -409,12 +445,20 @@ def arithmetic(rules, left, right, file, row):
     yield "OR", (a, b), max(a, b), judged(b"(%(left)b)OR(%(right)b)")
 
 
+def accepted_pair(draw, file):
+    """Two drawn conditions that are accepted with a tables file, also joined."""
+    while True:
+        left, right = (drawn_rule(draw, file, [1, 2, 3, 5]) for _ in range(2))
+        if is_accepted(b"(%b)AND(%b)" % (left, right), file):
+            return left, right
+
+
 def check_arithmetic(rules):
     """AND, OR and NOT of drawn conditions, by JUDGE's numbers of these conditions; no value here comes from the model. Each value and each pair occurs."""
     draw, seen = random.Random(SEED), collections.Counter()
     for _ in range(ARITHMETIC_PAIRS):
         file = generate.random_tables(draw)
-        left, right = (accepted_rule(draw, file, [1, 2, 3, 5]) for _ in range(2))
+        left, right = accepted_pair(draw, file)
         for row in range(cases.row_count(file)):
             for connective, given, wanted, got in arithmetic(rules, left, right, file, row):
                 compare.same((left, right, file, row, connective), got, wanted)
@@ -423,9 +467,46 @@ def check_arithmetic(rules):
     compare.agreed("connectives by arithmetic", seen, {"NOT": tuple((number,) for number in library.TRUTHS), "AND": pairs, "OR": pairs})
 
 
+# ---- marks, and values that no answer shows
+
+def all_answers(rules, gate, text, sheet, file):
+    """What the calls but CHECK answer to a rule, to its card, and to a file with rows in table 1."""
+    rows = range(cases.row_count(file) + 1)
+    return {
+        "READ": rules.read(text, file, cases.lent("READ", 30)),
+        "CARD": rules.card(text, file, cases.lent("CARD", end_to_end.LONGEST_CARD)),
+        "JUDGE": tuple(rules.judge(text, file, row) for row in rows),
+        "RUN": tuple(gate.run(sheet, file, row) for row in rows),
+        "LIST": gate.list_rows(sheet, file, cases.lent("LIST", len(rows))),
+    }
+
+
+def check_marks(rules, gate):
+    """Other values of blank and declined cells change no answer. Blanks in place of one declined cell or of all change no answer to a rule without tests of
+    declined cells, and to others they change answers of JUDGE, RUN and LIST alone. No answer here comes from the model."""
+    draw, seen = random.Random(SEED), collections.Counter()
+    for number in range(MARKED_RULES):
+        file = variants.marked_tables(draw)
+        text = accepted_rule(draw, file, [1, 2, 3, 5], declined=(0, .7)[number % 2])
+        length, sheet = rules.card(text, file, cases.lent("CARD", end_to_end.LONGEST_CARD))
+        sheet = bytes(sheet[:length])
+        answers = all_answers(rules, gate, text, sheet, file)
+        compare.same((text, file, "other values"), all_answers(rules, gate, text, sheet, generate.with_other_values(draw, file)), answers)
+        with_blanks = all_answers(rules, gate, text, sheet, variants.with_blanks_for_declined(file))
+        if b"DECLINED" in text:
+            seen.update(("changed", call) for call in answers if with_blanks[call] != answers[call])
+        else:
+            compare.same((text, file, "blanks in place of declined cells"), with_blanks, answers)
+            with_a_blank = variants.with_a_blank_for_declined(draw, file)
+            compare.same((text, file, "a blank in place of a declined cell"), all_answers(rules, gate, text, sheet, with_a_blank), answers)
+            seen.update(("unchanged", value) for value in answers["JUDGE"])
+    compare.agreed("marks and values", seen, {"changed": ("JUDGE", "RUN", "LIST"), "unchanged": tuple(stored.TRUTHS.values())})
+    compare.same("calls whose answers show marks", {call for sort, call in seen if sort == "changed"}, {"JUDGE", "RUN", "LIST"})
+
+
 LONG_RULES = (
     b"m.1<m.2 OR NOT m.1 IS NULL AND m.2>=0", b"m.1 IN(SELECT v.1 FROM 2 v WHERE v.1<>m.2)", b"NOT EXISTS(FROM 2 v WHERE v.1>m.1)", b"m.2 IS NULL", b"1=1",
-    b"(m.1<m.2)IS UNKNOWN", b"NOT(m.1 NOT IN(SELECT v.1 FROM 2 v WHERE(v.1<>m.2)IS NOT FALSE))IS FALSE")
+    b"(m.1<m.2)IS UNKNOWN", b"NOT(m.1 NOT IN(SELECT v.1 FROM 2 v WHERE(v.1<>m.2)IS NOT FALSE))IS FALSE", b"m.2 IS DECLINED OR m.1<m.2")
 
 
 def check_long(rules, gate):
@@ -439,7 +520,7 @@ def check_long(rules, gate):
 
 
 CHECKS = (check_paper, check_stored, check_rooms, check_groups, check_arithmetic)
-CHECKS_WITH_GATE = (check_small, check_later, check_long)
+CHECKS_WITH_GATE = (check_marks, check_small, check_later, check_long)
 
 
 def check_all(rules, gate):

@@ -1,9 +1,9 @@
-"""docs/FORMATS.md against the library as built, and against the model of document 01 with Points 1 and 2 of document 02.
+"""docs/FORMATS.md against the library as built, and against the model of document 01 with Points 1, 2 and 4 of document 02.
 
 The manual is read as it stands: its tables by their headers, its formulas and bytes in backticks, the clauses of a sound card by their numbers, the worked
-examples by their names in bold (Files F and G, Cards A, B and D, Rules C and E, Lines L and M), and its code, which is run. The bytes of a worked example are
-those of its table, row by row, and each row's meaning has to be what the bytes mean there. Every answer is asked of the model and of the library, and has to
-be the same. The order of each call's refusals is compared with the definitions, the header and the wrappers too.
+examples by their names in bold (Files F, G and H, Cards A, B, D, J and K, Rules C, E and N, Lines L and M), and its code, which is run. The bytes of a worked
+example are those of its table, row by row, and each row's meaning has to be what the bytes mean there. Every answer is asked of the model and of the library,
+and has to be the same. The order of each call's refusals is compared with the definitions, the header and the wrappers too.
 
 Exit status 0 when all of it agrees, and nothing that the manual should have is missing. Every table of the manual has to have been compared.
 """
@@ -41,10 +41,12 @@ BYTE_VALUES = range(256)
 AMPLE_ROOM = 3000
 AMPLE_FILE_ROOM = 65000
 AMPLE_COMMA_ROOM = 100000
-TABLE_COUNT = 24
+SMALL_ROOM = 100  # ample for the file of a few fields
+TABLE_COUNT = 28
 
 SIGNS = {"=": operator.eq, "<>": operator.ne, "<": operator.lt, "<=": operator.le, ">": operator.gt, ">=": operator.ge}
 LOWEST, HIGHEST = -2**31, 2**31 - 1
+MARK_WORDS = {model.MARK_PRESENT: "present", model.MARK_BLANK: "blank", model.MARK_DECLINED: "declined"}
 
 
 class Wrong(Exception):
@@ -313,8 +315,19 @@ def with_minus(number):
     return str(number).replace("-", "−")
 
 
+def cell_of(written):
+    """A cell as the manual writes it."""
+    words = {"blank": model.BLANK_CELL, "declined": model.DECLINED_CELL}
+    return words[written] if written in words else whole_number(written)
+
+
+def word_of(cell):
+    """What the manual says of a cell: present, blank or declined."""
+    return MARK_WORDS[model.mark_of(cell)]
+
+
 def file_meanings(file, under_blank="anything"):
-    """The fields of a tables file with their meanings, as the manual writes them, and with what it says of the value of a blank cell."""
+    """The fields of a tables file with their meanings, as the manual writes them, and with what it says of the value of a blank or declined cell."""
     tables = model.tables_of(file)
     yield 1, f"T: {len(tables.columns)}"
     for number, columns in enumerate(tables.columns, 1):
@@ -324,10 +337,10 @@ def file_meanings(file, under_blank="anything"):
     cell = itertools.count()
     for table, number, row in rows:
         for column, value in enumerate(row, 1):
-            said = under_blank if value is None else with_minus(value)
+            said = under_blank.format(word_of(value)) if model.counts_as_blank(value) else with_minus(value)
             yield 4, f"value of cell {next(cell)}, table {table}, row {number}, column {column}: {said}"
     for table, number, row in rows:
-        yield len(row), f"marks of table {table}, row {number}: {', '.join('blank' if value is None else 'present' for value in row)}"
+        yield len(row), f"marks of table {table}, row {number}: {', '.join(map(word_of, row))}"
 
 
 def value_meaning(value):
@@ -397,7 +410,7 @@ def tables_by(places, cell_number, length, file):
         for row, column in itertools.product(range(rows), range(1, columns + 1)):
             k = worked_out(cell_number, B=before, r=row, columns=columns, c=column)
             mark = field_at(file, places["the mark of cell k"], T=count, C=cells, k=k)
-            table.append(field_at(file, places["the value of cell k"], signed=True, T=count, k=k) if mark == 0 else None)
+            table.append(model.cell_with(mark, field_at(file, places["the value of cell k"], signed=True, T=count, k=k)))
         tables.append([table[start:start + columns] for start in range(0, len(table), columns)])
         before += columns * rows
     return model.Tables([columns for columns, _ in sizes], tables)
@@ -434,17 +447,19 @@ def check_file_limits(manual, ask, places):
 
 
 def check_marks(manual, ask, places):
-    """The two marks, and the refusal of any other."""
-    blank = model.card(b"m.1 IS NULL", sized_file([(1, 0)]), AMPLE_ROOM)
-    marks = dict(re.findall(r"(\d+) (present|blank)", places["the mark of cell k"][2]))
-    same("the marks", sorted(marks.values()), ["blank", "present"])
+    """The three marks, and the refusal of any other: a cell is blank by the words for it, where declined is blank too, and declined by its own."""
+    tests = [model.card(f"m.1 IS {word}".encode(), sized_file([(1, 0)]), AMPLE_ROOM) for word in ("NULL", "DECLINED")]
+    marks = dict(re.findall(r"(\d+) (present|blank|declined)", places["the mark of cell k"][2]))
+    same("the marks", sorted(marks.values()), ["blank", "declined", "present"])
+    words = {"present": (False, False), "blank": (True, False), "declined": (True, True)}
     above, = manual.numbers_said(1, r"Refusal 2: a mark is above (\d+)\.")
     for mark in range(256):
         file = sized_file([(1, 1)])[:-1] + bytes([mark])
         refused = 2 if mark > above else None
         same(f"a mark of {mark}", tables_refusal(ask, file), refused)
         if refused is None:
-            same(f"whether a cell with the mark {mark} is blank", ask.run(blank, file, 0), marks[str(mark)] == "blank")
+            answers = tuple(ask.run(sheet, file, 0) for sheet in tests)
+            same(f"whether a cell with the mark {mark} is blank, and declined", answers, words[marks[str(mark)]])
 
 
 def check_tables_file(manual, ask, draws, known):
@@ -457,17 +472,21 @@ def check_tables_file(manual, ask, draws, known):
     for file in drawn:
         same(f"the tables of {file.hex(' ')}", tables_by(places, cell_number, length, file), model.tables_of(file))
 
-    example, = worked_examples(manual, 1)
-    same("the worked tables file", example.name, "File F")
-    file = known["F"] = example.whole
-    check_meanings(example, file_meanings(file))
-    same("F by the formulas", tables_by(places, cell_number, length, file), model.tables_of(file))
-    check_rows_said(example)
-    terms, total, whole = re.search(r"C is (.*) = (\d+), and the length .* = (\d+)\.", example.about).groups()
-    same("F's cells and length", (int(total), int(whole)), (len(file) // 5 - 2, len(file)))
-    tables = model.tables_of(file)
-    same("the terms of C", terms, " + ".join(f"{len(rows)} × {columns}" for columns, rows in zip(tables.columns, tables.rows)))
-    check_free_bytes(ask, file)
+    examples = worked_examples(manual, 1)
+    same("the worked tables files", [example.name for example in examples], ["File F", "File H"])
+    for example in examples:
+        file = known[example.name[-1]] = example.whole
+        check_meanings(example, file_meanings(file))
+        tables = model.tables_of(file)
+        same(f"{example.name} by the formulas", tables_by(places, cell_number, length, file), tables)
+        check_rows_said(example)
+        terms, total, whole = re.search(r"C is (.*) = (\d+), and the length .*? = (\d+)\.", example.about).groups()
+        cells = sum(len(row) for rows in tables.rows for row in rows)
+        same(f"the cells and the length of {example.name}", (int(total), int(whole)), (cells, len(file)))
+        same("the terms of C", terms, " + ".join(f"{len(rows)} × {columns}" for columns, rows in zip(tables.columns, tables.rows)))
+    check_free_bytes(ask, known["F"], CASES, [model.BLANK_CELL])
+    check_free_bytes(ask, known["H"], DECLINED_CASES, [model.BLANK_CELL, model.DECLINED_CELL])
+    check_declined_file(manual, known["H"])
 
     examples = manual.table(1, "File", "Refusal", "Why").rows
     refused_by = functools.partial(tables_refusal, ask)
@@ -475,6 +494,11 @@ def check_tables_file(manual, ask, draws, known):
         file = from_hex(in_backticks(written))
         same(f"{written}, {why}", refused_by(file), None if refusal == "none" else int(refusal))
         demand(f"{written}: {why}", WHY[why](file, refused_by))
+    demand("document 02's example of 2", ("`01 01 01 00 00 00 00 00 03`", "2", "the mark is 3") in examples)
+    short, = manual.numbers_said(1, r"an empty file, or one that ends within its sizes, gets refusal (\d+)\.")
+    for name, length in itertools.product("FH", range(10)):
+        whole = known[name]
+        same(f"the first bytes of {name}", refused_by(whole[:min(length, 3 * whole[0])]), short)
     same("what the examples of tables files show", sorted(why for _, _, why in examples), sorted(WHY))
     same("the refusals of the examples", {refusal for _, refusal, _ in examples}, {"1", "2", "none"})
     COUNTS["example files"] = len(examples)
@@ -492,8 +516,9 @@ WHY = {
     "a byte is missing: the length has to be 4": lambda file, refused_by: len(file) == 3 and refused_by(file + b"\0") is None,
     "a byte is left over": lambda file, refused_by: refused_by(file[:-1]) is None,
     "table 1 has 0 columns": lambda file, refused_by: file[1] == 0 and refused_by(changed_at(file, 1, 1)) is None,
-    "the mark is 2": lambda file, refused_by: file[-1] == 2 and refused_by(file[:-1] + b"\1") is None,
+    "the mark is 3": lambda file, refused_by: file[-1] == 3 and refused_by(file[:-1] + b"\2") is None,
     "1 and 2 apply, and 1 comes first": lambda file, refused_by: refused_by(file[:-1]) == 2,
+    "one declined cell": lambda file, refused_by: model.tables_of(file) == model.Tables([1], [[[model.DECLINED_CELL]]]),
     "one blank cell": lambda file, refused_by: model.tables_of(file) == model.Tables([1], [[[None]]]),
     "one column and no rows": lambda file, refused_by: model.tables_of(file) == model.Tables([1], [[]]),
 }
@@ -505,24 +530,38 @@ def check_rows_said(example):
     said = []
     for place, one in enumerate(sentence.split("; "), 1):
         demand(f"table {place} in: {one}", re.match(rf"[Tt]able {place} ", one))
-        rows = [[None if cell == "blank" else int(cell) for cell in row.split(", ")] for row in re.findall(r"\(([^)]*)\)", one)]
+        rows = [[cell_of(cell) for cell in row.split(", ")] for row in re.findall(r"\(([^)]*)\)", one)]
         demand(f"rows of table {place}", rows or "no rows" in one)
         said.append(rows)
-    same("the rows of F", said, model.tables_of(example.whole).rows)
+    same(f"the rows of {example.name}", said, model.tables_of(example.whole).rows)
 
 
-def check_free_bytes(ask, file):
-    """The value bytes of blank cells affect no answer: those of every case on every row stay when they change."""
+def check_declined_file(manual, file):
+    """What is said of file H: which of its cells are not present, of which the marks alone tell those that are declined; and where the two are told apart."""
+    cells = [cell for row in model.tables_of(file).rows[0] for cell in row]
+    said = manual.numbers_said(1, r"The cells (\d+), (\d+) and (\d+) are not present, and only the marks tell which of them are declined\.")
+    same("the cells of H that are not present", said, [number for number, cell in enumerate(cells) if model.counts_as_blank(cell)])
+    values = {word: {file[4 + 4 * number:8 + 4 * number] for number, cell in enumerate(cells) if word_of(cell) == word} for word in MARK_WORDS.values()}
+    demand("a blank and a declined cell of H with the same value bytes", values["blank"] & values["declined"])
+    kinds = manual.numbers_said(
+        1, r"Only the kinds (\d+) and (\d+) of a card \(section 4\), the kinds (\d+) and (\d+) of parts \(section 6\) and comma lines \(section 8\) "
+           r"tell the two apart\.")
+    same("the kinds that tell a declined cell from a plain blank", kinds, [model.DECLINED, model.NOT_DECLINED, model.KIND_DECLINED, model.KIND_NOT_DECLINED])
+
+
+def check_free_bytes(ask, file, texts, wanted):
+    """The value bytes of blank and declined cells affect no answer: those of each text on every row stay when they change."""
     tables = model.tables_of(file)
     cells = [cell for rows in tables.rows for row in rows for cell in row]
-    demand("F has blank cells", None in cells)
+    demand(f"the file has cells of {wanted}", all(cell in cells for cell in wanted))
     start = 1 + 3 * len(tables.columns)
     for fill in (b"\0\0\0\0", b"\1\0\0\0", b"\xff\xff\xff\xff", b"\0\0\0\x80"):
         changed = bytearray(file)
         for number, cell in enumerate(cells):
-            if cell is None:
+            if model.counts_as_blank(cell):
                 changed[start + 4 * number:start + 4 * number + 4] = fill
-        for text in CASES:
+        same("EXPORT with other bytes under blanks", ask.export_lines(bytes(changed), AMPLE_COMMA_ROOM), ask.export_lines(file, AMPLE_COMMA_ROOM))
+        for text in texts:
             sheet = ask.card(text, file, AMPLE_ROOM)
             same(f"{text} with other bytes under blanks", ask.rows(sheet, bytes(changed), 3), ask.rows(sheet, file, 3))
             for row in range(3):
@@ -534,6 +573,12 @@ CASES = tuple(text.replace("ALL2", "(SELECT v.1 FROM 2 v WHERE 1 = 1)").replace(
     "m.2 > 0", "NOT m.2 > 0", "m.2 > 0 OR NOT m.2 > 0", "m.2 IS NULL", "m.1 IN ALL2", "m.1 NOT IN ALL2",
     "m.1 <> ALL (SELECT v.1 FROM 2 v WHERE v.1 = 1)", "m.2 = ALL ALL3", "m.2 = SOME ALL3", "EXISTS (FROM 2 v WHERE v.1 > 1)",
     "NOT EXISTS (FROM 2 v WHERE v.1 > 1)", "m.1 = SOME (SELECT m.1 FROM 2 m WHERE m.1 = 1)"))
+
+# rules for file H
+DECLINED_CASES = (
+    b"m.2 > 0", b"NOT m.3 = 0", b"m.2 IS NULL", b"m.3 IS NOT NULL", b"m.2 IS DECLINED", b"NOT m.3 IS DECLINED", b"m.2 IS NOT DECLINED AND m.3 IS NOT DECLINED",
+    b"m.2 = 0 OR m.2 IS DECLINED", b"(m.3 = 7) IS UNKNOWN", b"m.1 IN (SELECT v.2 FROM 1 v WHERE v.3 IS NOT DECLINED)",
+    b"m.2 <> ALL (SELECT v.3 FROM 1 v WHERE v.2 IS DECLINED)", b"EXISTS (FROM 1 v WHERE v.3 IS DECLINED AND v.2 = m.2)")
 
 
 # ---- section 2
@@ -560,7 +605,7 @@ class Field(typing.NamedTuple):
 
 def kinds_of(manual):
     table = manual.table(2, "Kind", "Name", "Inner entries", "Negated")
-    same("the numbers of the kinds", [int(row[0]) for row in table.rows], list(range(1, 9)))
+    same("the numbers of the kinds", [int(row[0]) for row in table.rows], list(range(1, 11)))
     return {int(number): Kind(name, int(inner), int(negated)) for number, name, inner, negated in table.rows}
 
 
@@ -810,19 +855,23 @@ def blank_test(level, column):
     return model.blank_entry(7, model.TaggedValue(level, column))
 
 
+def declined_test(level, column):
+    return model.declined_entry(9 + level % 2, model.TaggedValue(level, column))
+
+
 def leftover(a):
     """Card A with its entry twice, of which entry 0 covers the first."""
     return b"\2\0" + a[2:5] + a[4:5] + a[5:19] + b"\2\0" + a[7:19]
 
 
 def with_compound(sheet, number, kind, table=0):
-    """A card with an entry that becomes one of kinds 1 to 4, without what such an entry has no use for; its end stays."""
+    """A card with an entry that becomes one of kinds 1 to 4, or of no kind, without what such an entry has no use for; its end stays."""
     record = 3 + sheet[2] + sheet[0] + 14 * number
     return changed_at(sheet[:record + 2] + bytes([table]) + bytes(11) + sheet[record + 14:], 3 + sheet[2] + number, kind)
 
 
-def broken_cards(clauses, a, b):
-    """For each clause, cards that break it and no other, just past its limits; from the worked cards A and B."""
+def broken_cards(clauses, a, b, j):
+    """For each clause, cards that break it and no other, just past its limits; from the worked cards A, B and J."""
     low_n, high_n = clauses.numbers(1)
     low_t, high_t = clauses.numbers(2)
     low_c, high_c = clauses.numbers(3)
@@ -834,26 +883,29 @@ def broken_cards(clauses, a, b):
         2: [a[:2] + bytes([count]) + bytes([3]) * count + a[4:] for count in (low_t - 1, high_t + 1, 255)],
         3: [changed_at(b, 5, low_c - 1), changed_at(b, 5, high_c + 1), changed_at(b, 5, 255), changed_at(a, 3, high_c + 1)],
         4: [a + b"\0", a[:-1], b + b"\0", b[:-1], a + a, b + bytes(15), a[:4], a[:5], changed_at(a, 2, 2), changed_at(a, 0, 2)],
-        5: [changed_at(a, 4, kind) for kind in (low_k - 1, high_k + 1, 255)] + [changed_at(b, 9, kind) for kind in (low_k - 1, high_k + 1)],
+        5: [changed_at(a, 4, kind) for kind in (low_k - 1, high_k + 1, 255)] + [changed_at(b, 9, kind) for kind in (low_k - 1, high_k + 1)]
+           + [sheet for kind in (low_k - 1, *range(high_k + 1, 256)) for sheet in (changed_at(j, 4, kind), with_compound(j, 0, kind))],
         6: [with_compound(a, 0, kind, kind // 3) for kind in (1, 2, 3, 4)] + [with_compound(b, 3, kind, kind // 3) for kind in (1, 2, 3, 4)]
            + [with_compound(b, 2, kind) for kind in (1, 2)],
         7: [leftover(a)],
-        8: [changed_at(a, 5, 0), changed_at(a, 5, 2), changed_at(a, 6, 1)]
+        8: [changed_at(a, 5, 0), changed_at(a, 5, 2), changed_at(a, 6, 1), changed_at(j, 5, 0), changed_at(j, 5, 2), changed_at(j, 6, 1)]
            + [changed_at(b, place, byte) for place in (10, 24, 38, 52) for byte in range(6) if byte != b[place]] + [changed_at(b, 11, 1)],
         9: [changed_at(b, 12, table) for table in (int(clauses.said[9][0]) - 1, 4, 8, 255)],
         10: [model.card_bytes(nested(most_rows + more, blank_test(0, 1)), [3]) for more in (1, 2, 9)]
             + [model.card_bytes(model.pair_entry(1, YES, nested(most_rows + 1, YES, (1, 2))), [1, 1])],
         11: [changed_at(a, 8, comparison) for comparison in (low_op - 1, high_op + 1, 255)] + [changed_at(b, 55, high_op + 1)],
         12: [changed_at(a, 9, tag) for tag in (1, 2, 3, 4, 254)] + [changed_at(a, 14, tag) for tag in (1, 254)] + [changed_at(b, 42, 2), changed_at(b, 61, 254)]
-            + [model.card_bytes(model.pair_entry(2, model.row_entry(4, 1, YES), blank_test(1, 1)), [3])],
+            + [changed_at(j, 9, tag) for tag in (1, 2, 3, 4, 254)]
+            + [model.card_bytes(model.pair_entry(2, model.row_entry(4, 1, YES), test(1, 1)), [3]) for test in (blank_test, declined_test)],
         13: [changed_at(a, 10, column) for column in (int(clauses.said[13][0]) - 1, 4, 255)] + [changed_at(a, place, 1) for place in (11, 12, 13)]
-            + [changed_at(a, 13, 128), changed_at(b, 43, 2), changed_at(b, 62, 2), changed_at(b, 57, 3), changed_at(b, 56, 1)[:57] + b"\2" + b[58:]],
-        14: [changed_at(a, 7, byte) for byte in (1, 255)]
+            + [changed_at(a, 13, 128), changed_at(b, 43, 2), changed_at(b, 62, 2), changed_at(b, 57, 3), changed_at(b, 56, 1)[:57] + b"\2" + b[58:]]
+            + [changed_at(j, 10, column) for column in (0, 4, 255)] + [changed_at(j, place, 1) for place in (11, 12, 13)],
+        14: [changed_at(a, 7, byte) for byte in (1, 255)] + [changed_at(j, place, byte) for byte in (1, 255) for place in (7, 8, *range(14, 19))]
             + [changed_at(b, place, byte) for byte in (1, 255) for place in (*range(13, 24), *range(26, 38), 40, 54)],
     }
 
 
-def kept_cards(clauses, a, b):
+def kept_cards(clauses, a, b, j):
     """For each clause, cards that keep all of them, on the good side of its limits; from the same two cards."""
     low_n, high_n = clauses.numbers(1)
     low_t, high_t = clauses.numbers(2)
@@ -865,21 +917,24 @@ def kept_cards(clauses, a, b):
         1: [model.card_bytes(chain_of(count), [3]) for count in (low_n, low_n + 1, high_n - 1, high_n)],
         2: [a[:2] + bytes([count]) + bytes([3]) * count + a[4:] for count in range(low_t, high_t + 1)],
         3: wide + [changed_at(a, 3, count) for count in range(2, high_c + 1)] + [changed_at(b, 5, count) for count in range(low_c, high_c + 1)],
-        4: [a, b],
-        5: [model.card_bytes(entry, [2, 1, 1]) for entry in every_kind()],
+        4: [a, b, j],
+        5: [changed_at(j, 4, kind) for kind in (7, 8, 9, 10)] + [model.card_bytes(entry, [2, 1, 1]) for entry in every_kind()],
         6: [a, b, model.card_bytes(model.pair_entry(1, model.row_entry(3, 1, YES), YES), [3])],
         7: [a, b],
         8: [a, b, model.card_bytes(chain(191), [3])],
         9: [changed_at(b, 12, table) for table in range(int(clauses.said[9][0]), b[2] + 1)],
-        10: [model.card_bytes(nested(count, blank_test(count, 1), (1, 2)), [3, 1]) for count in range(most_rows + 1)]
+        10: [model.card_bytes(nested(count, test(count, 1), (1, 2)), [3, 1]) for count in range(most_rows + 1) for test in (blank_test, declined_test)]
             + [model.card_bytes(model.pair_entry(2, nested(most_rows, YES), nested(most_rows, NO)), [1])],
         11: [changed_at(a, 8, comparison) for comparison in range(low_op, high_op + 1)],
-        12: [model.card_bytes(nested(count, blank_test(level, 1)), [3]) for count in range(most_rows + 1) for level in range(count + 1)]
+        12: [model.card_bytes(nested(count, test(level, 1)), [3]) for count in range(most_rows + 1) for level in range(count + 1)
+             for test in (blank_test, declined_test)]
             + [a[:9] + b"\xff" + a[10:], changed_at(a, 14, 0)[:15] + b"\1" + a[16:]],
         13: [changed_at(a, 10, column) for column in (1, 2, 3)] + [changed_at(b, 57, column) for column in (1, 2)]
             + [changed_at(a, place, 255) for place in (15, 16, 17, 18)]
-            + [model.card_bytes(model.blank_entry(kind, model.TaggedValue(255, -1)), [1]) for kind in (7, 8)],
-        14: [a, b],
+            + [model.card_bytes(model.blank_entry(kind, model.TaggedValue(255, -1)), [1]) for kind in (7, 8)]
+            + [model.card_bytes(model.declined_entry(kind, model.TaggedValue(255, -1)), [1]) for kind in (9, 10)]
+            + [changed_at(j, 10, column) for column in (1, 2, 3)],
+        14: [a, b, j],
     }
 
 
@@ -888,13 +943,13 @@ def every_kind():
     value, constant = model.TaggedValue(0, 2), model.TaggedValue(255, 4)
     return [model.pair_entry(1, YES, NO), model.pair_entry(2, YES, NO), model.row_entry(3, 2, blank_test(1, 1)), model.row_entry(4, 3, blank_test(1, 1)),
             model.comparison_entry(5, 3, value, constant), model.comparison_entry(6, 3, constant, value),
-            model.blank_entry(7, value), model.blank_entry(8, value)]
+            model.blank_entry(7, value), model.blank_entry(8, value), model.declined_entry(9, value), model.declined_entry(10, value)]
 
 
 def check_soundness(manual, ask, draws, known):
     clauses = Clauses(manual.clauses(3), known["record"])
-    a, b = known["A"], known["B"]
-    bad, good = broken_cards(clauses, a, b), kept_cards(clauses, a, b)
+    worked = known["A"], known["B"], known["J"]
+    bad, good = broken_cards(clauses, *worked), kept_cards(clauses, *worked)
     for number in CLAUSE_PATTERNS:
         demand(f"cards for clause {number}", bad[number] and good[number])
         for sheet in bad[number]:
@@ -914,10 +969,10 @@ def check_soundness(manual, ask, draws, known):
 
 
 def check_changed_cards(ask, draws, known, clauses):
-    """Cards A and B with each byte changed and cut at each length, and drawn cards: CHECK refuses exactly those that break a clause."""
-    a, b = known["A"], known["B"]
-    changed = [changed_at(sheet, place, byte) for sheet in (a, b) for place in range(len(sheet)) for byte in BYTE_VALUES]
-    changed += [sheet[:length] for sheet in (a, b) for length in range(len(sheet))]
+    """Cards A, B and J with each byte changed and cut at each length, and drawn cards: CHECK refuses exactly those that break a clause."""
+    worked = known["A"], known["B"], known["J"]
+    changed = [changed_at(sheet, place, byte) for sheet in worked for place in range(len(sheet)) for byte in BYTE_VALUES]
+    changed += [sheet[:length] for sheet in worked for length in range(len(sheet))]
     changed += [generate.damaged_card(draws, sheet) for sheet in known["drawn cards"] for _ in range(3)]
     changed += [generate.random_card(draws, model.tables_of(generate.random_tables(draws)).columns, bad=.2) for _ in range(DRAWN_CARDS)]
     for sheet in changed:
@@ -965,7 +1020,7 @@ def check_card_of_no_rule(manual, ask, known):
 
 def check_depth(manual, ask, clauses):
     """How many entries stand around one another: as many as the manual says, and no card has more."""
-    pattern = r"at most (\d+) entries stand around one another, the innermost counted: (\d+) row entries, (\d+) of kinds 1 and 2, and (\d+) of kinds 5 to 8\."
+    pattern = r"at most (\d+) entries stand around one another, the innermost counted: (\d+) row entries, (\d+) of kinds 1 and 2, and (\d+) of kinds 5 to 10\."
     deepest, rows, pairs, tests = manual.numbers_said(4, pattern)
     same("the entries around one another", (deepest, tests), (rows + pairs + tests, 1))
     most, most_rows = clauses.numbers(1)[1], clauses.numbers(10)[0]
@@ -977,7 +1032,7 @@ def check_depth(manual, ask, clauses):
 
 # ---- section 4
 
-CELLS = (None, LOWEST, -1, 0, 1, HIGHEST)
+CELLS = (model.BLANK_CELL, model.DECLINED_CELL, LOWEST, -1, 0, 1, HIGHEST)
 
 
 def yes_or_no(cell):
@@ -987,22 +1042,27 @@ def yes_or_no(cell):
 
 def check_answers(manual, ask, known):
     """What each kind answers, by its name and by the table of section 4."""
-    rows = manual.table(4, "Kind", "Answers yes exactly when", "Over no rows", "With a blank value").rows
+    rows = manual.table(4, "Kind", "Answers yes exactly when", "Over no rows", "With a plain blank", "With a declined value").rows
     same("the kinds that are said to answer", [int(row[0]) for row in rows], sorted(known["kinds"]))
-    words = {1: "both inner", 2: "one of the inner", 3: "at some row", 4: "at every row", 5: "both values are present", 6: "or one of them is blank",
-             7: "is blank", 8: "is not blank"}
-    over_none, with_blank = {}, {}
-    for number, when, none, blank in rows:
+    words = {1: "both inner entries answer yes", 2: "one of the inner entries answers yes, or both do",
+             3: "the inner entry answers yes with the new level at some row of the table",
+             4: "the inner entry answers yes with the new level at every row of the table",
+             5: "both values are present, and the comparison holds of left and right as signed numbers",
+             6: "both values are present, and the comparison holds; or one of them is blank, or both are",
+             7: "the left value is blank", 8: "the left value is not blank", 9: "the left value is declined", 10: "the left value is not declined"}
+    over_none, with_blank, with_declined = {}, {}, {}
+    for number, when, none, blank, declined in rows:
         kind = int(number)
-        demand(f"kind {kind} says: {words[kind]}", words[kind] in when)
-        over_none |= {kind: yes_or_no(none)} if none else {}
-        with_blank |= {kind: yes_or_no(blank)} if blank else {}
+        same(f"when kind {kind} answers yes", when.split(": its mark is ")[0], words[kind])
+        for answers, cell in ((over_none, none), (with_blank, blank), (with_declined, declined)):
+            answers |= {kind: yes_or_no(cell)} if cell else {}
     names = {kind.name: number for number, kind in known["kinds"].items()}
     same("the kinds over no rows", sorted(over_none), sorted(names[name] for name in ("some row", "every row")))
-    same("the kinds with a blank value", sorted(with_blank), [5, 6, 7, 8])
+    same("the kinds with a plain blank, and with a declined value", (sorted(with_blank), sorted(with_declined)), ([5, 6, 7, 8, 9, 10],) * 2)
 
     check_compound_answers(ask, names, over_none)
-    check_test_answers(ask, known, names, with_blank)
+    check_test_answers(ask, known, names, {"blank": with_blank, "declined": with_declined})
+    check_marks_of_kinds(manual, ask, {int(row[0]): row[1] for row in rows})
 
 
 def check_compound_answers(ask, names, over_none):
@@ -1015,15 +1075,21 @@ def check_compound_answers(ask, names, over_none):
     for name, joined in (("some row", any), ("every row", all)):
         sheet = model.card_bytes(model.row_entry(names[name], 2, is_one), [1, 1])
         for count in range(4):
-            for inner in itertools.product((0, 1, None), repeat=count):
+            for inner in itertools.product((0, 1, None, model.DECLINED_CELL)[:4 if count < 3 else 3], repeat=count):
                 wanted = joined(cell == 1 for cell in inner) if inner else over_none[names[name]]
                 file = generate.tables_file([(1, [[7]]), (1, [[cell] for cell in inner])])
                 same(f"{name} over {inner}", ask.run(sheet, file, 0), wanted)
                 COUNTS["answers of kinds tried"] += 1
 
 
-def check_test_answers(ask, known, names, with_blank):
-    """Every comparison of every pair of cells, and the two tests of blanks."""
+def word_for(cells):
+    """Whether some cells are present, one is blank, or those that are blank are declined."""
+    words = {word_of(cell) for cell in cells}
+    return "blank" if "blank" in words else "declined" if "declined" in words else "present"
+
+
+def check_test_answers(ask, known, names, without):
+    """Every comparison of every pair of cells, and the four tests of a value; `without` has what a kind says with a plain blank and with a declined value."""
     pairs = list(itertools.product(CELLS, repeat=2))
     file = generate.tables_file([(2, [list(pair) for pair in pairs])])
     left, right = model.TaggedValue(0, 1), model.TaggedValue(0, 2)
@@ -1031,19 +1097,44 @@ def check_test_answers(ask, known, names, with_blank):
         kind = names[f"comparison, unknown counts as {unknown}"]
         sheet = model.card_bytes(model.comparison_entry(kind, number, left, right), [2])
         for row, (x, y) in enumerate(pairs):
-            blank = x is None or y is None
-            same(f"whether kind {kind} says with a blank what its name says", with_blank[kind], unknown == "yes")
-            same(f"kind {kind}, {x} {comparison.sign} {y}", ask.run(sheet, file, row), with_blank[kind] if blank else SIGNS[comparison.sign](x, y))
+            word = word_for((x, y))
+            wanted = SIGNS[comparison.sign](x, y) if word == "present" else without[word][kind]
+            same(f"kind {kind}, {x} {comparison.sign} {y}", ask.run(sheet, file, row), wanted)
             COUNTS["answers of kinds tried"] += 1
-    for name in ("blank", "not blank"):
+        for word in without:
+            same(f"whether kind {kind} says with what is {word} what its name says", without[word][kind], unknown == "yes")
+    for name in ("blank", "not blank", "declined", "not declined"):
         kind = names[name]
-        same(f"{name} with a blank value", with_blank[kind], name == "blank")
-        for value in (left, right, model.TaggedValue(255, 0)):
-            sheet = model.card_bytes(model.blank_entry(kind, value), [2])
+        of_number = name.startswith("not")
+        same(f"{name} with a declined value", without["declined"][kind], not of_number)
+        for value in (left, right, model.TaggedValue(255, 0), model.TaggedValue(255, 2)):
+            sheet = model.card_bytes(model.Entry(kind, left=value), [2])
             for row, pair in enumerate(pairs):
-                blank = value.tag == 0 and pair[value.number - 1] is None
-                same(f"{name} of {value} in {pair}", ask.run(sheet, file, row), with_blank[kind] if blank else not with_blank[kind])
+                word = word_for(pair[value.number - 1:value.number]) if value.tag == 0 else "present"
+                wanted = of_number if word == "present" else without[word][kind]
+                same(f"{name} of {value} in {pair}", ask.run(sheet, file, row), wanted)
                 COUNTS["answers of kinds tried"] += 1
+
+
+def check_marks_of_kinds(manual, ask, when):
+    """Kinds 7 to 10 by the marks that the table and the sentence behind it name, and what they answer of a constant."""
+    seen = 0
+    for kind in (7, 8, 9, 10):
+        said = re.search(r": its mark is (\d)(?: or (\d))?$", when[kind]).groups()
+        sheet = model.card_bytes(model.Entry(kind, left=model.TaggedValue(0, 1)), [1])
+        for mark in model.MARKS:
+            file = sized_file([(1, 1)])[:-1] + bytes([mark])
+            same(f"kind {kind} with the mark {mark}", ask.run(sheet, file, 0), str(mark) in said)
+            seen += 1
+    same("marks of kinds 7 to 10", seen, 12)
+    of_constants = manual.numbers_said(4, r"Of a constant, kinds (\d+) and (\d+) answer yes, (\d+) and (\d+) no\.")
+    same("the kinds that answer of a constant", sorted(of_constants), [7, 8, 9, 10])
+    for place, kind in enumerate(of_constants):
+        sheet = model.card_bytes(model.Entry(kind, left=model.TaggedValue(255, 2)), [1])
+        same(f"kind {kind} of a constant", ask.run(sheet, sized_file([(1, 1)]), 0), place < 2)
+    blank, other, plain, declined = manual.numbers_said(
+        4, r"A column whose cell has the mark (\d) or (\d) is a blank value: with (\d) a plain blank, with (\d) a declined value\.")
+    same("the marks of blank values", ((blank, other), plain, declined), ((model.MARK_BLANK, model.MARK_DECLINED), model.MARK_BLANK, model.MARK_DECLINED))
 
 
 def check_runner(manual, ask, draws, known):
@@ -1051,18 +1142,20 @@ def check_runner(manual, ask, draws, known):
     space = {}
     exec(compile(manual.code(4), str(MANUAL), "exec"), space)
     seen = collections.Counter()
-    sheets = [known["A"], known["B"]] + known["drawn cards"] + [model.card_bytes(entry, [2, 1, 1]) for entry in every_kind()]
+    sheets = [known["A"], known["B"], known["J"], known["K"]] + known["drawn cards"] + [model.card_bytes(entry, [2, 1, 1]) for entry in every_kind()]
     for sheet in sheets:
         columns, entries = model.sound_card(sheet)
         for file in (generate.later_tables(draws, columns) for _ in range(2)):
             tables = model.tables_of(file)
-            by_number = {number: tables.rows_of(number) for number in range(1, len(columns) + 1)}
+            by_number = {number: [[space["DECLINED"] if model.is_declined(cell) else cell for cell in row] for row in tables.rows_of(number)]
+                         for number in range(1, len(columns) + 1)}
             answers = [space["run"](sheet, by_number, row) for row in range(len(tables.rows_of(1)))]
             same(f"the runner on {sheet.hex(' ')} with {file.hex(' ')}", answers, [ask.run(sheet, file, row) for row in range(len(answers))])
             same("LIST and the runner", ask.rows(sheet, file, len(answers)), tuple(row for row, yes in enumerate(answers) if yes))
             seen.update(answers)
-            seen.update(entry.kind for entry in entries)
-    for sort in (True, False, *known["kinds"]):
+            seen.update(f"kind {entry.kind}" for entry in entries)
+            seen.update(word_of(cell) for rows in tables.rows for row in rows for cell in row)
+    for sort in (True, False, *MARK_WORDS.values(), *(f"kind {kind}" for kind in known["kinds"])):
         demand(f"the runner answered {sort}", seen[sort] > 10)
     COUNTS["answers of the runner"] = seen[True] + seen[False]
 
@@ -1094,7 +1187,9 @@ def check_call_examples(manual, ask, known):
     wanted |= {("RUN", f"refusal {number}") for number in (1, 2, 9, 10, 11)}
     demand(f"calls with these answers: {wanted - set(seen)}", wanted <= set(seen))
     demand("at least 20 examples of calls", len(rows) >= 20)
-    same("the calls of card D", sorted(row[4] for row in rows if row[1] == "D"), ["no", "sound", "yes"])
+    same("the calls of card D", sorted(row[4] for row in rows if row[1] == "D"), ["no", "rows 1", "sound", "yes", "yes"])
+    runs = {card: [row[4] for row in rows if row[:3] == ("RUN", card, "H")] for card in "JK"}
+    same("the calls of cards J and K with file H", runs, {"J": ["no", "no", "yes"], "K": ["yes", "yes", "no"]})
     same("examples of calls that are there twice", [row for row, count in collections.Counter(row[:4] for row in rows).items() if count > 1], [])
     demand("document 01's examples of 9, 10 and 11", {("CHECK", "`00 00`", "", "", "refusal 9"), ("RUN", "A", "`01 02 00 00`", "row 0", "refusal 10"),
                                                      ("RUN", "B", "F", "row 3", "refusal 11")} <= set(rows))
@@ -1116,7 +1211,7 @@ OTHER = {FALSE: TRUE, TRUE: FALSE}
 
 def part_kinds_of(manual):
     table = manual.table(5, "Kind of part", "Part", "Inner parts", "False-interpreted", "True-interpreted")
-    same("the kinds of parts", [int(row[0]) for row in table.rows], list(range(1, 16)))
+    same("the kinds of parts", [int(row[0]) for row in table.rows], list(range(1, 18)))
     inner_parts = {row[2]: 0 if row[2] == "none" else len(row[2].split(", ")) for row in table.rows}
     return {int(number): PartKind(tuple(names.split(", ")), inner_parts[inner], {FALSE: in_backticks(no), TRUE: in_backticks(yes)})
             for number, names, inner, no, yes in table.rows}
@@ -1135,7 +1230,7 @@ class Translation:
 
     def entry_of(self, parts, number, interpretation):
         """The entry of a part in an interpretation."""
-        tokens = re.findall(r"[\d\w¬(),]", self.part_kinds[parts[number].kind].translations[interpretation])
+        tokens = re.findall(r"\d+|[\w¬(),]", self.part_kinds[parts[number].kind].translations[interpretation])
         entry, rest = self.expression(tokens, parts, number, interpretation)
         same("what is left of a translation", rest, [])
         return entry
@@ -1195,7 +1290,8 @@ TRUTH_TESTS = {f"IS{' NOT' * has_not} {word}": kinds[has_not] for word, kinds in
 
 def drawn_rules(draws):
     """Tables files with rules for them: drawn ones, and every kind of test under NOTs, in truth tests, in lists and in EXISTS."""
-    tests = ["m.1 < 2", "m.1 IS NULL", "m.1 IS NOT NULL", "EXISTS (FROM 1 v WHERE v.1 = m.1)", "m.1 >= SOME (SELECT v.1 FROM 2 v WHERE v.2 > 1)",
+    tests = ["m.1 < 2", "m.1 IS NULL", "m.1 IS NOT NULL", "m.1 IS DECLINED", "m.1 IS NOT DECLINED", "EXISTS (FROM 1 v WHERE v.1 = m.1)",
+             "m.1 >= SOME (SELECT v.1 FROM 2 v WHERE v.2 > 1)",
              "m.1 NOT IN (SELECT v.2 FROM 2 v WHERE v.1 <= m.1)", "(m.1 = 1 AND m.1 <> 2)", "(m.1 = 1 OR NOT m.1 > 2)"]
     tests += [f"(m.1 > 2) {ending}" for ending in TRUTH_TESTS]
     around = ["{}", "NOT {}", "NOT NOT {}", "EXISTS (FROM 2 w WHERE {})", "NOT EXISTS (FROM 2 w WHERE NOT {})", "m.1 = ALL (SELECT w.2 FROM 2 w WHERE {})",
@@ -1222,9 +1318,9 @@ def check_sums(manual, example, parts, table_count, length):
 
 
 def check_worked_cards(manual, ask, known):
-    """Cards A, B and D: their bytes, their meanings, and what is said of them."""
+    """Cards A, B, D, J and K: their bytes, their meanings, and what is said of them."""
     examples = worked_examples(manual, 5)
-    same("the worked cards", [example.name for example in examples], ["Card A", "Card B", "Card D"])
+    same("the worked cards", [example.name for example in examples], ["Card A", "Card B", "Card D", "Card J", "Card K"])
     for example in examples:
         text = re.search(r"The rule `([^`]*)`", example.about)[1].encode()
         source = re.search(r"with the tables file `([^`]*)`|with file ([A-Z]):", example.about)
@@ -1242,7 +1338,16 @@ def check_worked_cards(manual, ask, known):
             COUNTS["other texts with the same card"] += 1
         if source[1]:
             demand(f"{example.name}, the columns that are said", f"one table of {file[1]} columns" in example.about)
-    same("other texts with the same card", COUNTS["other texts with the same card"], 1)
+        other_parts = re.search(r"`([^`]*)` has other parts and the same card\.", example.about)
+        if other_parts:
+            other = other_parts[1].encode()
+            demand(f"{other} has other parts", ask.read(other, file, 64) != ask.read(text, file, 64))
+            same(f"the card of {other}", ask.card(other, file, AMPLE_ROOM), example.whole)
+            COUNTS["other texts with the same card"] += 1
+    same("other texts with the same card", COUNTS["other texts with the same card"], 2)
+    new, old = manual.numbers_said(5, r"NOT has made (\d+) of (\d+), and that is all that differs from card J\.")
+    differing = [pair for pair in zip(known["K"], known["J"], strict=True) if pair[0] != pair[1]]
+    same("what differs between cards K and J", differing, [(new, old)])
     room, = manual.numbers_said(5, r"than the card, as with (\d+) bytes for card A\.")
     text = re.search(r"The rule `([^`]*)`", examples[0].about)[1].encode()
     answers = [ask.card(text, known["A was made with"][0], lent) for lent in (0, room, room + 1)]
@@ -1280,7 +1385,60 @@ def check_truth_tests(manual, ask, translation, known):
     for cell in CELLS:
         row = generate.tables_file([(columns[0], [[cell if number == int(column) else 7 for number in range(1, columns[0] + 1)]])])
         answers = [ask.run(model.card_bytes(entry, columns), row, 0) for entry in wanted]
-        same(f"what entries 1 and 2 of card D answer on {cell}", sorted(answers), [True, True] if cell is None else [False, True])
+        same(f"what entries 1 and 2 of card D answer on {cell}", sorted(answers), [True, True] if model.counts_as_blank(cell) else [False, True])
+
+
+def check_value_tests(manual, ask, translation, known):
+    """Parts that are never unknown: one entry, which is the same in both interpretations."""
+    kinds = manual.numbers_said(
+        5, r"Parts of kinds (\d+), (\d+), (\d+) and (\d+) are never unknown either: they have one entry, which is the same in both interpretations\.")
+    found = {}
+    for ending in ("NULL", "NOT NULL", "DECLINED", "NOT DECLINED"):
+        parts = ask.read(f"m.2 IS {ending}".encode(), known["F"], 64)
+        found[parts[0].kind] = translation.entry_of(parts, 0, FALSE)
+        same(f"IS {ending} in both interpretations", (found[parts[0].kind], len(parts)), (translation.entry_of(parts, 0, TRUE), 1))
+        same(f"what is inside the entry of IS {ending}", found[parts[0].kind].inner, ())
+    same("the kinds of tests of a value", sorted(found), kinds)
+
+
+def check_before_declined(manual, ask, draws, known):
+    """Cards, parts and controllers from before declined cells: what rules without the two tests have, what their cards answer with declined cells, and what a
+    controller that knows kinds 1 to 8 and marks 0 and 1 refuses."""
+    parts_first, parts_last, kinds_first, kinds_last, mark = manual.numbers_said(
+        5, r"\*\*Cards and controllers from before declined cells\.\*\* Parts of kinds (\d+) and (\d+), entries of kinds (\d+) and (\d+), "
+           r"the mark (\d+) and the `!` of comma lines came later than all else in these pages\.")
+    same("what came later", (parts_first, parts_last, kinds_first, kinds_last, mark),
+         (model.KIND_DECLINED, model.KIND_NOT_DECLINED, model.DECLINED, model.NOT_DECLINED, model.MARK_DECLINED))
+    low, high, low_part, high_part = manual.numbers_said(
+        5, r"The card of a rule without IS DECLINED and IS NOT DECLINED has the kinds (\d+) to (\d+) alone, and its parts the kinds (\d+) to (\d+): "
+           r"both are byte for byte what they were\.")
+    same("kinds from before", (low, high, low_part, high_part), (1, kinds_first - 1, 1, parts_first - 1))
+    manual.said(5, r"So cards already made are sound and run on unchanged, and answer with a declined cell what they answer with a plain blank in its place\.")
+    seen = collections.Counter()
+    for text, file in known["rules"]:
+        sheet, kinds = ask.card(text, file, AMPLE_ROOM), {part.kind for part in ask.read(text, file, 64)}
+        entries = {entry.kind for entry in model.sound_card(sheet)[1]}
+        without = b"DECLINED" not in text
+        same(f"{text} has kinds from before alone", (max(kinds) <= high_part, max(entries) <= high), (without, without))
+        seen["without" if without else "with"] += 1
+    for sheet in known["drawn cards"][:DRAWN_CARDS // 4]:
+        columns, entries = model.sound_card(sheet)
+        file = generate.later_tables(draws, columns)
+        plain = generate.with_marks(file, {mark: model.MARK_BLANK})
+        answers = [ask.rows(sheet, one, 1000) for one in (file, plain)]
+        if all(entry.kind <= high for entry in entries):
+            same(f"{sheet.hex(' ')} with declined cells, and with plain blanks in their place", *answers)
+            seen["with other marks"] += file != plain
+        seen["told apart"] += answers[0] != answers[1]
+    for sort, least in (("without", 100), ("with", 40), ("with other marks", 20), ("told apart", 1)):
+        demand(f"{sort}: {seen[sort]}", seen[sort] >= least)
+    first, last, unsound, refused_mark, bad_mark, bad_field = manual.numbers_said(
+        5, r"it refuses a card with an entry of kind (\d+) or (\d+) with (\d+), as unsound, and a tables file with a mark of (\d+) with (\d+), "
+           r"and keeps the gate shut on every row\. An IMPORT from before refuses `!` with (\d+)\. So change the controller of every gate first\.")
+    same("what a controller from before refuses", (first, last, refused_mark), (kinds_first, kinds_last, mark))
+    same("how it refuses cards, as one refuses the next kind", ask.check(changed_at(known["J"], 4, kinds_last + 1)), model.Refused(unsound))
+    same("how it refuses files, as one refuses the next mark", tables_refusal(ask, sized_file([(1, 1)])[:-1] + bytes([mark + 1])), bad_mark)
+    same("how it refuses `!`, as one refuses another sign", model.import_lines(b"?", 1, AMPLE_ROOM), model.Refused(bad_field))
 
 
 def check_too_many(manual, ask, known):
@@ -1334,6 +1492,8 @@ def check_translation(manual, ask, draws, known):
     for sort in (model.TRUE, model.FALSE, model.UNKNOWN, *part_kinds):
         demand(f"{sort} was translated", seen[sort] > 20)
     COUNTS["translated rules"] = len(rules)
+    check_value_tests(manual, ask, translation, known)
+    check_before_declined(manual, ask, draws, known)
 
 
 # ---- section 6
@@ -1378,6 +1538,11 @@ def check_record_layout(manual, ask, known):
     same("the kinds that use kind and end alone", sorted(set(TRUTH_TESTS.values())), list(range(first, last + 1)))
     for kind in range(first, last + 1):
         same(f"what kind {kind} uses", {name for name in uses if kind in uses[name]}, {"kind", "end"})
+    new, other_new, old, other_old = manual.numbers_said(6, r"Kinds (\d+) and (\d+) use the same fields as (\d+) and (\d+)\.")
+    same("kinds that use the same fields", (new, other_new), (model.KIND_DECLINED, model.KIND_NOT_DECLINED))
+    same("kinds that they use the same fields as", (old, other_old), (model.KIND_NULL, model.KIND_NOT_NULL))
+    same("the fields that they use", *({name for name in uses if kind in uses[name]} for kind in (new, old)))
+    same("the fields that they use", *({name for name in uses if kind in uses[name]} for kind in (other_new, other_old)))
     same("what kind, comparison and end hold", {name: (min(held[name]), max(held[name])) for name in ranges}, ranges)
     for side in ("left.tag", "right.tag"):
         same(f"what {side} holds", held[side], {constant, *range(low, high + 1)})
@@ -1402,7 +1567,8 @@ def check_part_end(number, parts, part_kinds):
 PART_TEXTS = {
     "AND": "1 = 1 AND 1 = 1", "OR": "1 = 1 OR 1 = 1", "NOT": "NOT 1 = 1", "comparison": "1 = 1", "IS NULL": "m.1 IS NULL", "IS NOT NULL": "m.1 IS NOT NULL",
     "EXISTS": "EXISTS (FROM 1 v WHERE 1 = 1)", "SOME": "1 < SOME (SELECT 1 FROM 1 v WHERE 1 = 1)", "IN": "1 IN (SELECT 1 FROM 1 v WHERE 1 = 1)",
-    "ALL": "1 < ALL (SELECT 1 FROM 1 v WHERE 1 = 1)", "NOT IN": "1 NOT IN (SELECT 1 FROM 1 v WHERE 1 = 1)"}
+    "ALL": "1 < ALL (SELECT 1 FROM 1 v WHERE 1 = 1)", "NOT IN": "1 NOT IN (SELECT 1 FROM 1 v WHERE 1 = 1)",
+    "IS DECLINED": "m.1 IS DECLINED", "IS NOT DECLINED": "m.1 IS NOT DECLINED"}
 PART_TEXTS |= {ending: f"(1 = 1) {ending}" for ending in TRUTH_TESTS}
 
 
@@ -1418,7 +1584,7 @@ def check_parts(manual, ask, known):
     check_record_layout(manual, ask, known)
 
     tables = manual.tables(6, "Part", "Text", "Kind", "Comparison", "Table", "End", "Left", "Right")
-    same("the worked rules", [check_worked_rule(manual, ask, known, table) for table in tables], ["Rule C", "Rule E"])
+    same("the worked rules", [check_worked_rule(manual, ask, known, table) for table in tables], ["Rule C", "Rule E", "Rule N"])
     same("the kinds of parts in the header", kinds_in_header(), {number: kind.names[0].lower() for number, kind in part_kinds.items()})
 
 
@@ -1574,8 +1740,10 @@ class CommaReader:
 
     def __init__(self, manual):
         rows = {what: (some, written) for what, some, written in manual.table(8, "What", "Bytes", "Written").rows}
-        same("what comma lines are made of", list(rows), ["field", "minus", "digits", "comma", "LF", "CR LF"])
-        same("what a field is", rows["field"], ("", "a number, or nothing for a blank"))
+        same("what comma lines are made of", list(rows), ["field", "minus", "digits", "`!`", "comma", "LF", "CR LF"])
+        same("what a field is", rows["field"], ("", "a number, or nothing for a blank, or a `!` alone for a declined cell"))
+        same("what a ! is", rows["`!`"][1], "of a declined cell, alone in its field")
+        self.declined = from_hex(in_backticks(rows["`!`"][0]))
         self.minus, self.comma, self.lf, self.crlf = (from_hex(in_backticks(rows[what][0])) for what in ("minus", "comma", "LF", "CR LF"))
         first, last = re.fullmatch(r"`(..)` to `(..)`", rows["digits"][0]).groups()
         self.digits = bytes(range(from_hex(first)[0], from_hex(last)[0] + 1))
@@ -1598,13 +1766,17 @@ class CommaReader:
         low, high = self.digit_counts
         return low <= len(digits) <= high and not set(digits) - set(self.digits) and self.numbers[0] <= int(field) <= self.numbers[1]
 
+    def cell(self, field):
+        """The cell of a field that is not bad."""
+        return {b"": model.BLANK_CELL, self.declined: model.DECLINED_CELL}[field] if field in (b"", self.declined) else int(field)
+
     def rows(self, text, columns):
         """The rows of some lines; None where refusal 14 applies."""
         rows = [line.split(self.comma) for line in self.lines(text)]
-        good = all(len(row) == columns and all(not field or self.is_number(field) for field in row) for row in rows)
+        good = all(len(row) == columns and all(field in (b"", self.declined) or self.is_number(field) for field in row) for row in rows)
         if not good or not self.columns[0] <= columns <= self.columns[1]:
             return None
-        return [[int(field) if field else None for field in row] for row in rows]
+        return [[self.cell(field) for field in row] for row in rows]
 
     def imported(self, text, columns):
         """IMPORT's answer with room enough."""
@@ -1615,13 +1787,14 @@ class CommaReader:
             return model.Refused(15)
         cells = [cell for row in rows for cell in row]
         file = bytes([1, columns]) + len(rows).to_bytes(2, "little")
-        file += b"".join((cell or 0).to_bytes(4, "little", signed=True) for cell in cells) + bytes(cell is None for cell in cells)
+        file += b"".join((cell if isinstance(cell, int) else 0).to_bytes(4, "little", signed=True) for cell in cells) + bytes(map(model.mark_of, cells))
         same(f"the length of the file of {text[:40]}", len(file), worked_out(self.length, rows=len(rows), columns=columns))
         return file
 
     def exported(self, rows):
         """The lines that EXPORT writes of some rows."""
-        return b"".join(self.comma.join(b"" if cell is None else str(cell).encode() for cell in row) + self.lf for row in rows)
+        words = {"blank": b"", "declined": self.declined}
+        return b"".join(self.comma.join(words.get(word_of(cell), str(cell).encode()) for cell in row) + self.lf for row in rows)
 
 
 # what the manual names as bytes that no field may have
@@ -1631,15 +1804,22 @@ OTHER_BYTES = {"a space": b" ", "a quotation mark": b'"', "a plus": b"+", "a poi
 
 def check_other_bytes(manual, ask, reader):
     """Each byte in front of a number, in it and behind it: what is no digit, comma, minus or line end makes the field bad, and so does all that is named."""
-    named = manual.said(8, r"Any other byte makes the field that it stands in a bad one: (.*?)\. Nothing is cut off and nothing is skipped\.")
+    named, alone = manual.said(8, r"Any other byte makes the field that it stands in a bad one: (.*?)\. So does a `(.)` with any other byte of the field "
+                                  r"beside it, a second `!` included\. Nothing is cut off and nothing is skipped\.")
     same("the bytes that are named", re.split(r", (?:or )?", named), list(OTHER_BYTES))
+    same("the byte that has to be alone", alone.encode(), reader.declined)
+    for byte, form in itertools.product(set(BYTE_VALUES) - set(b",\n"), (b"!%b", b"%b!", b"!%b\n", b"%b!\r\n", b"!%b!", b"!\r%b")):
+        text = form % bytes([byte])
+        wanted = model.Refused(14) if not text.endswith(b"!\r\n") or len(text) > 3 else reader.imported(b"!", 1)
+        same(f"a field of {text}", ask.import_lines(text, 1, SMALL_ROOM), wanted)
+        COUNTS["bytes beside ! tried"] += 1
     for some in OTHER_BYTES.values():
         for field in (some, some + b"12", b"1" + some + b"2", b"12" + some):
-            same(f"a field of {field}", ask.import_lines(field, 1, AMPLE_FILE_ROOM), model.Refused(14))
+            same(f"a field of {field}", ask.import_lines(field, 1, SMALL_ROOM), model.Refused(14))
     for byte, form in itertools.product(BYTE_VALUES, (b"%b", b"%b12\n", b"1%b2\n", b"12%b\n", b"12%b")):
         for columns in (1, 2):
             text = form % bytes([byte])
-            same(f"{text} with {columns} columns", ask.import_lines(text, columns, AMPLE_FILE_ROOM), reader.imported(text, columns))
+            same(f"{text} with {columns} columns", ask.import_lines(text, columns, SMALL_ROOM), reader.imported(text, columns))
             COUNTS["bytes of fields tried"] += 1
 
 
@@ -1703,7 +1883,7 @@ def check_comma_limits(manual, ask, reader):
 # sentences of section 8 without numbers, which the reader above follows
 COMMA_SENTENCES = (
     "They are RFC 4180 without quotes, and without a header line.",
-    "A field is empty, which is a blank, or a number as in the text of a rule:",
+    "A field is empty, which is a blank, or a `!` alone, which is declined, or a number as in the text of a rule:",
     "A line is one field or more, with a comma between two. So a line has one field more than it has commas, "
     "and an empty line has one field, which is empty. A line ends in LF or in CR LF; a file may have both. The last line may have no line end. "
     "No line begins after the last line end: what stands behind it is a line only if it is not empty. A file without bytes has no lines.",
@@ -1730,7 +1910,8 @@ def lines_meanings(text, reader):
         for column, field in enumerate(line.split(reader.comma), 1):
             if column > 1:
                 yield len(reader.comma), "comma"
-            yield len(field), f"row {row}, column {column}: {with_minus(int(field)) if field else 'blank'}"
+            cell = reader.cell(field)
+            yield len(field), f"row {row}, column {column}: {word_of(cell) if model.counts_as_blank(cell) else with_minus(cell)}"
         text = text[len(line):]
         end = next((end for end in (reader.crlf, reader.lf) if text.startswith(end)), b"")
         if end:
@@ -1746,14 +1927,15 @@ def check_worked_lines(manual, ask, known):
     lines, file, again = examples
     for example in (lines, again):
         check_meanings(example, lines_meanings(example.whole, reader))
-    check_meanings(file, file_meanings(file.whole, "0, as the cell is blank"))
+    check_meanings(file, file_meanings(file.whole, "0, as the cell is {}"))
     known.update((example.name[-1], example.whole) for example in examples)
 
-    columns, rows = re.search(r"Three lines for (\d+) columns, with both line ends and none: (.*)\.", lines.about).groups()
-    said = [[None if cell == "blank" else whole_number(cell) for cell in row.split(", ")] for row in re.findall(r"\(([^)]*)\)", rows)]
+    columns, rows = re.search(r"Four lines for (\d+) columns, with both line ends and none: (.*)\.", lines.about).groups()
+    said = [[cell_of(cell) for cell in row.split(", ")] for row in re.findall(r"\(([^)]*)\)", rows)]
+    same("the sorts of cells in lines L", {word_of(cell) for row in said for cell in row}, set(MARK_WORDS.values()))
     same("the rows of lines L", reader.rows(lines.whole, int(columns)), said)
     ends = [meaning for _, meaning in lines.rows if "line end" in meaning]
-    same("the line ends of lines L", (len(said), ends, lines.whole[-1:] == reader.lf), (3, ["line end: CR LF", "line end: LF"], False))
+    same("the line ends of lines L", (len(said), ends, lines.whole[-1:] == reader.lf), (4, ["line end: CR LF", "line end: LF", "line end: LF"], False))
     same("what is said of file G", re.search(r"What IMPORT makes of lines ([A-Z]) with (\d+) columns: .* = (\d+) bytes", file.about).groups(),
          ("L", columns, str(len(file.whole))))
     same("IMPORT of L", ask.import_lines(lines.whole, int(columns), len(file.whole)), file.whole)
@@ -1783,6 +1965,8 @@ def lines_from(cell, known):
 MENDED_LINES = {
     "14 comes before 12": {"columns": 2}, "an empty line has one field": {"columns": 1}, "no columns": {"columns": 1}, "over 16 columns": {"columns": 16},
     "behind the comma there is a second field, which is empty": {"columns": 2}, "the second line has one field": {"\n9": "\n9,"},
+    "a number behind the `!`": {"7": ""}, "a `!` behind a number": {"!": ""}, "a minus in front of the `!`": {"-": ""}, "two of them in a field": {"!!": "!"},
+    "a space behind the `!`": {" ": ""},
     "one above the largest number": {"3648": "3647"}, "eleven digits": {"07": "7"}, "a minus without digits": {"-": "-1"}, "a plus": {"+": ""},
     "a point": {".0": ""}, "a space": {" ": ""}, "a semicolon": {";": ","}, "quotation marks": {'"': ""}, "a CR without an LF right behind it": {"\r": "\r\n"},
     "14 comes before 15": {"x": ""}}
@@ -1811,6 +1995,8 @@ WHY_LINES = {
     "the other line end": lambda lines, columns, room, answer: lines.endswith(b"\r\n"),
     "the second line is empty: one blank": lambda lines, columns, room, answer: model.tables_of(answer).rows[0][1:] == [[None]],
     "one line, which is empty": lambda lines, columns, room, answer: lines == b"\n" and model.tables_of(answer).rows == [[[None]]],
+    "one declined cell": lambda lines, columns, room, answer: model.tables_of(answer).rows == [[[model.DECLINED_CELL]]],
+    "declined, blank, declined": lambda lines, columns, room, answer: model.tables_of(answer).rows == [[[model.DECLINED_CELL, None, model.DECLINED_CELL]]],
     "two blanks": lambda lines, columns, room, answer: model.tables_of(answer).rows == [[[None, None]]],
     "the number 0": lambda lines, columns, room, answer: model.tables_of(answer).rows == [[[0]]],
     "the smallest number": lambda lines, columns, room, answer: model.tables_of(answer).rows == [[[LOWEST]]],
@@ -1826,7 +2012,7 @@ def comma_answer(cell, known):
     refusal, length = re.fullmatch(r"refusal (\d+)", cell), re.fullmatch(rf"({NUMBER}) bytes", cell)
     if refusal or length:
         return model.Refused(int(refusal[1])) if refusal else whole_number(length[1])
-    if cell in ("G", "F"):
+    if cell in ("G", "F", "H"):
         return known[cell]
     return from_hex(in_backticks(cell)) if re.fullmatch(r"`[0-9A-F]{2}( [0-9A-F]{2})+`", cell) else lines_from(cell, known)
 
@@ -1882,7 +2068,9 @@ WHY_FILES = {
     "no rows": lambda file, room, answer: answer == b"" and model.tables_of(file).rows == [[]],
     "one blank": lambda file, room, answer: model.tables_of(file).rows == [[[None]]],
     "the longest field": lambda file, room, answer: len(answer) == 12,
-    "the mark is 2; and 2 comes before 12": lambda file, room, answer: file[-1] == 2 and room == 0,
+    "nothing of the bytes under declined cells either": lambda file, room, answer: b"\7" in file and b"7" not in answer and answer.count(b"!") == 2,
+    "one declined cell": lambda file, room, answer: model.tables_of(file).rows == [[[model.DECLINED_CELL]]],
+    "the mark is 3; and 2 comes before 12": lambda file, room, answer: file[-1] == 3 and room == 0,
     "no tables": lambda file, room, answer: file == b"\0",
 }
 
@@ -1897,6 +2085,10 @@ SENTENCES = (
     (0, "A refusal is a number from # to #.", (min(roskudla.REASONS), max(roskudla.REASONS))),
     (0, "Where several refusals of a call apply, the first in the call's order in section # is given.", (7,)),
     (1, "A table without rows has no cells; its columns are still # to #.", (1, model.MOST_COLUMNS)),
+    (1, "The value bytes of a blank or declined cell may be anything and affect no answer.", ()),
+    (1, "A declined cell is blank in every respect. Wherever these pages speak of a blank cell, one with the mark # is covered too; "
+        "a plain blank is one with the mark #.", (model.MARK_DECLINED, model.MARK_BLANK)),
+    (1, "A form writes # where somebody was asked and refused to answer, and # where the answer is not known:", (model.MARK_DECLINED, model.MARK_BLANK)),
     (1, "Refusal #: T, the columns or the rows of a table, or C is not within these limits, or the length is not exactly this.", (1,)),
     (1, "Every call that takes a tables file looks for #, then for #, before anything else.", (1, 2)),
     (2, "The bytes of fields that a kind does not use are #.", (0,)),
@@ -1906,10 +2098,15 @@ SENTENCES = (
     (2, "the outermost row entry brings level #, a row entry inside it level #, and one inside that level #.", (1, 2, model.MOST_FROMS)),
     (2, "the first inner entry of entry i is entry i + #, and the second is the entry whose number is the end of the first.", (1,)),
     (2, "The end of an entry of kinds # to # is i + #, that of kinds # and # the end of its inner entry, "
-        "that of kinds # and # the end of its second inner entry, and that of entry # is n.", (5, 8, 1, 3, 4, 1, 2, 0)),
+        "that of kinds # and # the end of its second inner entry, and that of entry # is n.", (5, 10, 1, 3, 4, 1, 2, 0)),
     (3, "CHECK accepts a card exactly when all of these hold, and refuses any other bytes with #.", (9,)),
-    (3, "All four bytes of a constant are free, and a constant may stand wherever a value is used, in kinds # and # too.", (model.BLANK, model.NOT_BLANK)),
+    (3, "All four bytes of a constant are free, and a constant may stand wherever a value is used, in kinds # to # too.", (model.BLANK, model.NOT_DECLINED)),
     (4, "The answer of a card on a row of table # is that of entry #, with level # at that row.", (1, 0, 0)),
+    (4, "A constant is neither blank nor declined.", ()),
+    (4, "a row is a list of cells, a plain blank is None, and a declined cell is DECLINED. "
+        "No entry of a sound card can fail, so it makes no difference where a runner stops once the answer is decided.", ()),
+    (4, "A controller looks at the mark # in kinds # and # alone; in kinds # to # it takes a declined value for a blank one.",
+     (model.MARK_DECLINED, model.DECLINED, model.NOT_DECLINED, model.UNKNOWN_IS_NO, model.NOT_BLANK)),
     (4, "It refuses with the first of these that applies: # or #, by the tables file; #, the card is not sound; #, the card's T differs from the file's, "
         "or the columns of some table do (row counts, values and marks are free); #, the row is not in table #: "
         "its number is not below the rows of table #.", (1, 2, 9, 10, 11, 1, 1)),
@@ -1920,7 +2117,9 @@ SENTENCES = (
     (5, "`#` alone is an entry of kind #, and `#(x)` and `#(x, y)` are entries with their inner entries.", (5, 5, 3, 1)),
     (5, "Negating an entry replaces its kind, and in kinds # and # its comparison, by the number under Negated in section #,", (5, 6, 2)),
     (5, "What sections # to # say of cards is the same with truth tests as without: the kinds # to #, which cards are sound, what they answer, and the length",
-     (2, 4, model.PAIR_AND, model.NOT_BLANK)),
+     (2, 4, model.PAIR_AND, model.NOT_DECLINED)),
+    (5, "A controller from before knows neither:", ()),
+    (5, "After that forms may write declined cells, and rules may ask for them.", ()),
     (5, "Refusal #: n is over #.", (13, model.MOST_ENTRIES)),
     (5, "Rules without parts of kinds # and # never get it.", model.INNER_TWICE),
     (5, "With any later tables file that is not refused with # or # and has the same T and the same columns,", (1, 2)),
@@ -1928,6 +2127,8 @@ SENTENCES = (
     (5, "Entry # is the negated WHERE, entry # the comparison with the selected value.", (2, 3)),
     (6, "so compare parts field by field; see # in [DECISIONS.md]", (29,)),
     (6, "Fields that a kind does not use are #. In kinds # and # the right value is the selected one,", (0, model.KIND_SOME, model.KIND_ALL)),
+    (6, "brackets are none, and the NOT of IS NOT NULL, of IS NOT DECLINED, of NOT IN and of a truth test belongs to its test.", ()),
+    (6, "The first NOT is a part; the second one belongs to IS NOT DECLINED.", ()),
     (6, "A truth test is one part, of kinds # to #; the condition in its brackets is its inner part.", (model.KIND_IS_TRUE, model.KIND_IS_NOT_UNKNOWN)),
     (6, "The names and the inner parts of the kinds are in the table of section #.", (5,)),
     (6, "The list's letter is `m` again, so `m.#` is level # left of the list, and level # in SELECT and WHERE.", (1, 0, 1)),
@@ -1937,24 +2138,26 @@ SENTENCES = (
     (8, "IMPORT makes a tables file with this single table, and EXPORT writes table # of a tables file.", (1,)),
     (8, "and `-#` is #.", (0, 0)),
     (8, "Line r, counted from #, becomes row r of table #, and field c of it, counted from #, column c.", (0, 1, 1)),
-    (8, "A cell has the mark # and its number, or the mark # and # as its value where it is blank. There are no other tables, so T is #.", (0, 1, 0, 1)),
+    (8, "A cell has the mark # and its number, or the mark # and # as its value where it is blank, "
+        "or the mark # and # as its value where it is declined. There are no other tables, so T is #.", (0, 1, 0, 2, 0, 1)),
     (8, "It is never refused with # or #.", (1, 2)),
-    (8, "Refusal #: the number of columns is not # to #, a field is neither empty nor a number, "
+    (8, "Refusal #: the number of columns is not # to #, a field is neither empty nor a `!` alone nor a number, "
         "or a line has fewer or more fields than there are columns. Refusal #: there are over", (14, 1, model.MOST_COLUMNS, 15)),
     (8, "Refusal #: the lent buffer has fewer bytes than the file. They are tried in this order,", (12,)),
     (8, "writes a line with LF behind it for each row of table #: its fields by column,", (1,)),
-    (8, "has no zeros in front and no plus, and # is written `#`; a blank is an empty field.", (0, 0)),
+    (8, "has no zeros in front and no plus, and # is written `#`; a blank is an empty field, and a declined cell is `!`.", (0, 0)),
     (8, "Other tables are left out, and must be right: # and # are looked for in the whole file.", (1, 2)),
     (8, "Refusal #: the lent buffer has fewer bytes than the lines.", (12,)),
     (8, "with the number of columns of table #, gives a tables file with table # alone: the same cells and the same marks, "
-        "with # as the value under each blank.", (1, 1, 0)),
+        "with # as the value under each blank and each declined cell.", (1, 1, 0)),
 )
 
 
 def check_sentences(manual):
     for section, sentence, numbers in SENTENCES:
         pattern = re.escape(sentence).replace(r"\#", r"(\d+)")
-        same(f"section {section}: {sentence}", manual.numbers_said(section, pattern), list(numbers))
+        said = manual.numbers_said(section, pattern) if numbers else [manual.said(section, pattern)][1:]
+        same(f"section {section}: {sentence}", said, list(numbers))
     COUNTS["sentences with numbers"] = len(SENTENCES)
 
 

@@ -1,6 +1,7 @@
-"""README.md's code, run with the library as built: it prints what stands behind it; and the number of calls that it says, against the header.
+"""README.md's code, run with the library as built: it prints what stands behind it; the number of calls that it says, against the header; and the points in
+force, against CHANGELOG.md.
 
-Exit status 0 when both agree.
+Exit status 0 when all agree.
 """
 import pathlib
 import re
@@ -16,6 +17,7 @@ import library  # noqa: E402
 
 README = ROOT / "README.md"
 HEADER = ROOT / "include" / "roskudla.h"
+CHANGES = ROOT / "CHANGELOG.md"
 COUNTS = "zero one two three four five six seven eight nine ten".split()
 
 
@@ -40,16 +42,23 @@ def check_count(text):
     compare.same("the gate's calls", re.findall("[A-Z]+", gate), ["CHECK", "RUN", "LIST"])
 
 
+def check_points(text):
+    """The points of document 02 that are in force are those whose changes are noted."""
+    first, last = map(int, re.search(r"document 02, of which Points (\d+) to (\d+) are in force", " ".join(text.split())).groups())
+    noted = [int(number) for number in re.findall(r"(?m)^## Point (\d+): ", CHANGES.read_text())]
+    compare.same("the points in force", list(range(first, last + 1)), noted)
+
+
 def main():
     text, failed = README.read_text(), 0
     library.load("roskudla")  # which builds it
-    for check in (check_code, check_count):
+    for check in (check_code, check_count, check_points):
         try:
             check(text)
         except Exception as error:  # what a check needs is missing in the text: a failure too
             failed = 1
             print(f"README.md: {check.__name__}: {error!r}", file=sys.stderr)
-    print(f"README.md: {'its code and its number of calls agree' if not failed else 'not so'}")
+    print(f"README.md: {'its code, its number of calls and its points agree' if not failed else 'not so'}")
     return failed
 
 

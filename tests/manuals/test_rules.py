@@ -8,6 +8,8 @@ The manual is plain Markdown. What this program finds in it:
 - a fenced block `lines`: comma lines, of which the tables file is made that the examples behind it are tried with; and `exported`: the comma lines of that file
 - a table whose first column is "Row": the rows of that file, or for each of its lines what a rule says of it and what the gate does
 - a table whose first column is "Lines": comma lines, and how many rows they have or what they are refused with; `lines_of` says how they are written
+- a table whose first column is "Cell": what the tests of a value and comparisons say of such a cell, and one whose first column is "At the sign-up form": which
+  cell, mark and field a form writes
 - indented code that begins with an import of the wrapper: it is run, on files that are put there for it
 - a table with a column "Rule": an example in each line, and what is tried of it in the other columns (RULE_COLUMNS); `text_of` says how an example is written.
   What an explanation there says to write is a rule, and is accepted
@@ -49,22 +51,27 @@ DRAWN_CONDITIONS = 150
 DRAWN_LINES = 400
 AMPLE_FILE_ROOM = 65000
 AMPLE_COMMA_ROOM = 100000
+ONE_ROW_ROOM = 4 + 5 * model.MOST_COLUMNS
+DRAWN_DECLINED = 120
 TRUTHS = {"T": model.TRUE, "U": model.UNKNOWN, "F": model.FALSE}
 TESTS = {"T": "1 = 1", "U": "m.1 = 1", "F": "1 = 2"}  # with these values where m.1 is blank
 NUMBERS = {letter: number for number, truth in library.TRUTHS.items() for letter in TRUTHS if TRUTHS[letter] == truth}  # of the letters, as JUDGE gives them
 TRUTH_TESTS = tuple(f"IS{' NOT' * has_not} {word}" for word in model.TRUTH_WORDS for has_not in (False, True))
 READING_REFUSALS = (*range(1, 9), 13)
+VALUE_TESTS = tuple(f"IS{' NOT' * has_not} {word}" for word in ("NULL", "DECLINED") for has_not in (False, True))
+LOWEST, HIGHEST = -2**31, 2**31 - 1
 
 # how many examples of each sort a section has to have; every section stands here
 AT_LEAST = {
     "Start": {"values": 4},
-    "How a rule is written": {"tokens": 26, "answers": 19, "grammar": 1, "readings": 11, "limits": 8, "parts": 10, "entries": 10, "hints": 6},
+    "How a rule is written": {"tokens": 27, "answers": 31, "grammar": 1, "readings": 13, "limits": 8, "parts": 12, "entries": 12, "hints": 13},
     "Blanks": {"values": 28, "cases": 12, "connectives": 21, "connectives as numbers": 21, "lists": 42, "truth tests": 18},
+    "Declined answers": {"cells": 28, "constants": 14, "values": 23, "forms": 5},
     "NOT IN with a blank in the list": {"values": 8},
     "Blanks that IS UNKNOWN does not find": {"values": 8, "worked rows": 5},
-    "Refusals": {"refusals": 15, "answers": 53, "written instead": 11, "hints": 1, "same values": 5},
-    "Rules ready to use": {"ready rules": 6, "values": 11},
-    "From a spreadsheet to a tables file": {"lines": 1, "rows of lines": 3, "lengths": 1, "comma lines": 33, "faults": 26},
+    "Refusals": {"refusals": 15, "answers": 54, "written instead": 11, "hints": 1, "same values": 5},
+    "Rules ready to use": {"ready rules": 7, "values": 17},
+    "From a spreadsheet to a tables file": {"lines": 1, "rows of lines": 4, "lengths": 1, "comma lines": 38, "faults": 30},
     "A page of the till's file worked through": {
         "lines": 1, "rows of lines": 6, "lengths": 1, "ready rules": 1, "rows at the gate": 6, "listed": 1, "values": 3, "exported": 1},
 }
@@ -113,9 +120,9 @@ class Model:
         """JUDGE on each row of table 1."""
         return [model.judge(text, file, row) for row in range(cases.row_count(file))]
 
-    def admitted(self, text, file):
-        """LIST with the card of a rule."""
-        return list(model.list_rows(model.card(text, file, end_to_end.LONGEST_CARD), file, model.MOST_ROWS))
+    def admitted(self, text, file, later=None):
+        """LIST with the card of a rule, and with these tables or later ones."""
+        return list(model.list_rows(model.card(text, file, end_to_end.LONGEST_CARD), later or file, model.MOST_ROWS))
 
     import_lines = staticmethod(model.import_lines)
     export_lines = staticmethod(model.export_lines)
@@ -169,9 +176,9 @@ class Library:
             rule.list_rows(file, values)
         return values
 
-    def admitted(self, text, file):
+    def admitted(self, text, file, later=None):
         length, card = self.rules.card(text, file, cases.lent("CARD", end_to_end.LONGEST_CARD))
-        count, rows = self.gate.list_rows(bytes(card[:length]), file, cases.lent("LIST", model.MOST_ROWS))
+        count, rows = self.gate.list_rows(bytes(card[:length]), later or file, cases.lent("LIST", model.MOST_ROWS))
         return list(rows[:count])
 
     def import_lines(self, lines, columns, room):
@@ -327,8 +334,9 @@ def truth_from(cell):
 
 
 def cell_from(written):
-    """A cell of a table: a number, or None for a blank."""
-    return None if written == "blank" else number_from(written)
+    """A cell of a table, as the model has it: a number, blank or declined."""
+    words = {"blank": model.BLANK_CELL, "declined": model.DECLINED_CELL}
+    return words[written] if written in words else number_from(written)
 
 
 def table_from(line, number):
@@ -347,6 +355,11 @@ def tables_from(fence):
     """The tables file that a block describes: a line for each table, which goes on where the next line is indented."""
     lines = re.sub(r"\n +", " ", "\n".join(fence.lines)).split("\n")
     return generate.tables_file([table_from(line, number) for number, line in enumerate(lines, 1)])
+
+
+def one_cell(cell):
+    """A tables file with one cell."""
+    return generate.tables_file([(1, [[cell]])])
 
 
 def code_in(cell):
@@ -429,7 +442,39 @@ DECIDES_SENTENCE = (
     r"the same whatever that test is\.")
 NEVER_UNKNOWN_SENTENCES = (
     "`(EXISTS (FROM ..)) IS UNKNOWN` is always false",
-    "So is `IS UNKNOWN` behind every condition that has only `EXISTS`, `IS NULL`, `IS NOT NULL` and truth tests, with `AND`, `OR` and `NOT`.")
+    "So is `IS UNKNOWN` behind every condition that has only `EXISTS`, `IS NULL`, `IS NOT NULL`, `IS DECLINED`, `IS NOT DECLINED` and truth tests, "
+    "with `AND`, `OR` and `NOT`.")
+# what is said of declined cells: in `try_blank_in_every_respect`, and in `try_declined_sentences`
+SAME_AS_BLANK_SENTENCES = (
+    "A cell is declined where somebody was asked and refused to answer. It is blank in every respect, and two tests tell it from other blanks:",
+    "A declined cell is blank too, so all that is said of blanks here is said of declined cells as well.",
+    "**A declined cell is blank in every respect**: `IS NULL` is true of it, a comparison with it is unknown, whatever stands on the other side, "
+    "and `NOT` keeps that unknown. So wherever this manual speaks of a blank, a declined cell is meant too. A plain blank is one that is not declined.",
+    "A rule without the word `DECLINED` has the same value with a declined cell as with a plain blank in its place. "
+    "So a rule or a card from before there were declined cells means what it meant, and takes each of them for a blank.")
+DECLINED_SENTENCES = (
+    "A cell holds a whole number, or is blank, or is declined.",
+    "rows, numbers, blanks and declined cells may change later, and the card stays right.",
+    "They are true or false, and never unknown. A plain blank is not declined, and a number is never declined, whether a cell holds it or the rule has it.",
+    "But **`IS NULL` admits both blanks**. Where the plain blank is to pass and the declined one is not, add `IS NOT DECLINED` by `AND`. "
+    "Truth tests, what `OR` joins, and the `WHERE` of a `NOT EXISTS`, of an `ALL` and of a `NOT IN` can open the gate for a declined cell as for any blank.",
+    "Whoever asks for an answer writes `m.3 IS NOT NULL`, or compares.",
+    "Write blank where nobody knows the answer, and declined only where somebody was asked and refused.",
+    "A form may write a declined cell over a blank or a number, and the other way round: cards stay right. "
+    "Before the first form writes one, every gate's controller has to take declined cells.")
+CONSTANT_SENTENCE = r"`([^`]*)` is always (true|false), and `([^`]*)` always (true|false)\."
+SHUT_SENTENCE = r"A rule which must not admit those who declined needs nothing special where a comparison, joined by `AND`, asks for the answer: `([^`]*)` is (\w+) for them, and the gate stays shut\."
+NOT_SENTENCE = (
+    r"\*\*`([^`]*)` does not ask for an answer\.\*\* It has the same values as `([^`]*)`, and is true for plain blanks as well\.")
+MARKS_CELL = r"a mark in the tables file is above (\d+); (\d+) says that a cell is present, (\d+) that it is blank, (\d+) that it is declined"
+FIELDS_CELL = (
+    r"comma lines: a field is neither a number nor empty nor a `(.)` alone \(`(.)` is a declined cell, and `(.+?)` is refused\), "
+    r"a line has fewer or more fields than there are columns, or the columns are not 1 to 16")
+OLD_CONTROLLER_SENTENCE = r"A controller from before refuses the whole tables file with (\d+), and keeps its gate shut for everybody;"
+# what happened at the sign-up form, and the cell that it writes
+FORM_CELLS = {
+    "answered with 1": 1, "not asked yet": model.BLANK_CELL, "asked, and not answered": model.BLANK_CELL,
+    "the answer is unknown, or was lost": model.BLANK_CELL, "asked, and refused to answer": model.DECLINED_CELL}
 SPLIT_SENTENCES = (
     "with `IS NOT FALSE`, which adds no entries: the condition is unknown exactly where the first card says no and the second says yes.",
     "with `IS UNKNOWN` behind them it is true where the rule is unknown, and with `IS FALSE` where the rule is false. "
@@ -443,7 +488,7 @@ OWN_LINE_SENTENCES = (
 # what the examples of comma lines show, in sentences
 SHEET_SENTENCES = (
     "IMPORT makes a tables file of such lines, in which this table is table 1 and the only one.",
-    "the age of the second and the visits of the third are blank:",
+    "the age of the second and the visits of the third are blank, and the fourth has declined to give an age:",
     "A rule may go over the rows of table 1 with `FROM 1`; with this file a rule that names table 2 is refused with 8.",
     "The first line is row 0.",
     "**Yes and no as `1` and `0`.**",
@@ -454,8 +499,10 @@ SHEET_SENTENCES = (
     "In the rules the columns are then `m.1`, `m.2` and so on, from the left.",
     "From Python, with a sheet of 3 columns that was saved as `members.csv`:",
     "This makes the tables file, and then writes the lines of its table 1 to a file,",
-    "`export_lines` writes the same cells, each number without zeros in front, and a line feed behind each line.",
-    "Refusal 14 says that a cell is neither a plain number nor empty, that a line does not have as many cells as there are columns, "
+    "`export_lines` writes the same cells, each number without zeros in front, a declined cell as `!`, and a line feed behind each line.",
+    "Write it where somebody was asked and refused to answer, and leave the cell empty where the answer is not known:",
+    "then for anything but digits, minus, commas and a `!` alone.",
+    "Refusal 14 says that a cell is neither a plain number nor empty nor a `!` alone, that a line does not have as many cells as there are columns, "
     "or that the number of columns is not 1 to 16. Refusal 15 says that there are over",
     "All lines are looked at for 14 before 15, and neither says in which line the fault is.",
     "The zeros in front of the member numbers are gone, and all else is as it was:")
@@ -501,6 +548,10 @@ FAULTS = {
     "the same": (b"2026-06-15", b"20260615"),
     "a word for a blank": (b"NULL", b"\n"),
     "a dash for a blank": (b"-", b"\n"),
+    "a `!` beside a number": (b"!34", b"!"),
+    "a quoted `!`": (b'"', b""),
+    "a space beside the `!`": (b" ", b""),
+    "a word for a declined answer": (b"declined", b"!"),
     "a plus": (b"+", b""),
     "one above the largest number": (b"3648", b"3647"),
     "eleven digits": (b"00000000005", b"0000000005"),
@@ -510,8 +561,8 @@ FAULTS = {
     "both 14 and 15, of which 14 comes first": (b"x", b""),
 }
 # what the files that the manual's code reads are, and what it prints and writes
-MEMBERS = b"101,34,8\r\n102,,3\r\n00103,16,"
-BAD_MEMBERS = b"member,age,visits\n101,34,8\n102,,3\n103,16\n104, ,8"
+MEMBERS = b"101,34,8\r\n102,,3\r\n0104,!,5\r\n00103,16,"
+BAD_MEMBERS = b"member,age,visits\n101,34,8\n102,,3\n103,16\n104, ,8\n105,!,5\n106,!5,1"
 
 
 def mended(why, lines, columns):
@@ -528,7 +579,7 @@ def mended(why, lines, columns):
 
 # words of SQL that a rule might be thought to have
 SQL_WORDS = (
-    "ANY BETWEEN LIKE DECLINED DISTINCT UNIQUE OVERLAPS MATCH UNION EXCEPT INTERSECT GROUP BY HAVING ORDER ASC DESC COUNT SUM MIN MAX "
+    "ANY BETWEEN LIKE DECLINE REFUSED BLANK DISTINCT UNIQUE OVERLAPS MATCH UNION EXCEPT INTERSECT GROUP BY HAVING ORDER ASC DESC COUNT SUM MIN MAX "
     "AVG CASE WHEN THEN ELSE END CAST COALESCE NULLIF VALUES TABLE JOIN ON USING AS CROSS INNER OUTER LEFT RIGHT FULL NATURAL LIMIT DATE CURRENT XOR").split()
 
 
@@ -649,14 +700,14 @@ EXPLANATIONS = ("In words", "Why", "Why, and what to do")
 
 
 def never_unknown(draw, maker, size):
-    """Tokens of a condition of EXISTS, IS NULL, IS NOT NULL and truth tests, whatever is inside them, joined by AND, OR and NOT."""
+    """Tokens of a condition of EXISTS, tests of a value and truth tests, whatever is inside them, joined by AND, OR and NOT."""
     scope = [("m", 1)]
-    sort = draw.choice(("exists", "exists", "null", "truth", "not", "pair", "pair") if size > 1 else ("exists", "exists", "null", "truth"))
+    sort = draw.choice(("exists", "exists", "value", "truth", "not", "pair", "pair") if size > 1 else ("exists", "exists", "value", "truth"))
     if sort == "exists":
         source, inner_scope = maker.row_source(scope)
         return ["EXISTS", "("] + source + maker.condition(inner_scope, draw.choice([1, 2]), 1) + [")"]
-    if sort == "null":
-        return maker.value(scope) + draw.choice([["IS", "NULL"], ["IS", "NOT", "NULL"]])
+    if sort == "value":
+        return maker.value(scope) + draw.choice(VALUE_TESTS).split()
     if sort == "truth":
         return ["("] + maker.condition(scope, draw.choice([1, 2]), 1) + [")"] + generate.truth_ending(draw)
     if sort == "not":
@@ -677,10 +728,11 @@ class Manual:
         self.most, self.refused, self.fronts, self.numbers, self.bracketed, self.order = {}, set(), set(), set(), set(), []
         self.worked_row, self.worked_rows = None, []
         self.lines, self.last_rule, self.mended = b"", b"", set()
+        self.cell_marks, self.forms = set(), []
         self.sorts = {
             "Token": self.try_tokens, "Limit": self.try_limits, "In front": self.try_connectives, "In front, as a number": self.try_numbers,
             "In the brackets": self.try_truth_tests, "Values in the list": self.try_lists, "Row of table 2": self.try_worked_rows, "Refusal": self.try_refusals,
-            "Lines": self.try_comma_lines}
+            "Lines": self.try_comma_lines, "Cell": self.try_cells, "At the sign-up form": self.try_forms}
 
     def fault(self, line, what):
         self.faults.append(f"{NAME}:{line}: {what}")
@@ -692,7 +744,7 @@ class Manual:
             example(*arguments)
         except (Fault, compare.Disagreement, library.OutsideWritten) as error:
             self.fault(line, str(error))
-        except (LookupError, TypeError, ValueError, model.Refusal) as error:
+        except (LookupError, TypeError, ValueError, AttributeError, model.Refusal) as error:
             self.fault(line, f"cannot be tried: {error!r}")
 
     def each(self, what, answer, wanted):
@@ -728,6 +780,8 @@ class Manual:
         self.tried(1, "sentences", self.try_day_numbers)
         self.tried(1, "sentences", self.try_own_lines)
         self.tried(1, "sentences", self.try_sheet_sentences)
+        self.tried(1, "sentences", self.try_blank_in_every_respect)
+        self.tried(1, "sentences", self.try_declined_sentences)
         self.tried(1, "code", self.try_code)
         for target in re.findall(r"\]\(([^)]+)\)", self.text):
             self.tried(1, "links", self.try_link, target)
@@ -1030,8 +1084,103 @@ class Manual:
         self.order.append(number)
         if not cells["When"] or not cells["What to do"]:
             raise Fault("it is not said when, or what to do")
+        if number == 2:
+            self.try_marks(cells["When"])
+        if number == 14:
+            self.try_fields(cells["When"])
         if number not in READING_REFUSALS:
             self.each(f"example of {number}", lambda judge: judge.beyond_reading()[number], number)
+
+    # ---- declined cells
+
+    def try_cells(self, line, cells):
+        """What a heading says of a cell: a test of a value, or a comparison, or this with NOT before it; a number is tried in a cell and in the rule."""
+        cell = cell_from(cells["Cell"])
+        endings = {f"`{ending}`": f"{{}} {ending}" for ending in (*VALUE_TESTS, "= 5", "<> 5")} | {"`NOT` with `= 5`": "NOT {} = 5"}
+        if set(cells) - {"Cell"} != set(endings):
+            self.fault(line, f"not the four tests of a value and the comparisons: {sorted(cells)}")
+        for heading, form in endings.items():
+            for value in ["m.1"] + [str(cell)] * isinstance(cell, int):
+                self.tried(line, "cells" if value == "m.1" else "constants", self.values, form.format(value).encode(), one_cell(cell), [cells.get(heading)])
+        self.cell_marks.add(model.mark_of(cell))
+
+    def try_forms(self, line, cells):
+        self.tried(line, "forms", self.try_form, cells)
+
+    def try_form(self, cells):
+        """What a form writes: the cell, its mark in a tables file, and its field in comma lines, of which IMPORT makes this cell and this mark."""
+        cell, field = cell_from(cells["The cell is"]), cells["Field in comma lines"]
+        compare.same(f"the cell where somebody {cells['At the sign-up form']}", cell, FORM_CELLS[cells["At the sign-up form"]])
+        lines = (b"" if field == "empty" else code_in(field)[0].encode()) + b"\n"
+        for judge in self.judges:
+            file = judge.import_lines(lines, 1, AMPLE_FILE_ROOM)
+            compare.same(f"{lines} by {judge.name}", (model.tables_of(file).rows, file[-1]), ([[[cell]]], int(cells["Mark in a tables file"])))
+            compare.same(f"the lines of {file}", judge.export_lines(file, AMPLE_COMMA_ROOM), lines)
+        self.forms.append(cells["At the sign-up form"])
+
+    def try_marks(self, written):
+        """Every mark: it says what it is said to, or is refused."""
+        above, *marks = map(int, re.fullmatch(MARKS_CELL, written).groups())
+        letters = dict(zip(marks, (("F", "F"), ("T", "F"), ("T", "T"))))
+        for mark in range(256):
+            file = one_cell(0)[:-1] + bytes([mark])
+            self.answers(b"1 = 1", file, 2 if mark > above else None)
+            if mark <= above:
+                for ending, letter in zip(("NULL", "DECLINED"), letters[mark]):
+                    self.values(f"m.1 IS {ending}".encode(), file, [letter])
+
+    def try_fields(self, written):
+        """The field of a declined cell, and one that is refused."""
+        alone, declined, refused = re.fullmatch(FIELDS_CELL, written).groups()
+        compare.same("the field of a declined cell", declined, alone)
+        self.each(declined, lambda judge: model.tables_of(judge.import_lines(declined.encode(), 1, AMPLE_FILE_ROOM)).rows, [[[model.DECLINED_CELL]]])
+        self.each(refused, lambda judge: refusal_in(judge.import_lines(refused.encode(), 1, AMPLE_FILE_ROOM)), 14)
+        compare.same(f"{refused} has a declined cell in it, and more", (alone in refused, refused != alone), (True, True))
+
+    def try_blank_in_every_respect(self):
+        """Comparisons with a declined cell, on either side, and drawn rules without DECLINED on drawn tables: their values are those with plain blanks."""
+        self.said_once(SAME_AS_BLANK_SENTENCES)
+        others = [model.DECLINED_CELL, model.BLANK_CELL, LOWEST, 0, 5, HIGHEST]
+        file = generate.tables_file([(2, [[model.DECLINED_CELL, other] for other in others])])
+        for sign, before in itertools.product(self.comparisons, ("", "NOT ")):
+            for text in (f"{before}m.1 {sign} m.2", f"{before}m.2 {sign} m.1", f"{before}m.1 {sign} 5", f"{before}0 {sign} m.1"):
+                self.values(text.encode(), file, "U" * len(others))
+        self.values(b"m.1 IS NULL", file, "T" * len(others))
+        draw, seen = random.Random(SEED), collections.Counter()
+        maker = generate.RuleMaker(draw, [2, 1, 1], truths=.15, even=True, declined=0)
+        for _ in range(DRAWN_DECLINED):
+            text = generate.spaced(draw, maker.rule(draw.choice([1, 2, 3])))
+            file = generate.filled_tables(draw, [(2, 3), (1, 2), (1, 1)], .5, .5)
+            plain = generate.with_marks(file, {model.MARK_DECLINED: model.MARK_BLANK})
+            for judge in self.judges:
+                values = judge.values(text, plain)
+                compare.same(f"{text} with declined cells, by {judge.name}", judge.values(text, file), values)
+                compare.same(f"the rows of the card of {text}, by {judge.name}", judge.admitted(text, plain, file), judge.admitted(text, plain))
+                seen.update(values if file != plain else ())
+        compare.same("the values of drawn rules", set(seen), set(TRUTHS.values()))
+
+    def try_declined_sentences(self):
+        """What is said of the two tests: of constants, with NOT before them, beside comparisons, and of a controller from before."""
+        self.said_once(DECLINED_SENTENCES)
+        whole, draw = " ".join(self.text.split()), random.Random(SEED)
+        file = generate.tables_file([(3, [[cell] * 3 for cell in (model.DECLINED_CELL, model.BLANK_CELL, 0, 1)])])
+        one, letter, other, other_letter = re.search(CONSTANT_SENTENCE, whole).groups()
+        for text, said in ((one, letter), (other, other_letter)):
+            self.values(text.encode(), file, said[0].upper() * 4)
+        comparison, said = re.search(SHUT_SENTENCE, whole).groups()
+        self.each(comparison, lambda judge: judge.values(comparison.encode(), file)[0], getattr(model, said.upper()))
+        self.each(comparison, lambda judge: judge.admitted(comparison.encode(), file), [3])
+        negated, same = re.search(NOT_SENTENCE, whole).groups()
+        for text in (negated, same):
+            self.values(text.encode(), file, "FTTT")
+        drawn = [generate.filled_tables(draw, [(3, 9)], .6, .5) for _ in range(LATER_FILES)]
+        for judge, later in itertools.product(self.judges, drawn):
+            compare.same(f"{negated} and {same}", judge.values(negated.encode(), later), judge.values(same.encode(), later))
+            for text in (negated, same, comparison, "m.1 IS DECLINED OR m.2 > 0"):
+                wanted = [row for row, value in enumerate(judge.values(text.encode(), later)) if value == model.TRUE]
+                compare.same(f"the card of {text} on other cells", judge.admitted(text.encode(), file, later), wanted)
+        refusal = int(re.search(OLD_CONTROLLER_SENTENCE, whole)[1])
+        self.each("a mark above the highest", lambda judge: judge.refusal(b"1 = 1", one_cell(0)[:-1] + b"\3"), refusal)
 
     # ---- comma lines
 
@@ -1099,6 +1248,8 @@ class Manual:
                 compare.same(f"{written} instead", refusal_in(judge.import_lines(written.encode(), columns, AMPLE_FILE_ROOM)), None)
             for other in re.findall(r"\bname (\d+)", why):
                 compare.same(f"{other} columns", refusal_in(judge.import_lines(lines, int(other), AMPLE_FILE_ROOM)), None)
+            if why == "the age is declined":
+                compare.same(cells["Lines"], model.tables_of(answer).rows, [[[101, model.DECLINED_CELL, 8]]])
         for count in re.findall(r"^([\d,]+) cells", why):
             compare.same("how many cells there are", number_from(count), lines.count(b"\n") * columns)
 
@@ -1144,7 +1295,7 @@ class Manual:
             if not 1 <= columns <= model.MOST_COLUMNS:
                 continue
             for judge in self.judges:
-                alone = {refusal_in(judge.import_lines(line, columns, AMPLE_FILE_ROOM)) for line in io.BytesIO(lines)}
+                alone = {refusal_in(judge.import_lines(line, columns, ONE_ROW_ROOM)) for line in io.BytesIO(lines)}
                 whole = refusal_in(judge.import_lines(lines, columns, AMPLE_FILE_ROOM))
                 compare.same(f"{lines} with {columns} columns", (whole == 14, 15 in alone), (14 in alone, False))
                 seen[whole] += 1
@@ -1165,7 +1316,10 @@ class Manual:
         compare.same("a member of whom only the number is known", taken(line, int(columns)), [[int(line.strip(","))] + [None] * (int(columns) - 1)])
         zero, *texts = re.search(r"no `(.)`, which is a number, and no `(.)`, `(\w+)` or (space)\.", whole).groups()
         compare.same("a number that is not blank", taken(zero), [[0]])
-        for text in [*texts[:-1], " ", re.search(r"a pass called `(\w+)`, needs a number", whole)[1]]:
+        compare.same("a declined answer", taken("!"), [[model.DECLINED_CELL]])
+        texts[-1:] = re.search(
+            r"\*\*A `!` alone for a declined answer\.\*\* Nothing else stands in the cell: no `(!\d)`, `(!!)`, `(\w+)` or space\.", whole).groups()
+        for text in [*texts, " ", "! ", re.search(r"a pass called `(\w+)`, needs a number", whole)[1]]:
             self.each(text, lambda judge: refusal_in(judge.import_lines(text.encode(), 1, AMPLE_FILE_ROOM)), 14)
         table, refusal = re.search(r"with this file a rule that names table (\d+) is refused with (\d+)\.", whole).groups()
         self.answers(b"EXISTS (FROM %b v WHERE 1 = 1)" % table.encode(), self.file, int(refusal))
@@ -1195,9 +1349,9 @@ class Manual:
         compare.same("the card", files["card.bin"], model.card(rule, self.first_file, end_to_end.LONGEST_CARD))
         printed, files = examples.run_code(sheet, {"members.csv": MEMBERS})
         compare.same("the tables file of a sheet", files["tables.bin"], model.import_lines(MEMBERS, 3, AMPLE_FILE_ROOM))
-        compare.same("the lines of the tables file", files["again.csv"], b"101,34,8\n102,,3\n103,16,\n")
+        compare.same("the lines of the tables file", files["again.csv"], b"101,34,8\n102,,3\n104,!,5\n103,16,\n")
         printed, _ = examples.run_code(faults, {"members.csv": BAD_MEMBERS})
-        bad = [(row, line) for row, line in enumerate(io.BytesIO(BAD_MEMBERS)) if row in (0, 3, 4)]
+        bad = [(row, line) for row, line in enumerate(io.BytesIO(BAD_MEMBERS)) if row in (0, 3, 4, 6)]
         compare.same("the lines with faults", printed, "".join(f"{row} {line}\n" for row, line in bad))
         compare.same("the lines of a right sheet", examples.run_code(faults, {"members.csv": MEMBERS})[0], "")
 
@@ -1205,13 +1359,14 @@ class Manual:
 
     def try_grammar(self, lines):
         """Drawn conditions of the manual's grammar are conditions, those of the tests' own generator are in the manual's grammar, and of damaged ones
-        exactly those that are not in it are refused with 6; those with a truth test in a wrong place are not in it."""
+        exactly those that are not in it are refused with 6; those with a truth test or DECLINED in a wrong place are not in it."""
         grammar, draw = Grammar(lines, self.comparisons), random.Random(SEED)
         makers = [generate.RuleMaker(draw, [2, 1, 1], truths=truths) for truths in (0, .25)]
+        faults = itertools.cycle((generate.misplaced_truth, generate.misplaced_truth, generate.misplaced_declined))
         seen = collections.Counter()
         for _ in range(DERIVED_TEXTS):
             own, made = grammar.derived(draw, "condition", draw.randint(4, 12)), draw.choice(makers).rule(draw.choice([1, 2, 3, 4]))
-            misplaced = generate.misplaced_truth(draw, [2, 1, 1])
+            misplaced = next(faults)(draw, [2, 1, 1])
             for sort, tokens in (("own", own), ("made", made), ("damaged", damaged(draw, own)), ("damaged", damaged(draw, made)), ("misplaced", misplaced)):
                 if len(tokens) > 60:
                     continue
@@ -1223,11 +1378,13 @@ class Manual:
                         raise Fault(f"{text}: {judge.name} says {refusal}, and by the manual it is {'a' if in_grammar else 'no'} condition")
                 seen[sort, in_grammar] += 1
                 seen.update((sort, "truth test") for word in model.TRUTH_WORDS if in_grammar and word in tokens)
+                seen[sort, "DECLINED"] += in_grammar and "DECLINED" in tokens
         compare.same("conditions that the manual's own grammar does not hold", seen["own", False], 0)
         compare.same("conditions that the manual's grammar does not hold", seen["made", False], 0)
-        compare.same("faults about truth tests that the manual's grammar holds", seen["misplaced", True], 0)
+        compare.same("faults about truth tests and DECLINED that the manual's grammar holds", seen["misplaced", True], 0)
         compare.demand("the grammar", seen, {
-            "own": (True, "truth test"), "made": (True, "truth test"), "damaged": (True, False, "truth test"), "misplaced": (False,)})
+            "own": (True, "truth test", "DECLINED"), "made": (True, "truth test", "DECLINED"), "damaged": (True, False, "truth test", "DECLINED"),
+            "misplaced": (False,)})
 
     # ---- the manual as a whole
 
@@ -1343,7 +1500,8 @@ class Manual:
             raise Fault(f"a link to {target}, which is not there")
 
     def demand(self):
-        """The sections are those of AT_LEAST with their examples, every refusal of reading has an example, and every truth value a line."""
+        """The sections are those of AT_LEAST with their examples; every refusal of reading has an example, and every truth value, every mark and all that a
+        form may meet a line."""
         if self.sections != list(AT_LEAST):
             self.fault(1, f"the sections are {self.sections}, and should be {list(AT_LEAST)}")
         for section, wanted in AT_LEAST.items():
@@ -1352,6 +1510,10 @@ class Manual:
                     self.fault(1, f"section {section}: {self.counts[section][sort]} {sort}, and there should be {least}")
         if self.mended != set(FAULTS):
             self.fault(1, f"no lines that are refused for {sorted(set(FAULTS) - self.mended)}")
+        if self.cell_marks != set(model.MARKS):
+            self.fault(1, f"of the marks, the tests of a value are said for {sorted(self.cell_marks)} alone")
+        if self.forms != list(FORM_CELLS):
+            self.fault(1, f"what forms write is said for {self.forms}")
         if not self.refused >= set(READING_REFUSALS):
             self.fault(1, f"no example of refusals {sorted(set(READING_REFUSALS) - self.refused)}")
         for place, letters in (("in front of AND, OR and NOT", self.fronts), ("in front of them as numbers", self.numbers),

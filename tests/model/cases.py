@@ -1,6 +1,7 @@
 """Cases of the eight calls, with the model's answers: random draws, and targeted cases at the limits of documents 01 and 02.
 
-The truth tests of document 02's Point 1 and the comma lines of its Point 2 are among them.
+The truth tests of document 02's Point 1, the comma lines of its Point 2 and the declined cells of its Point 4 are among
+them. Those about declined cells have answers that are worked out by hand, beside the model's.
 """
 import functools
 import itertools
@@ -242,7 +243,8 @@ def drawn_many_lines(random, columns):
     most = min(model.MOST_ROWS, model.MOST_CELLS // columns)
     lines = [b"," * (columns - 1) + random.choice([b"\n", b"\r\n"]) for _ in range(most + random.choice([-1, 0, 1, 1, 24]))]
     place = random.randrange(len(lines))
-    lines[place] = generate.spelled(random, generate.field_number(random)) + lines[place]
+    cell = random.choice([generate.field_number(random), model.DECLINED_CELL])
+    lines[place] = generate.written_field(random, cell) + lines[place]
     text = b"".join(lines)
     return generate.damaged_lines(random, text) if random.random() < .2 else text, columns
 
@@ -276,11 +278,11 @@ def drawn(random, call):
 
 
 def drawn_truths(random, count):
-    """Cases of JUDGE on tables with many blanks, `count` for each truth value."""
+    """Cases of JUDGE on tables with many blank and declined cells, `count` for each truth value."""
     cases = []
     missing = {model.TRUE: count, model.FALSE: count, model.UNKNOWN: count}
     while any(missing.values()):
-        cells = [0, 1, -1, None, None]
+        cells = [0, 1, -1, None, model.DECLINED_CELL]
         tables = []
         for _ in range(3):
             columns = random.choice([1, 2, 3])
@@ -435,6 +437,19 @@ STATED_SUMS = (
     (sub_exists(b"1 > SOME (SELECT 1 FROM 2 v WHERE " + SUM_189 + b")"), 193),
     (nested_truths(5) + b" OR " + nested_truths(6), 191),
     (nested_truths(6) + b" OR " + nested_truths(6), 255),
+    # IS DECLINED and IS NOT DECLINED add 1
+    (b"m.1 IS DECLINED", 1),
+    (b"1 IS NOT DECLINED", 1),
+    (b"NOT m.1 IS DECLINED", 1),
+    (b"(m.1 IS NOT DECLINED) IS NOT TRUE", 1),
+    (b"m.1 IS DECLINED OR m.1 IS NOT DECLINED", 3),
+    (b"(m.1 IS DECLINED) IS UNKNOWN", 3),
+    (b"1 IN (SELECT 1 FROM 2 v WHERE v.1 IS NOT DECLINED)", 4),
+    (nested_truths(6, sub_exists(b"v.1 IS DECLINED")), 191),
+    (nested_truths(7, b"m.1 IS NOT DECLINED"), 255),
+    (SUM_189 + b" OR m.1 IS DECLINED", 191),
+    (SUM_189 + b" OR " + sub_exists(b"m.1 IS NOT DECLINED"), 192),
+    (SUM_189 + b" OR (m.1 IS DECLINED) IS NOT UNKNOWN", 193),
     # what is left of the sum in 8, 16 and 32 bits is at most 192
     (nested_truths(7) + b" OR 1=1", 2**8 + 1),
     (nested_truths(15) + b" OR 1=1", 2**16 + 1),
@@ -505,6 +520,10 @@ def text_length_cases():
 
 # ---- targeted cases: tables
 
+# The lowest mark that is too high
+HIGH_MARK = 3
+
+
 def sized_tables(sizes, values, marks, more):
     """A file with these sizes, value bytes and mark bytes, and `more` bytes behind them (or fewer, below 0)."""
     head = bytes([len(sizes)]) + b"".join(bytes([columns]) + rows.to_bytes(2, "little") for columns, rows in sizes)
@@ -527,11 +546,14 @@ def zero_tables(sizes, first_mark=0, more=0):
 
 
 def numbered_tables(sizes, bad_mark=None, more=0):
-    """A file in which each cell has a number of its own, with a mark that is too high at a place, and `more` bytes than fit (or fewer, below 0)."""
+    """A file in which each cell has a number of its own, and `more` bytes than fit (or fewer, below 0).
+
+    One mark may be too high, at a place that is named.
+    """
     cells = cell_count(sizes)
     marks = bytearray(cells)
     if bad_mark is not None:
-        marks[bad_mark] = 2
+        marks[bad_mark] = HIGH_MARK
     return sized_tables(sizes, b"".join(cell.to_bytes(4, "little") for cell in range(cells)), bytes(marks), more)
 
 
@@ -540,7 +562,7 @@ def table_limit_cases():
     cases = []
     for sizes in ([(16, 512), (1, 1)], [(16, 512), (1, 0)], [(1, 1000)], [(1, 1001)], [(16, 513)], [(1, 1000)] * 8, [(1, 256)]):
         for more in (-1, 0, 1):
-            case = Case("JUDGE", b"m.1=0", zero_tables(sizes, 2, more))
+            case = Case("JUDGE", b"m.1=0", zero_tables(sizes, HIGH_MARK, more))
             if cell_count(sizes) <= 1000 or outcome(case) == "refused 1":
                 cases.append(case)
     file = zero_tables([(1, 257)])
@@ -582,15 +604,17 @@ def limit_files():
 # ---- targeted cases: cards
 
 def card_byte_cases():
-    """Every byte of one small card changed to several values; every shorter card, and some longer ones."""
+    """Every byte of two small cards changed to several values; every shorter card, and some longer ones."""
     file = generate.tables_file([(3, []), (2, [])])
-    sheet = model.card(b"EXISTS (FROM 2 v WHERE v.1 = m.3)", file, AMPLE_ROOM)
-    changed = [sheet]
-    for place, byte in enumerate(sheet):
-        for value in sorted({0, 1, 2, 255, (byte + 1) % 256, (byte - 1) % 256} - {byte}):
-            changed.append(sheet[:place] + bytes([value]) + sheet[place + 1:])
-    changed += [sheet[:length] for length in range(len(sheet))]
-    changed += [sheet + more for more in (b"\0", b"\1", bytes(14), bytes(15), bytes(16), sheet)]
+    changed = []
+    for text in (b"EXISTS (FROM 2 v WHERE v.1 = m.3)", b"EXISTS (FROM 2 v WHERE v.2 IS DECLINED)"):
+        sheet = model.card(text, file, AMPLE_ROOM)
+        changed.append(sheet)
+        for place, byte in enumerate(sheet):
+            for value in sorted({0, 1, 2, 255, (byte + 1) % 256, (byte - 1) % 256} - {byte}):
+                changed.append(sheet[:place] + bytes([value]) + sheet[place + 1:])
+        changed += [sheet[:length] for length in range(len(sheet))]
+        changed += [sheet + more for more in (b"\0", b"\1", bytes(14), bytes(15), bytes(16), sheet)]
     return [Case("CHECK", one) for one in changed]
 
 
@@ -621,8 +645,9 @@ def card_limit_cases():
         sheets += [model.card_bytes(chain, [1]), model.card_bytes(model.row_entry(3, 1, chain), [16] * 8)]
     for rows, level, column in itertools.product(range(5), range(6), (0, 1, 2, 3)):
         if abs(level - rows) <= 1:
-            blank = model.blank_entry(7, model.TaggedValue(level, column))
-            sheets.append(model.card_bytes(nested_rows(rows, blank), [2, 1]))
+            value = model.TaggedValue(level, column)
+            for entry in (model.blank_entry(7, value), model.declined_entry(9 + column % 2, value)):
+                sheets.append(model.card_bytes(nested_rows(rows, entry), [2, 1]))
     for rows in (3, 4):
         nested = nested_rows(rows, LEAF)
         sheets += [model.card_bytes(model.pair_entry(1, nested, LEAF), [1, 1])]
@@ -727,6 +752,8 @@ def row_limit_cases():
     # counts of rows and cells of which 8 and 16 bits leave little or nothing
     cases += [importing(b"\n" * rows, 1) for rows in (255, 256, 257, 1024, 65535, 65536, 65537)]
     cases += [importing((b"," * 15 + b"\n") * rows, 16) for rows in (4096, 4097)]
+    cases += [importing(b"!\n" * rows, 1) for rows in (1000, 1001)]
+    cases += [importing((b"!," * 15 + b"!\r\n") * rows, 16) for rows in (512, 513)]
     return cases
 
 
@@ -753,6 +780,9 @@ EXPORTED_TABLES = (
     [(1, [[None], [None], [7]])],
     [(2, [[None, None]])],
     [(3, [[None, 1, None], [1, None, 1]])],
+    [(1, [[model.DECLINED_CELL], [None], [2], [model.DECLINED_CELL]])],
+    [(3, [[model.DECLINED_CELL, 1, None], [None, model.DECLINED_CELL, model.DECLINED_CELL]])],
+    [(16, [[model.DECLINED_CELL] * 16])],
     # table 1 among others
     [(2, [[1, 5], [2, None], [3, 0]]), (1, [[1], [None]]), (1, [])],
     [(1, []), (2, [[1, 2]])],
@@ -772,7 +802,8 @@ def export_cases():
         cases += [exporting(generate.tables_file(tables), more) for more in (-1, 0, 1)]
     for value in (0, 1, -1, -2**31, 2**31 - 1, 0x0A0D2C31):
         file = bytes([1, 1, 1, 0]) + value.to_bytes(4, "little", signed=True)
-        cases += [Case("EXPORT", b"", file + bytes([mark]), buffer=lent("EXPORT", room)) for mark in (0, 1, 2, 255) for room in (0, 1, 12)]
+        for mark, room in itertools.product((0, 1, 2, 3, 255), (0, 1, 2, 12)):
+            cases.append(Case("EXPORT", b"", file + bytes([mark]), buffer=lent("EXPORT", room)))
     full = generate.tables_file([(16, [[-2**31] * 16] * 512)])
     cases += [exporting(full, more) for more in (-1, 0)]
     cases.append(exporting(zero_tables([(1, 1000)])))
@@ -789,6 +820,431 @@ def export_refusal_cases():
             cases += [exporting(numbered_tables(sizes, place, more)) for place in (None, 0, -1)]
     cases += [exporting(zero_tables(sizes)) for sizes in ([(1, 1001)], [(16, 513)], [(1, 1), (16, 512)], [(1, 0), (17, 1)], [(1, 0)] * 9)]
     return cases
+
+
+# ---- targeted cases: declined cells, with their answers worked out by hand
+
+# Table 1 is (1, 5), (2, blank), (3, declined), (declined, blank); table 2 is 1, declined; table 3 is blank, declined
+DECLINED_SIZES = [(2, 4), (1, 2), (1, 2)]
+DECLINED_MARKS = bytes([0, 0, 0, 1, 0, 2, 2, 1] + [0, 2] + [1, 2])
+# The numbers of the cells that are present, by their places among all cells
+DECLINED_NUMBERS = {0: 1, 1: 5, 2: 2, 4: 3, 8: 1}
+# Values of the other cells, which affect no answer: some of them would compare true
+IDLE_VALUES = (0, 5, 1, -1, 2**31 - 1)
+
+
+def declined_file(idle):
+    """The file of these tables, with the same value in each cell that is blank or declined."""
+    numbers = [DECLINED_NUMBERS.get(place, idle) for place in range(len(DECLINED_MARKS))]
+    values = b"".join(number.to_bytes(4, "little", signed=True) for number in numbers)
+    return sized_tables(DECLINED_SIZES, values, DECLINED_MARKS, 0)
+
+
+# Rules with their values on rows 0 to 3. ALL_OF_2 lists 1 and a declined cell, ALL_OF_3 a blank and a declined one.
+ALL_OF_2 = b"(SELECT v.1 FROM 2 v WHERE 1 = 1)"
+ALL_OF_3 = b"(SELECT v.1 FROM 3 v WHERE 1 = 1)"
+DECLINED_VALUES = (
+    # blank in every respect, IS NULL included
+    (b"m.2 IS NULL", "FTTT"),
+    (b"m.1 IS NULL", "FFFT"),
+    (b"m.2 IS NOT NULL", "TFFF"),
+    (b"NOT m.1 IS NULL", "TTTF"),
+    # true or false by the mark
+    (b"m.1 IS DECLINED", "FFFT"),
+    (b"m.2 IS DECLINED", "FFTF"),
+    (b"m.1 IS NOT DECLINED", "TTTF"),
+    (b"m.2 IS NOT DECLINED", "TTFT"),
+    # a number is never declined
+    (b"1 IS DECLINED", "FFFF"),
+    (b"2 IS DECLINED", "FFFF"),
+    (b"0 IS NOT DECLINED", "TTTT"),
+    (b"-2147483648 IS NOT DECLINED", "TTTT"),
+    # under NOT
+    (b"NOT m.2 IS DECLINED", "TTFT"),
+    (b"NOT m.2 IS NOT DECLINED", "FFTF"),
+    (b"NOT NOT m.2 IS DECLINED", "FFTF"),
+    (b"NOT 1 IS DECLINED", "TTTT"),
+    (b"NOT 1 IS NOT DECLINED", "FFFF"),
+    (b"NOT (m.1 IS DECLINED OR m.2 IS DECLINED)", "TTFF"),
+    # a comparison with a declined cell, on either side or both, is unknown
+    (b"m.1 = 1", "TFFU"),
+    (b"m.1 <> 1", "FTTU"),
+    (b"m.2 < 6", "TUUU"),
+    (b"m.2 <= 5", "TUUU"),
+    (b"5 > m.2", "FUUU"),
+    (b"5 >= m.2", "TUUU"),
+    (b"m.1 = m.1", "TTTU"),
+    (b"m.1 < m.2", "TUUU"),
+    (b"m.2 <> m.1", "TUUU"),
+    (b"NOT m.1 = m.1", "FFFU"),
+    # with AND and OR
+    (b"m.2 IS NULL AND m.2 IS NOT DECLINED", "FTFT"),
+    (b"m.2 IS NOT NULL OR m.2 IS DECLINED", "TFTF"),
+    (b"m.2 IS DECLINED AND m.2 IS NOT NULL", "FFFF"),
+    (b"m.2 IS DECLINED OR m.2 > 0", "TUTU"),
+    (b"m.2 IS NOT DECLINED AND m.2 > 0", "TUFU"),
+    # in truth tests: never unknown
+    (b"(m.2 IS DECLINED) IS TRUE", "FFTF"),
+    (b"(m.2 IS DECLINED) IS NOT TRUE", "TTFT"),
+    (b"(m.2 IS DECLINED) IS FALSE", "TTFT"),
+    (b"(m.2 IS NOT DECLINED) IS NOT FALSE", "TTFT"),
+    (b"(m.2 IS DECLINED) IS UNKNOWN", "FFFF"),
+    (b"(m.2 IS NOT DECLINED) IS UNKNOWN", "FFFF"),
+    (b"(m.1 IS DECLINED) IS NOT UNKNOWN", "TTTT"),
+    (b"(m.2 > 0) IS UNKNOWN", "FTTT"),
+    (b"(m.2 > 0 OR m.2 IS DECLINED) IS UNKNOWN", "FTFT"),
+    (b"(m.1 = 1) IS UNKNOWN AND m.1 IS DECLINED", "FFFT"),
+    # in a WHERE
+    (b"EXISTS (FROM 2 v WHERE v.1 IS DECLINED)", "TTTT"),
+    (b"EXISTS (FROM 2 v WHERE v.1 IS NULL AND v.1 IS NOT DECLINED)", "FFFF"),
+    (b"EXISTS (FROM 3 v WHERE v.1 IS NULL AND v.1 IS NOT DECLINED)", "TTTT"),
+    (b"EXISTS (FROM 3 v WHERE v.1 IS NOT NULL)", "FFFF"),
+    (b"EXISTS (FROM 2 v WHERE v.1 = m.1)", "TFFF"),
+    (b"EXISTS (FROM 2 v WHERE m.2 IS DECLINED)", "FFTF"),
+    (b"NOT EXISTS (FROM 2 v WHERE m.2 IS DECLINED AND v.1 IS DECLINED)", "TTFT"),
+    (b"EXISTS (FROM 2 m WHERE m.1 IS DECLINED)", "TTTT"),
+    # in and over lists
+    (b"m.1 IN " + ALL_OF_2, "TUUU"),
+    (b"m.1 NOT IN " + ALL_OF_2, "FUUU"),
+    (b"m.1 = ALL " + ALL_OF_2, "UFFU"),
+    (b"m.1 >= SOME " + ALL_OF_3, "UUUU"),
+    (b"m.1 IN (SELECT v.1 FROM 2 v WHERE v.1 IS NOT DECLINED)", "TFFU"),
+    (b"m.1 NOT IN (SELECT v.1 FROM 2 v WHERE v.1 IS NOT DECLINED)", "FTTU"),
+    (b"m.1 <> ALL (SELECT v.1 FROM 2 v WHERE v.1 IS DECLINED)", "UUUU"),
+    (b"m.1 > SOME (SELECT v.1 FROM 3 v WHERE v.1 IS DECLINED AND v.1 IS NOT NULL)", "FFFF"),
+    (b"m.1 > ALL (SELECT v.1 FROM 3 v WHERE v.1 IS DECLINED AND v.1 IS NOT NULL)", "TTTT"),
+    (b"m.1 = SOME (SELECT k.1 FROM 1 k WHERE k.2 IS DECLINED)", "FFTU"),
+    (b"NOT m.1 = ALL (SELECT k.1 FROM 1 k WHERE k.2 IS DECLINED)", "TTFU"),
+    (b"(m.1 = SOME (SELECT k.1 FROM 1 k WHERE k.2 IS DECLINED)) IS UNKNOWN", "FFFT"),
+)
+
+# Rules with the fields of their parts, eight numbers for each
+DECLINED_PARTS = (
+    (b"m.2 IS DECLINED", (16, 0, 0, 1, 0, 2, 0, 0)),
+    (b"m.2 IS NOT DECLINED", (17, 0, 0, 1, 0, 2, 0, 0)),
+    (b"-7 IS DECLINED", (16, 0, 0, 1, 255, -7, 0, 0)),
+    (b"0 IS NOT DECLINED", (17, 0, 0, 1, 255, 0, 0, 0)),
+    (b"NOT m.1 IS DECLINED", (3, 0, 0, 2, 0, 0, 0, 0) + (16, 0, 0, 2, 0, 1, 0, 0)),
+    (b"(m.2 IS DECLINED) IS UNKNOWN", (14, 0, 0, 2, 0, 0, 0, 0) + (16, 0, 0, 2, 0, 2, 0, 0)),
+    (b"EXISTS (FROM 2 v WHERE v.1 IS DECLINED)", (7, 0, 2, 2, 0, 0, 0, 0) + (16, 0, 0, 2, 1, 1, 0, 0)),
+    (b"1 <> ALL (SELECT v.1 FROM 3 v WHERE m.2 IS NOT DECLINED)",
+     (9, 2, 3, 2, 255, 1, 1, 1) + (17, 0, 0, 2, 0, 2, 0, 0)),
+    (b"m.1 IS NULL OR m.2 IS DECLINED AND 1 IS NOT DECLINED",
+     (2, 0, 0, 5, 0, 0, 0, 0) + (5, 0, 0, 2, 0, 1, 0, 0) + (1, 0, 0, 5, 0, 0, 0, 0)
+     + (16, 0, 0, 4, 0, 2, 0, 0) + (17, 0, 0, 5, 255, 1, 0, 0)),
+)
+
+# The start of a card for these tables, behind its number of entries; the values of records
+DECLINED_HEAD = " 00 03 02 01 01 "
+NO_VALUE = " 00 00 00 00 00"
+NO_VALUES = NO_VALUE * 2
+COLUMN_2 = " 00 02 00 00 00"
+# Rules with all the bytes of their cards
+DECLINED_CARDS = (
+    (b"m.2 IS DECLINED", "01" + DECLINED_HEAD + "09 01 00 00 00" + COLUMN_2 + NO_VALUE),
+    (b"m.2 IS NOT DECLINED", "01" + DECLINED_HEAD + "0A 01 00 00 00" + COLUMN_2 + NO_VALUE),
+    (b"NOT m.2 IS DECLINED", "01" + DECLINED_HEAD + "0A 01 00 00 00" + COLUMN_2 + NO_VALUE),
+    (b"NOT m.2 IS NOT DECLINED", "01" + DECLINED_HEAD + "09 01 00 00 00" + COLUMN_2 + NO_VALUE),
+    (b"NOT NOT m.2 IS DECLINED", "01" + DECLINED_HEAD + "09 01 00 00 00" + COLUMN_2 + NO_VALUE),
+    (b"-7 IS DECLINED", "01" + DECLINED_HEAD + "09 01 00 00 00 FF F9 FF FF FF" + NO_VALUE),
+    (b"NOT 3 IS DECLINED", "01" + DECLINED_HEAD + "0A 01 00 00 00 FF 03 00 00 00" + NO_VALUE),
+    (b"(m.2 IS DECLINED) IS TRUE", "01" + DECLINED_HEAD + "09 01 00 00 00" + COLUMN_2 + NO_VALUE),
+    (b"(m.2 IS DECLINED) IS NOT TRUE", "01" + DECLINED_HEAD + "0A 01 00 00 00" + COLUMN_2 + NO_VALUE),
+    (b"(m.2 IS DECLINED) IS FALSE", "01" + DECLINED_HEAD + "0A 01 00 00 00" + COLUMN_2 + NO_VALUE),
+    (b"(m.2 IS NOT DECLINED) IS NOT FALSE", "01" + DECLINED_HEAD + "0A 01 00 00 00" + COLUMN_2 + NO_VALUE),
+    (b"(m.2 IS DECLINED) IS UNKNOWN",
+     "03" + DECLINED_HEAD + "01 0A 09 03 00 00 00" + NO_VALUES
+     + " 02 00 00 00" + COLUMN_2 + NO_VALUE + " 03 00 00 00" + COLUMN_2 + NO_VALUE),
+    (b"(m.2 IS DECLINED) IS NOT UNKNOWN",
+     "03" + DECLINED_HEAD + "02 09 0A 03 00 00 00" + NO_VALUES
+     + " 02 00 00 00" + COLUMN_2 + NO_VALUE + " 03 00 00 00" + COLUMN_2 + NO_VALUE),
+    (b"NOT (m.1 IS DECLINED AND m.2 IS NULL)",
+     "03" + DECLINED_HEAD + "02 0A 08 03 00 00 00" + NO_VALUES
+     + " 02 00 00 00 00 01 00 00 00" + NO_VALUE + " 03 00 00 00" + COLUMN_2 + NO_VALUE),
+    (b"EXISTS (FROM 2 v WHERE v.1 IS DECLINED)",
+     "02" + DECLINED_HEAD + "03 09 02 00 02 00" + NO_VALUES + " 02 00 00 00 01 01 00 00 00" + NO_VALUE),
+    (b"NOT EXISTS (FROM 2 v WHERE v.1 IS DECLINED)",
+     "02" + DECLINED_HEAD + "04 0A 02 00 02 00" + NO_VALUES + " 02 00 00 00 01 01 00 00 00" + NO_VALUE),
+    (b"1 IN (SELECT v.1 FROM 3 v WHERE m.2 IS NOT DECLINED)",
+     "04" + DECLINED_HEAD + "03 01 0A 05 04 00 03 00" + NO_VALUES + " 04 00 00 00" + NO_VALUES
+     + " 03 00 00 00" + COLUMN_2 + NO_VALUE + " 04 00 00 01 FF 01 00 00 00 01 01 00 00 00"),
+    (b"1 <> ALL (SELECT v.1 FROM 3 v WHERE m.2 IS NOT DECLINED)",
+     "04" + DECLINED_HEAD + "04 02 09 05 04 00 03 00" + NO_VALUES + " 04 00 00 00" + NO_VALUES
+     + " 03 00 00 00" + COLUMN_2 + NO_VALUE + " 04 00 00 02 FF 01 00 00 00 01 01 00 00 00"),
+)
+
+# Texts with the refusal of reading, or None
+DECLINED_TEXTS = (
+    # rules
+    (b"m.1 IS DECLINED", None), (b"m.1IS DECLINED", None), (b"m . 1 IS\nNOT\nDECLINED", None), (b"1IS DECLINED", None),
+    (b"-1 IS NOT DECLINED", None), (b"((m.1 IS DECLINED))", None), (b"(m.1 IS DECLINED)IS TRUE", None),
+    (b"NOT m.1 IS DECLINED", None), (b"NOT m.1 IS NOT DECLINED", None), (b"1=1AND m.1 IS DECLINED OR 2 IS NULL", None),
+    (b"EXISTS(FROM 2 v WHERE v.1 IS DECLINED)", None), (b"1 IN(SELECT 1 FROM 2 v WHERE v.1 IS NOT DECLINED)", None),
+    # no such token
+    (b"m.1 IS DECLINE", 4), (b"m.1 IS DECLINEDS", 4), (b"m.1 ISDECLINED", 4), (b"m.1 IS NOTDECLINED", 4),
+    (b"m.1 IS DECLINEDAND 1=1", 4), (b"m.1 IS DECLINEDNULL", 4), (b"m.1 IS Declined", 4), (b"!", 4), (b"m.1 = !", 4),
+    (b"m.1 IS !", 4), (b"m.1 != 1", 4),
+    # behind what is no value
+    (b"(1 = 1) IS DECLINED", 6), (b"(1 = 1) IS NOT DECLINED", 6), (b"(m.1) IS DECLINED", 6), (b"(1) IS DECLINED", 6),
+    (b"m.1 = 1 IS DECLINED", 6), (b"(m.1 IS DECLINED) IS DECLINED", 6), (b"m.1 IS DECLINED IS DECLINED", 6),
+    (b"EXISTS (FROM 2 v WHERE 1 = 1) IS DECLINED", 6), (b"m.1 IN (SELECT 1 FROM 2 v WHERE 1 = 1) IS DECLINED", 6),
+    (b"IS DECLINED", 6), (b"NOT IS DECLINED", 6), (b"m IS DECLINED", 6), (b"m. IS DECLINED", 6),
+    (b"NULL IS DECLINED", 6),
+    # another order, and words too many or too few
+    (b"m.1 IS NOT NOT DECLINED", 6), (b"m.1 NOT IS DECLINED", 6), (b"m.1 IS DECLINED NOT", 6), (b"m.1 DECLINED", 6),
+    (b"m.1 NOT DECLINED", 6), (b"m.1 IS NULL DECLINED", 6), (b"m.1 IS DECLINED NULL", 6),
+    (b"m.1 IS DECLINED DECLINED", 6), (b"m.1 IS IS DECLINED", 6), (b"m.1 IS", 6), (b"m.1 IS NOT", 6),
+    (b"m.1 IS DECLINED AND", 6), (b"m.1 IS DECLINED 1", 6), (b"m.1 IS DECLINED)", 6),
+    (b"(m.1 IS DECLINED", 6), (b"m.1 IS (DECLINED)", 6), (b"m.1 IS declined", 6),
+    (b"m.1 IS DECLINED = 1", 6), (b"m.1 IS DECLINED IS TRUE", 6), (b"m.1 IS DECLINED IS NULL", 6), (b"m.1 IS SOME", 6),
+    (b"m.1 IS IN", 6), (b"m.1 IS TRUE", 6), (b"m.1 IS NOT UNKNOWN", 6),
+    # the word as a value, as a test or as a column
+    (b"DECLINED", 6), (b"NOT DECLINED", 6), (b"(DECLINED)", 6), (b"(DECLINED) IS TRUE", 6), (b"m.1 = DECLINED", 6),
+    (b"DECLINED = m.1", 6), (b"m.DECLINED = 1", 6), (b"DECLINED IS DECLINED", 6), (b"DECLINED IS NULL", 6),
+    (b"m.1 IN DECLINED", 6), (b"m.1 = SOME DECLINED", 6), (b"m.1 IN (SELECT DECLINED FROM 2 v WHERE 1 = 1)", 6),
+    (b"EXISTS (FROM 2 v WHERE DECLINED)", 6), (b"EXISTS (FROM DECLINED v WHERE 1 = 1)", 6),
+    # names
+    (b"k.1 IS DECLINED", 8), (b"m.3 IS DECLINED", 8), (b"m.0 IS NOT DECLINED", 8), (b"m.-1 IS DECLINED", 8),
+    (b"EXISTS (FROM 2 v WHERE v.2 IS DECLINED)", 8), (b"EXISTS (FROM 2 v WHERE 1 = 1) AND v.1 IS DECLINED", 8),
+    (b"EXISTS (FROM 4 v WHERE v.1 IS DECLINED)", 8), (b"v.1 IS NOT DECLINED OR EXISTS (FROM 2 v WHERE 1 = 1)", 8),
+    # limits
+    (b"NOT " * 63 + b"m.1 IS DECLINED", None), (b"NOT " * 64 + b"m.1 IS DECLINED", 7),
+    (b" OR ".join([b"m.1 IS NOT DECLINED"] * 32), None), (b" OR ".join([b"m.1 IS DECLINED"] * 33), 7),
+    (b"(" * 32 + b"m.1 IS DECLINED" + b")" * 32, None), (b"(" * 33 + b"m.1 IS DECLINED" + b")" * 33, 5),
+    (nested_truths(7, b"m.1 IS DECLINED"), 13), (nested_truths(7, b"k.1 IS DECLINED"), 8),
+    (b"m.1 IS DECLINED" + b" " * 4081, None), (b"m.1 IS DECLINED" + b" " * 4082, 3),
+)
+
+# Cards of one entry: the kind, the record, and the refusal of CHECK or None
+DECLINED_ENTRIES = (
+    ("09", "01 00 00 00 00 01 00 00 00" + NO_VALUE, None),
+    ("0A", "01 00 00 00" + COLUMN_2 + NO_VALUE, None),
+    ("09", "01 00 00 00 FF 00 00 00 80" + NO_VALUE, None),
+    ("0A", "01 00 00 00 FF 00 00 00 00" + NO_VALUE, None),
+    # columns and levels that do not exist
+    ("09", "01 00 00 00 00 00 00 00 00" + NO_VALUE, 9),
+    ("0A", "01 00 00 00 00 03 00 00 00" + NO_VALUE, 9),
+    ("09", "01 00 00 00 00 01 01 00 00" + NO_VALUE, 9),
+    ("0A", "01 00 00 00 00 02 00 00 80" + NO_VALUE, 9),
+    ("09", "01 00 00 00 01 01 00 00 00" + NO_VALUE, 9),
+    ("0A", "01 00 00 00 03 01 00 00 00" + NO_VALUE, 9),
+    ("09", "01 00 00 00 FE 01 00 00 00" + NO_VALUE, 9),
+    # unused bytes that are not 0
+    ("09", "01 00 01 00" + COLUMN_2 + NO_VALUE, 9),
+    ("0A", "01 00 03 00" + COLUMN_2 + NO_VALUE, 9),
+    ("09", "01 00 00 01" + COLUMN_2 + NO_VALUE, 9),
+    ("0A", "01 00 00 06" + COLUMN_2 + NO_VALUE, 9),
+    ("09", "01 00 00 00" + COLUMN_2 + COLUMN_2, 9),
+    ("0A", "01 00 00 00" + COLUMN_2 + " FF 00 00 00 00", 9),
+    ("09", "01 00 00 00" + COLUMN_2 + " 01 00 00 00 00", 9),
+    ("0A", "01 00 00 00" + COLUMN_2 + " 00 01 00 00 00", 9),
+    ("09", "01 00 00 00" + COLUMN_2 + " 00 00 01 00 00", 9),
+    ("0A", "01 00 00 00" + COLUMN_2 + " 00 00 00 01 00", 9),
+    ("09", "01 00 00 00" + COLUMN_2 + " 00 00 00 00 80", 9),
+    # ends that do not fit, and bytes too many or too few
+    ("09", "00 00 00 00" + COLUMN_2 + NO_VALUE, 9),
+    ("0A", "02 00 00 00" + COLUMN_2 + NO_VALUE, 9),
+    ("09", "01 01 00 00" + COLUMN_2 + NO_VALUE, 9),
+    ("0A", "01 00 00 00" + COLUMN_2 + NO_VALUE + " 00", 9),
+    ("09", "01 00 00 00" + COLUMN_2 + " 00 00 00 00", 9),
+    # no such kinds, also with the fields of the other kinds
+    ("0B", "01 00 00 00" + COLUMN_2 + NO_VALUE, 9),
+    ("0C", "01 00 00 00" + COLUMN_2 + NO_VALUE, 9),
+    ("00", "01 00 00 00" + COLUMN_2 + NO_VALUE, 9),
+    ("10", "01 00 00 00" + COLUMN_2 + NO_VALUE, 9),
+    ("11", "01 00 00 00" + COLUMN_2 + NO_VALUE, 9),
+    ("89", "01 00 00 00" + COLUMN_2 + NO_VALUE, 9),
+    ("FF", "01 00 00 00" + COLUMN_2 + NO_VALUE, 9),
+    ("0B", "01 00 00 00" + NO_VALUES, 9),
+    ("0B", "01 00 00 01" + COLUMN_2 + COLUMN_2, 9),
+)
+# Cards of more entries: the number of entries, the kinds, the records, and the refusal of CHECK or None
+DECLINED_SHEETS = (
+    ("02", "03 09", "02 00 02 00" + NO_VALUES + " 02 00 00 00 01 01 00 00 00" + NO_VALUE, None),
+    ("02", "04 0A", "02 00 03 00" + NO_VALUES + " 02 00 00 00" + COLUMN_2 + NO_VALUE, None),
+    ("02", "03 09", "02 00 02 00" + NO_VALUES + " 02 00 00 00 01 02 00 00 00" + NO_VALUE, 9),
+    ("02", "04 0A", "02 00 02 00" + NO_VALUES + " 02 00 00 00 02 01 00 00 00" + NO_VALUE, 9),
+    ("03", "01 09 0A", "03 00 00 00" + NO_VALUES + " 02 00 00 00" + COLUMN_2 + NO_VALUE
+     + " 03 00 00 00" + COLUMN_2 + NO_VALUE, None),
+    ("03", "01 09 0B", "03 00 00 00" + NO_VALUES + " 02 00 00 00" + COLUMN_2 + NO_VALUE
+     + " 03 00 00 00" + COLUMN_2 + NO_VALUE, 9),
+    # no inner entries
+    ("02", "09 09", "02 00 00 00" + COLUMN_2 + NO_VALUE + " 02 00 00 00" + COLUMN_2 + NO_VALUE, 9),
+    ("02", "0A 09", "01 00 00 00" + COLUMN_2 + NO_VALUE + " 02 00 00 00" + COLUMN_2 + NO_VALUE, 9),
+    ("02", "0A 05", "02 00 00 00" + COLUMN_2 + NO_VALUE + " 02 00 00 01" + COLUMN_2 + COLUMN_2, 9),
+)
+
+# Sound cards of one entry, kind and record, with the rows that they admit
+DECLINED_ANSWERS = (
+    ("09", "01 00 00 00" + COLUMN_2 + NO_VALUE, [2]),
+    ("0A", "01 00 00 00" + COLUMN_2 + NO_VALUE, [0, 1, 3]),
+    ("09", "01 00 00 00 00 01 00 00 00" + NO_VALUE, [3]),
+    ("0A", "01 00 00 00 00 01 00 00 00" + NO_VALUE, [0, 1, 2]),
+    # a number is never declined
+    ("09", "01 00 00 00 FF 02 00 00 00" + NO_VALUE, []),
+    ("0A", "01 00 00 00 FF 02 00 00 00" + NO_VALUE, [0, 1, 2, 3]),
+    # a declined cell is blank
+    ("07", "01 00 00 00" + COLUMN_2 + NO_VALUE, [1, 2, 3]),
+    ("08", "01 00 00 00" + COLUMN_2 + NO_VALUE, [0]),
+    # m.2 = 5, m.2 <> 5, m.1 = m.1 and m.1 <> m.1, where unknown counts as no and as yes
+    ("05", "01 00 00 01" + COLUMN_2 + " FF 05 00 00 00", [0]),
+    ("06", "01 00 00 01" + COLUMN_2 + " FF 05 00 00 00", [0, 1, 2, 3]),
+    ("05", "01 00 00 02" + COLUMN_2 + " FF 05 00 00 00", []),
+    ("06", "01 00 00 02" + COLUMN_2 + " FF 05 00 00 00", [1, 2, 3]),
+    ("05", "01 00 00 01 00 01 00 00 00 00 01 00 00 00", [0, 1, 2]),
+    ("06", "01 00 00 02 00 01 00 00 00 00 01 00 00 00", [3]),
+)
+
+# Marks with the refusal of reading the tables, or None
+STATED_MARKS = ((0, None), (1, None), (2, None), (3, 2), (4, 2), (127, 2), (128, 2), (130, 2), (254, 2), (255, 2))
+
+# Comma lines with the columns, and all the bytes of the tables file or 14
+DECLINED_LINES = (
+    (b"!", 1, "01 01 01 00 00 00 00 00 02"),
+    (b"!\n", 1, "01 01 01 00 00 00 00 00 02"),
+    (b"!\r\n", 1, "01 01 01 00 00 00 00 00 02"),
+    (b"!\n\n7", 1, "01 01 03 00 00 00 00 00 00 00 00 00 07 00 00 00 02 01 00"),
+    (b"!,!", 2, "01 02 01 00 00 00 00 00 00 00 00 00 02 02"),
+    (b"!,\r\n,!\n", 2, "01 02 02 00 00 00 00 00 00 00 00 00 00 00 00 00 00 00 00 00 02 01 01 02"),
+    (b"1,!,-2\n", 3, "01 03 01 00 01 00 00 00 00 00 00 00 FE FF FF FF 00 02 00"),
+    # not alone in its field
+    (b"!1", 1, 14), (b"1!", 1, 14), (b"! ", 1, 14), (b" !", 1, 14), (b"!!", 1, 14), (b"-!", 1, 14), (b"!-", 1, 14),
+    (b"+!", 1, 14), (b"!0", 1, 14), (b"0!", 1, 14), (b"!-1", 1, 14), (b"-1!", 1, 14), (b'"!"', 1, 14), (b"!\t", 1, 14),
+    (b"!\x00", 1, 14), (b"!.", 1, 14), (b"!=", 1, 14), (b"1,! \n", 2, 14), (b"!! ,1\n", 2, 14), (b"1,!2\r\n", 2, 14),
+    (b"!\r", 1, 14), (b"!\r\r\n", 1, 14), (b"\r!\n", 1, 14), (b"!\n\r", 1, 14), (b"!\r!\n", 1, 14), (b"!\r,!\n", 2, 14),
+    # what else might stand for it
+    (b"\x02", 1, 14), (b"DECLINED", 1, 14), (b"?", 1, 14), (b"\xa1", 1, 14), (b"\xc2\xa1", 1, 14), (b" ", 1, 14),
+    (b'"', 1, 14), (b"#", 1, 14), (b"\xef\xbc\x81", 1, 14),
+    # a field like others
+    (b"!", 2, 14), (b"!,", 1, 14), (b"!,!,!", 2, 14), (b"!\n!", 2, 14), (b"!;!", 2, 14), (b"!", 0, 14), (b"!", 17, 14),
+    (b"!,\n\n", 2, 14),
+)
+
+# Tables files, and the comma lines of their table 1 or the refusal
+DECLINED_FILES = (
+    ("01 01 01 00 00 00 00 00 02", b"!\n"),
+    ("01 01 01 00 07 00 00 00 02", b"!\n"),
+    ("01 01 01 00 FF FF FF FF 02", b"!\n"),
+    ("01 03 01 00 05 00 00 00 06 00 00 00 07 00 00 00 00 01 02", b"5,,!\n"),
+    ("01 02 02 00 01 00 00 00 02 00 00 00 03 00 00 00 04 00 00 00 02 02 01 00", b"!,!\n,4\n"),
+    ("02 01 01 00 01 01 00 03 00 00 00 04 00 00 00 00 02", b"3\n"),
+    ("02 01 00 00 01 01 00 04 00 00 00 02", b""),
+    ("01 01 01 00 00 00 00 00 03", 2),
+    ("01 02 01 00 00 00 00 00 00 00 00 00 02 03", 2),
+    ("02 01 01 00 01 01 00 03 00 00 00 04 00 00 00 02 03", 2),
+    ("01 01 01 00 00 00 00 00 02 02", 1),
+    ("01 01 01 00 00 00 00 02", 1),
+)
+
+
+def stated_given(call, source, file, answer, columns=0):
+    """Cases of a lending call with the answer that is stated, in a buffer with an element more, and with one less."""
+    more = Case(call, source, file, buffer=lent(call, len(answer) + 1), columns=columns)
+    pairs = [(more, Expected(len(answer), tuple(answer) + lent(call, 1)))]
+    if len(answer) > 0:
+        fewer = Case(call, source, file, buffer=lent(call, len(answer) - 1), columns=columns)
+        pairs.append(stated_refused(fewer, 12))
+    return pairs
+
+
+def stated_refused(case, number):
+    """A case with the refusal that is stated; its buffer stays as it is."""
+    return case, Expected(model.Refused(number), case.buffer)
+
+
+def stated_values():
+    """JUDGE on each row, RUN on one and LIST, with several values of the blank and declined cells."""
+    pairs = []
+    names = {"T": model.TRUE, "U": model.UNKNOWN, "F": model.FALSE}
+    for place, (text, letters) in enumerate(DECLINED_VALUES):
+        file, later = (declined_file(IDLE_VALUES[(place + more) % len(IDLE_VALUES)]) for more in (0, 1))
+        sheet = model.card(text, file, AMPLE_ROOM)
+        for row, letter in enumerate(letters):
+            pairs.append((Case("JUDGE", text, file, row=row), Expected(names[letter])))
+        pairs.append((Case("RUN", sheet, later, row=place % 4), Expected(letters[place % 4] == "T")))
+        pairs += stated_given("LIST", sheet, later, [row for row, letter in enumerate(letters) if letter == "T"])
+    return pairs
+
+
+def stated_texts():
+    """READ, JUDGE and CARD: parts and cards, and refusals of texts."""
+    pairs = []
+    file = declined_file(0)
+    for text, numbers in DECLINED_PARTS:
+        pairs += stated_given("READ", text, file, parts_from(numbers))
+    for text, written in DECLINED_CARDS:
+        pairs += stated_given("CARD", text, file, bytes.fromhex(written))
+    for text, number in DECLINED_TEXTS:
+        calls = [Case("READ", text, file), Case("JUDGE", text, file, row=4), Case("CARD", text, file)]
+        for case, accepted in zip(calls, (12, 11, 12)):
+            pairs.append(stated_refused(case, accepted if number is None else number))
+    return pairs
+
+
+def stated_sheets():
+    """CHECK of cards with kinds 9 and 10, and RUN and LIST of some of them."""
+    pairs = []
+    sheets = [("01",) + entry for entry in DECLINED_ENTRIES]
+    for count, kinds, records, number in sheets + list(DECLINED_SHEETS):
+        sheet = bytes.fromhex(count + DECLINED_HEAD + kinds + records)
+        pairs.append((Case("CHECK", sheet), Expected(model.SOUND if number is None else model.Refused(number))))
+        if number is not None:
+            pairs.append(stated_refused(Case("RUN", sheet, declined_file(0), row=4), 9))
+    for place, (kind, record, rows) in enumerate(DECLINED_ANSWERS):
+        sheet = bytes.fromhex("01" + DECLINED_HEAD + kind + record)
+        file = declined_file(IDLE_VALUES[place % len(IDLE_VALUES)])
+        pairs += [(Case("RUN", sheet, file, row=row), Expected(row in rows)) for row in range(4)]
+        pairs += stated_given("LIST", sheet, file, rows)
+    return pairs
+
+
+def stated_marks():
+    """A file of one cell with each sort of mark, in every call that takes tables; rule and card are 1 IS NULL."""
+    pairs = []
+    text = b"1 IS NULL"
+    sheet = bytes.fromhex("01 00 01 01 07 01 00 00 00 FF 01 00 00 00" + NO_VALUE)
+    fields = {0: b"9\n", 1: b"\n", 2: b"!\n"}
+    for mark, number in STATED_MARKS:
+        file = bytes.fromhex("01 01 01 00 09 00 00 00") + bytes([mark])
+        judging = [Case("JUDGE", text, file), Case("RUN", sheet, file)]
+        if number is not None:
+            lending = (("READ", text), ("CARD", text), ("LIST", sheet), ("EXPORT", b""))
+            judging += [Case(call, source, file, buffer=lent(call, 2)) for call, source in lending]
+            pairs += [stated_refused(case, number) for case in judging]
+            continue
+        pairs += list(zip(judging, (Expected(model.FALSE), Expected(False))))
+        pairs += stated_given("READ", text, file, parts_from((5, 0, 0, 1, 255, 1, 0, 0)))
+        pairs += stated_given("CARD", text, file, sheet) + stated_given("LIST", sheet, file, [])
+        pairs += stated_given("EXPORT", b"", file, fields[mark])
+    return pairs
+
+
+def stated_lines():
+    """IMPORT and EXPORT of a lone ! and of what is none."""
+    pairs = []
+    for lines, columns, wanted in DECLINED_LINES:
+        if wanted == 14:
+            case = Case("IMPORT", lines, buffer=lent("IMPORT", 50), columns=columns)
+            pairs.append(stated_refused(case, wanted))
+        else:
+            pairs += stated_given("IMPORT", lines, b"", bytes.fromhex(wanted), columns)
+    for written, wanted in DECLINED_FILES:
+        file = bytes.fromhex(written)
+        if isinstance(wanted, int):
+            pairs.append(stated_refused(Case("EXPORT", b"", file, buffer=lent("EXPORT", 2)), wanted))
+        else:
+            pairs += stated_given("EXPORT", b"", file, wanted)
+    return pairs
+
+
+def stated_declined():
+    """All cases about declined cells, each with the answer that is worked out by hand."""
+    return stated_values() + stated_texts() + stated_sheets() + stated_marks() + stated_lines()
+
+
+def declined_cases():
+    """The same without their answers."""
+    return [case for case, _ in stated_declined()]
 
 
 # ---- targeted cases: several refusals at once
@@ -815,7 +1271,7 @@ def file_refused_with(refusals):
     """A tables file with two rows in table 1, to which these of the refusals 1 and 2 apply."""
     file = bytearray(generate.tables_file([(1, [[1], [1]]), (2, [])]))
     if 2 in refusals:
-        file[-1] = 2
+        file[-1] = HIGH_MARK
     if 1 in refusals:
         file.append(0)
     return bytes(file)
@@ -882,6 +1338,6 @@ def comma_cases():
 
 def targeted(random):
     """All targeted cases."""
-    return (trap_cases() + truth_test_cases() + truth_sum_cases() + bracket_cases() + part_limit_cases() + text_length_cases()
-            + table_limit_cases() + card_byte_cases() + card_limit_cases() + row_number_cases() + columns_cases() + refusal_set_cases(random)
-            + comma_cases())
+    return (declined_cases() + trap_cases() + truth_test_cases() + truth_sum_cases() + bracket_cases()
+            + part_limit_cases() + text_length_cases() + table_limit_cases() + card_byte_cases() + card_limit_cases()
+            + row_number_cases() + columns_cases() + refusal_set_cases(random) + comma_cases())

@@ -12,9 +12,10 @@ EDGE_CELLS = (-2**31, 2**31 - 1, 2**31 - 2, 255, 256, 65536, -256)
 LOOSE_TOKENS = tuple(sorted(model.WORDS)) + SIGNS + (
     "(", ")", ".", "m", "v", "1", "2", "-1", "m", "1", "(", ")")
 NO_TOKENS = (
-    "AN", "NOTNOT", "ANDOR", "ISNULL", "ISTRUE", "NOTFALSE", "UNKNOW", "TRUES", "A", "@", "\t", "\r", "\x00", "\xff", "-", "--1", "2147483648", "-2147483649",
-    "00000000001", "12345678901", "==", "!=", ",", "+1", "[", "Z", "`", "{", "/", ":", "'")
-TEXT_BYTES = b"ANDORTISEXULFMWK mv.12-0()<>=\n 19"
+    "AN", "NOTNOT", "ANDOR", "ISNULL", "ISTRUE", "NOTFALSE", "UNKNOW", "TRUES", "DECLINE", "DECLINEDS", "ISDECLINED",
+    "NOTDECLINED", "A", "@", "\t", "\r", "\x00", "\xff", "-", "--1", "2147483648", "-2147483649", "00000000001",
+    "12345678901", "==", "!=", "!", ",", "+1", "[", "Z", "`", "{", "/", ":", "'")
+TEXT_BYTES = b"ANDORTISEXULFMWKC mv.12-0()<>=\n 19"
 # Sums of entries around the limit of 192, and some that eight bits would not hold
 NEAR_SUMS = (63, 127, 188, 189, 190, 191, 191, 192, 192, 192, 193, 193, 193, 194, 195, 196, 255, 257, 300, 511)
 # What no field of comma lines is
@@ -28,13 +29,16 @@ BAD_FIELDS = (
     # eleven digits and more, and numbers beyond the range
     b"00000000000", b"00000000001", b"-00000000001", b"12345678901", b"-12345678901", b"0" * 300, b"2147483648", b"-2147483649",
     b"9999999999", b"-9999999999", b"4294967296", b"4294967297", b"-4294967295", b"02147483648", b"-02147483648", b"18446744073709551617",
+    # a ! that is not alone
+    b"!1", b"1!", b"! ", b" !", b"!!", b"-!", b"!-", b"+!", b"!0", b"0!", b"!-1", b"-1!", b'"!"', b"!\x00", b"!.",
+    b"!!!", b"!\r", b"\r!", b"\xa1", b"\xc2\xa1", b"\xef\xbc\x81", b"DECLINED", b"=!", b"!=",
     # a CR, which belongs to a field wherever no LF follows it
     b"\r", b"1\r", b"\r1", b"\r\r", b"-\r1", b"1\r2")
 # What no line end is, though some of them have one at their end
 BAD_LINE_ENDS = (b"\r", b"\r\r\n", b"\n\r", b"\r\n\r", b" \n", b" \r\n", b",\n", b"\x0b", b"\x0c", b"\x1e", b"\x85", b"\x00", b"\\n", b";")
-LINE_BYTES = b"0123456789-,\r\n"
+LINE_BYTES = b"0123456789-!!,\r\n"
 # Bytes that matter in comma lines, those of right ones more often
-LOOSE_LINE_BYTES = b"001129--,,,,\n\n\n\n\r\r" + b" \"+\t\x00.\xff"
+LOOSE_LINE_BYTES = b"001129--!!,,,,\n\n\n\n\r\r" + b" \"+\t\x00.\xff"
 
 
 def chance(random, probability):
@@ -52,6 +56,11 @@ def number_token(random):
     return str(random.randint(-2**31, 2**31 - 1))
 
 
+def declined_ending(random):
+    """What makes a test of a value with the word DECLINED."""
+    return ["IS"] + random.choice([[], ["NOT"]]) + ["DECLINED"]
+
+
 def truth_ending(random, words=model.TRUTH_WORDS):
     """What makes a truth test of a bracketed condition, with one of the words."""
     return ["IS"] + random.choice([[], ["NOT"]]) + [random.choice(words)]
@@ -62,14 +71,16 @@ def truth_ending(random, words=model.TRUTH_WORDS):
 class RuleMaker:
     """Draws rules as tokens, for tables with given columns.
 
-    `quantified`: whether SOME and ALL are drawn beside IN and NOT IN. `wild`: how often a name is drawn that may be absent.
-    `constants`: how often a value is a number. `outer`: how often a column's letter is any that is bound, and not surely the
-    innermost. `even`: whether the tests without a FROM are drawn alike in all places; otherwise, where no FROM may follow, most
-    of them are IS NULL. `truths`: how often a factor is a truth test, below 1. A scope is a list of letters and the tables that
-    they range over, the innermost last.
+    `quantified`: whether SOME and ALL are drawn beside IN and NOT IN. `wild`: how often a name is drawn that may be
+    absent. `constants`: how often a value is a number. `outer`: how often a column's letter is any that is bound, and
+    not surely the innermost. `even`: whether the tests without a FROM are drawn alike in all places; otherwise, where
+    no FROM may follow, most of them are IS NULL or IS DECLINED. `truths`: how often a factor is a truth test, below 1.
+    `declined`: how often a test of a value that would have NULL has DECLINED. A scope is a list of letters and the
+    tables that they range over, the innermost last.
     """
 
-    def __init__(self, random, columns, quantified=True, wild=0.0, deepest=3, constants=.3, outer=.5, even=False, truths=0.0):
+    def __init__(self, random, columns, quantified=True, wild=0.0, deepest=3, constants=.3, outer=.5, even=False,
+                 truths=0.0, declined=.4):
         self.random = random
         self.columns = columns
         self.quantified = quantified
@@ -79,6 +90,7 @@ class RuleMaker:
         self.outer = outer
         self.even = even
         self.truths = truths
+        self.declined = declined
 
     def rule(self, size):
         return self.condition([("m", 1)], size, self.deepest)
@@ -128,11 +140,11 @@ class RuleMaker:
         return self.plain_test(scope, draw)
 
     def plain_test(self, scope, draw):
-        """A test without a FROM: a number from .72 to 1 chooses among all of them, and one below is IS NULL."""
-        if draw < .82:
-            return self.value(scope) + ["IS", "NULL"]
+        """A test without a FROM: a number from .72 to 1 chooses among all, and one below is IS NULL or IS DECLINED."""
         if draw < .87:
-            return self.value(scope) + ["IS", "NOT", "NULL"]
+            word = "DECLINED" if self.declined > 0 and chance(self.random, self.declined) else "NULL"
+            has_not = draw >= .82 or word == "DECLINED" and chance(self.random, .3)
+            return self.value(scope) + ["IS"] + ["NOT"] * has_not + [word]
         return self.value(scope) + [self.random.choice(SIGNS)] + self.value(scope)
 
     def before_list(self):
@@ -320,13 +332,18 @@ def damaged_bytes(random, text):
     return bytes(changed)
 
 
-def misplaced_truths(random, columns):
-    """Texts, as tokens, with one fault each, in what stands before or behind a truth test or in the truth test itself."""
+def around_a_fault(random, columns):
+    """What texts with a misplaced test are made from: a maker of rules, the scope, a value, a source with its scope, and a condition in brackets."""
     maker = RuleMaker(random, columns, truths=.15)
     scope = [("m", 1)]
     value = maker.value(scope)
     source, inner_scope = maker.row_source(scope)
-    bracketed = ["("] + maker.rule(2) + [")"]
+    return maker, scope, value, source, inner_scope, ["("] + maker.rule(2) + [")"]
+
+
+def misplaced_truths(random, columns):
+    """Texts, as tokens, with one fault each, in what stands before or behind a truth test or in the truth test itself."""
+    maker, scope, value, source, inner_scope, bracketed = around_a_fault(random, columns)
     word = random.choice(model.TRUTH_WORDS)
     ending = truth_ending(random)
     return [
@@ -360,9 +377,58 @@ def misplaced_truths(random, columns):
     ]
 
 
+def misplaced_declineds(random, columns):
+    """Texts, as tokens, with one fault each, in a test with the word DECLINED or around it."""
+    maker, scope, value, source, inner_scope, bracketed = around_a_fault(random, columns)
+    ending = declined_ending(random)
+    return [
+        # behind what is no value
+        bracketed + ending,
+        ["("] + value + [")"] + ending,
+        value + [random.choice(SIGNS)] + maker.value(scope) + ending,
+        value + maker.before_list() + maker.listed(scope, 1, 3) + ending,
+        ["EXISTS", "("] + source + maker.condition(inner_scope, 1, 2) + [")"] + ending,
+        ending,
+        # behind another test, and another test behind it
+        value + ["IS", "NULL"] + ending,
+        value + ending + ["IS", "NULL"],
+        value + ending + declined_ending(random),
+        value + ending + truth_ending(random),
+        value + ending + [random.choice(SIGNS), "1"],
+        bracketed + truth_ending(random) + ending,
+        # another order, and words too many or too few
+        value + ["IS", "NOT", "NOT", "DECLINED"],
+        value + ["NOT", "IS", "DECLINED"],
+        value + ["IS", "DECLINED", "NOT"],
+        value + ["NOT", "DECLINED"],
+        value + ["DECLINED"],
+        value + ["IS", "NULL", "DECLINED"],
+        value + ["IS", "DECLINED", "NULL"],
+        value + ["IS", "IS", "DECLINED"],
+        value + ["IN", "DECLINED"],
+        # the word as a value, as a test or as a column
+        ["DECLINED"],
+        ["(", "DECLINED", ")"],
+        value + [random.choice(SIGNS), "DECLINED"],
+        ["DECLINED", random.choice(SIGNS)] + value,
+        ["DECLINED"] + ending,
+        ["m", ".", "DECLINED"] + ending,
+        value + ["IN", "(", "SELECT", "DECLINED", "FROM", "1", "v", "WHERE", "1", "=", "1", ")"],
+    ]
+
+
 def misplaced_truth(random, columns):
-    """One of these faults, alone or within something that is right; refusal 6 in every place."""
-    fault = random.choice(misplaced_truths(random, columns))
+    """One of the faults about truth tests, alone or within something that is right; refusal 6 in every place."""
+    return within_right(random, columns, random.choice(misplaced_truths(random, columns)))
+
+
+def misplaced_declined(random, columns):
+    """The same for one of the faults about DECLINED."""
+    return within_right(random, columns, random.choice(misplaced_declineds(random, columns)))
+
+
+def within_right(random, columns, fault):
+    """Faulty tokens, alone or within something that is right."""
     right = RuleMaker(random, columns, truths=.15).factor([("m", 1)], 1, 1)
     return random.choice([
         fault,
@@ -381,7 +447,9 @@ def misplaced_truth(random, columns):
 def many_truths(random):
     """Truth tests around one another, with a sum near 192 or far above it, and near 32 brackets."""
     only_ending = random.choice([" IS UNKNOWN", " IS NOT UNKNOWN", " IS TRUE", None, None])
-    text = random.choice(["1=1", "m.1=1", "m.1 IS NULL", "1=1 OR m.1<0", "EXISTS(FROM 1 v WHERE v.1=m.1)", "k.1=1", "1="])
+    text = random.choice([
+        "1=1", "m.1=1", "m.1 IS NULL", "m.1 IS DECLINED", "NOT m.1 IS NOT DECLINED", "1=1 OR m.1<0",
+        "EXISTS(FROM 1 v WHERE v.1=m.1)", "k.1=1", "k.1 IS DECLINED", "1="])
     for _ in range(random.choice([3, 5, 6, 6, 7, 7, 8, 15, 16, 30, 31, 32, 33])):
         if chance(random, .05):
             text = "NOT " + text
@@ -405,7 +473,7 @@ def long_chain(random):
             text += " " + (only_word or random.choice(["OR", "AND"])) + " "
         if chance(random, .02):
             text += "NOT "
-        text += random.choice(["1=1", "m.1=1", "2>1", "m.1<0"])
+        text += random.choice(["1=1", "m.1=1", "2>1", "m.1<0", "m.1 IS DECLINED", "1 IS NOT DECLINED"])
     if chance(random, .2):
         text += random.choice([" OR", " AND 1", ")", " OR 1=1 1", " @", " OR k.1=1"])
     if chance(random, .2):
@@ -416,14 +484,15 @@ def long_chain(random):
 def many_nots(random):
     """A test under NOTs, near 64 parts."""
     count = random.choice([61, 62, 63, 63, 64, 65])
-    return b"NOT " * count + random.choice([b"1=1", b"k.1=1", b"m.1 IS NULL", b"1", b"m.1 IS NOT"])
+    return b"NOT " * count + random.choice([
+        b"1=1", b"k.1=1", b"m.1 IS NULL", b"m.1 IS DECLINED", b"m.1 IS NOT DECLINED", b"1", b"m.1 IS NOT"])
 
 
 def many_brackets(random):
     """Brackets around something, near 32 of them, and some before."""
     count = random.choice([30, 31, 32, 32, 33, 33, 34])
     core = random.choice([
-        b"1=1", b"m.1=1", b"k.1=1", b"1=", b"", b"1=1 @", b"1=1)", b"NOT 1=1",
+        b"1=1", b"m.1=1", b"k.1=1", b"1=", b"", b"1=1 @", b"1=1)", b"NOT 1=1", b"m.1 IS DECLINED", b"m.1 IS DECLINED 1",
         b"EXISTS(FROM 1 v WHERE 1=1)", b"1 IN(SELECT 1 FROM 1 m WHERE 1=1)"])
     before = random.choice([b"", b"", b")", b") ", b"()", b"(1=1)OR", b"))", b")("])
     closing = random.choice([count, count, count, count - 1, count + 1, 0])
@@ -434,7 +503,8 @@ def deep_froms(random):
     """FROMs around one another, near three of them."""
     text = "1=1"
     if chance(random, .4):
-        text = random.choice(["m.1=v.1", "a.1 IS NULL", "b.1=m.1", "1=", "q.1=1"])
+        text = random.choice([
+            "m.1=v.1", "a.1 IS NULL", "a.1 IS DECLINED", "b.1 IS NOT DECLINED", "b.1=m.1", "1=", "q.1=1"])
     for _ in range(random.choice([2, 3, 3, 4, 4, 5])):
         letter = random.choice("mvab")
         table = random.choice([1, 1, 1, 2, 9, 0])
@@ -472,49 +542,95 @@ def damaged_text(random, columns):
     if draw < .83:
         return deep_froms(random)
     if draw < .9:
-        return spaced(random, misplaced_truth(random, columns))
+        misplaced = random.choice([misplaced_truth, misplaced_truth, misplaced_declined])
+        return spaced(random, misplaced(random, columns))
     return many_truths(random) if draw < .97 else rule_near_sum(random, columns)
 
 
 # ---- tables
 
 def tables_file(tables):
-    """The file of tables that are given as (columns, rows), where a row is a list of numbers, and of None for a blank."""
+    """The file of tables that are given as (columns, rows), where a row is a list of cells as the model has them.
+
+    So a cell is a number, None where it is blank, or model.DECLINED_CELL. The value is 77 in a blank cell and 78 in a
+    declined one.
+    """
     sizes = bytes([len(tables)])
     values = b""
     marks = b""
     for columns, rows in tables:
         sizes += bytes([columns]) + len(rows).to_bytes(2, "little")
         for cell in (cell for row in rows for cell in row):
-            values += ((77 if cell is None else cell) % 2**32).to_bytes(4, "little")
-            marks += bytes([cell is None])
+            mark = model.mark_of(cell)
+            value = {model.MARK_PRESENT: cell, model.MARK_BLANK: 77, model.MARK_DECLINED: 78}[mark]
+            values += (value % 2**32).to_bytes(4, "little")
+            marks += bytes([mark])
     return sizes + values + marks
 
 
+def marks_at(file):
+    """Where the marks of a right tables file start. The last fifth of what follows the sizes are marks."""
+    cells_at = 1 + 3 * file[0]
+    return cells_at + (len(file) - cells_at) // 5 * 4
+
+
+def with_marks(file, changes):
+    """A right tables file in which the marks are changed as a dictionary says; the values stay."""
+    start = marks_at(file)
+    return file[:start] + bytes(changes.get(mark, mark) for mark in file[start:])
+
+
+def with_other_values(random, file):
+    """A right tables file with other value bytes in its blank and declined cells; the numbers stay."""
+    start = marks_at(file)
+    values_at = 1 + 3 * file[0]
+    changed = bytearray(file)
+    for number, mark in enumerate(file[start:]):
+        if mark != model.MARK_PRESENT:
+            place = values_at + 4 * number
+            changed[place:place + 4] = random.getrandbits(32).to_bytes(4, "little")
+    return bytes(changed)
+
+
 def cell_value(random):
-    """The value of a cell that is not blank."""
+    """The value of a cell that is present."""
     if chance(random, .85):
         return random.randint(-2, 2)
     return random.choice(EDGE_CELLS + (random.randint(-2**31, 2**31 - 1),))
 
 
-def filled_tables(random, sizes, blanks=None):
-    """A file with the given (columns, row count) of each table. The value bytes of blank cells are random.
+def drawn_mark(random, blanks, declined):
+    """A mark: `blanks` says how often a cell is not present, and `declined` how often such a cell is declined."""
+    if not chance(random, blanks):
+        return model.MARK_PRESENT
+    return model.MARK_DECLINED if chance(random, declined) else model.MARK_BLANK
 
-    `blanks`: how often a cell is blank; drawn where it is not given.
+
+def declined_share(random):
+    """How often a cell that is not present is declined."""
+    return random.choice([0, .3, .5, .5, .7, 1])
+
+
+def filled_tables(random, sizes, blanks=None, declined=None):
+    """A file with the given (columns, row count) of each table. The values of blank and declined cells are random.
+
+    `blanks`: how often a cell is blank or declined. `declined`: how often such a cell is declined. Both are drawn where
+    they are not given.
     """
     head = bytes([len(sizes)])
     values = b""
     marks = b""
     if blanks is None:
         blanks = random.choice([0, .2, .4, .4, .6, 1])
+    if declined is None:
+        declined = declined_share(random)
     for columns, row_count in sizes:
         head += bytes([columns]) + row_count.to_bytes(2, "little")
         for _ in range(columns * row_count):
-            blank = chance(random, blanks)
-            value = random.getrandbits(32) if blank else cell_value(random)
+            mark = drawn_mark(random, blanks, declined)
+            value = cell_value(random) if mark == model.MARK_PRESENT else random.getrandbits(32)
             values += (value % 2**32).to_bytes(4, "little")
-            marks += bytes([blank])
+            marks += bytes([mark])
     return head + values + marks
 
 
@@ -543,9 +659,10 @@ def damaged_tables(random, file):
     if draw < .2:
         del changed[random.randrange(len(changed)):]
     elif draw < .3:
-        changed.append(random.choice([0, 1, 2]))
+        changed.append(random.choice([0, 1, 2, 3]))
     elif draw < .55:
-        changed[-random.randint(1, min(3, len(changed) - 1))] = random.choice([2, 3, 255, 1])
+        place = -random.randint(1, min(3, len(changed) - 1))
+        changed[place] = random.choice([3, 3, 4, 255, random.randrange(256), 2, 1])
     elif draw < .85:
         changed[random.randrange(sizes_end)] = random.choice([0, 1, 2, 3, 8, 9, 16, 17, 255])
     elif draw < .9:
@@ -560,12 +677,16 @@ def damaged_tables(random, file):
 # ---- cards that are not made from a rule
 
 class CardMaker:
-    """Draws cards, for tables with given columns. `bad`: how often a field is drawn that may be out of place."""
+    """Draws cards, for tables with given columns.
 
-    def __init__(self, random, columns, bad=0.0):
+    `bad`: how often a field is drawn that may be out of place. `value_kinds`: the kinds that use the left value alone.
+    """
+
+    def __init__(self, random, columns, bad=0.0, value_kinds=model.VALUE_ENTRIES):
         self.random = random
         self.columns = columns
         self.bad = bad
+        self.value_kinds = value_kinds
 
     def card(self, size):
         return model.card_bytes(self.entry(size, [1]), self.columns)
@@ -589,12 +710,18 @@ class CardMaker:
         deepest = 1 + model.MOST_FROMS + chance(self.random, .2 if self.bad else 0)
         if draw < .8 and len(tables) < deepest:
             return self.row_entry(size, tables)
-        if draw < .93:
+        if draw < .91:
             bad = chance(self.random, self.bad)
             comparison = self.random.choice([0, 7, 255]) if bad else self.random.randint(1, 6)
             kind = self.random.choice([5, 6])
             return model.comparison_entry(kind, comparison, self.value(tables), self.value(tables))
-        return model.blank_entry(self.random.choice([7, 8]), self.value(tables))
+        return self.value_entry(tables)
+
+    def value_entry(self, tables):
+        kind = self.random.choice(self.value_kinds)
+        if kind in (model.BLANK, model.NOT_BLANK):
+            return model.blank_entry(kind, self.value(tables))
+        return model.declined_entry(kind, self.value(tables))
 
     def row_entry(self, size, tables):
         table = self.random.randint(1, len(self.columns))
@@ -605,9 +732,9 @@ class CardMaker:
         return model.row_entry(self.random.choice([3, 4]), written, inner)
 
 
-def random_card(random, columns, bad=0.0):
+def random_card(random, columns, bad=0.0, value_kinds=model.VALUE_ENTRIES):
     """A card of a few entries."""
-    return CardMaker(random, columns, bad).card(random.choice([1, 1, 2, 3, 4]))
+    return CardMaker(random, columns, bad, value_kinds).card(random.choice([1, 1, 2, 3, 4]))
 
 
 def with_entry_more(random, sheet, entry_count, table_count):
@@ -616,11 +743,29 @@ def with_entry_more(random, sheet, entry_count, table_count):
     changed = bytearray(sheet)
     changed[0] = (entry_count + 1) % 256
     record = bytes([(entry_count + 2) % 256]) + bytes(model.RECORD_BYTES - 1)
-    return bytes(changed[:kinds_end]) + bytes([random.randint(1, 8)]) + bytes(changed[kinds_end:]) + record
+    return bytes(changed[:kinds_end]) + bytes([random.randint(1, 10)]) + bytes(changed[kinds_end:]) + record
+
+
+def damaged_value_entry(random, sheet):
+    """A sound card with one byte more that is not 0 in an entry of kinds 7 to 10, where it has one.
+
+    This is a byte of the table, of the comparison or of the right value, which these kinds do not use.
+    """
+    entry_count, table_count = sheet[0], sheet[2]
+    kinds_at = 3 + table_count
+    places = [place for place in range(entry_count) if sheet[kinds_at + place] in model.VALUE_ENTRIES]
+    if not places:
+        return sheet
+    record_at = kinds_at + entry_count + model.RECORD_BYTES * random.choice(places)
+    changed = bytearray(sheet)
+    changed[record_at + random.choice([2, 3, 9, 9, 10, 11, 12, 13])] = random.choice([1, 2, 255])
+    return bytes(changed)
 
 
 def damaged_card(random, sheet):
     """A card with one change."""
+    if chance(random, .05):
+        return damaged_value_entry(random, sheet)
     changed = bytearray(sheet)
     entry_count, table_count = changed[0], changed[2]
     kinds_at = 3 + table_count
@@ -629,11 +774,11 @@ def damaged_card(random, sheet):
     if draw < .45:
         place = random.randrange(len(changed))
         near = [(changed[place] + 1) % 256, (changed[place] - 1) % 256]
-        changed[place] = random.choice([0, 1, 2, 3, 4, 5, 6, 7, 8, 9, 16, 17, 255, random.randrange(256)] + near)
+        changed[place] = random.choice(list(range(13)) + [16, 17, 255, random.randrange(256)] + near)
     elif draw < .6:
         changed[record_at + random.choice([0, 0, 1, 2, 3, 4, 9])] = random.choice([0, 1, 2, 3, 4, 5, 6, 7, 255])
     elif draw < .68:
-        changed[kinds_at + random.randrange(entry_count)] = random.randrange(10)
+        changed[kinds_at + random.randrange(entry_count)] = random.randrange(13)
     elif draw < .76:
         del changed[random.randrange(len(changed)):]
     elif draw < .80:
@@ -663,7 +808,7 @@ def spelled(random, number):
 
 
 def field_number(random):
-    """The number of a field that is not blank."""
+    """The number of a field that is present."""
     draw = random.random()
     if draw < .4:
         return random.randint(-3, 12)
@@ -673,15 +818,27 @@ def field_number(random):
 
 
 def random_rows(random, columns, row_count):
-    """Rows of cells, numbers and None for a blank."""
+    """Rows of cells, as the model has them."""
     blanks = random.choice([0, .2, .4, .6, 1])
-    return [[None if chance(random, blanks) else field_number(random) for _ in range(columns)] for _ in range(row_count)]
+    declined = declined_share(random)
+
+    def cell():
+        mark = drawn_mark(random, blanks, declined)
+        return model.cell_with(mark, field_number(random) if mark == model.MARK_PRESENT else None)
+
+    return [[cell() for _ in range(columns)] for _ in range(row_count)]
+
+
+def written_field(random, cell):
+    """A cell as a field, a number in one of its spellings."""
+    mark = model.mark_of(cell)
+    return {model.MARK_BLANK: b"", model.MARK_DECLINED: b"!"}[mark] if mark else spelled(random, cell)
 
 
 def comma_lines(random, rows):
     """The comma lines of rows. A line end is LF or CRLF, and the last line may have none, where the line is not empty."""
     only_end = random.choice([b"\n", b"\r\n", None])
-    lines = [b",".join(b"" if cell is None else spelled(random, cell) for cell in row) for row in rows]
+    lines = [b",".join(written_field(random, cell) for cell in row) for row in rows]
     text = b"".join(line + (only_end or random.choice([b"\n", b"\r\n"])) for line in lines)
     if lines and lines[-1] and chance(random, .4):
         return text.removesuffix(b"\n").removesuffix(b"\r")
@@ -756,7 +913,8 @@ def damaged_lines(random, lines):
 
 def random_line_bytes(random):
     """Any of the bytes that matter in comma lines."""
-    alphabet = random.choice([LOOSE_LINE_BYTES, LOOSE_LINE_BYTES, LINE_BYTES, b"1,\n", b"1\r\n", b"1-\r\n,", b"\r\n"])
+    alphabet = random.choice([
+        LOOSE_LINE_BYTES, LOOSE_LINE_BYTES, LINE_BYTES, b"1,\n", b"1\r\n", b"1-\r\n,", b"\r\n", b"!,\n", b"!1\r\n,"])
     return bytes(random.choice(alphabet) for _ in range(random.randint(0, 12)))
 
 

@@ -1,10 +1,11 @@
-"""Reference model of document 01, "Entry rules with blanks: text, tables, card", with Points 1 and 2 of document 02.
+"""Reference model of document 01, "Entry rules with blanks: text, tables, card", with Points 1, 2, 4 of document 02.
 
-It is written from these documents and shares nothing with the definitions and programs of crates/, so that each can be
-compared with the other. The eight calls READ, JUDGE, CARD, CHECK, RUN, LIST, IMPORT and EXPORT are the functions read, judge,
-card, check, run, list_rows, import_lines and export_lines. Texts, tables files, cards and comma lines are bytes; rows, columns
-and rooms are numbers. A call returns Refused, with a number of the table "Gate says why not" or of Points 1 and 2, or its
-answer.
+Point 3 changes no answer. The model is written from these documents and shares nothing with the definitions and
+programs of crates/, so that each can be compared with the other. The eight calls READ, JUDGE, CARD, CHECK, RUN, LIST,
+IMPORT and EXPORT are the functions read, judge, card, check, run, list_rows, import_lines and export_lines. Texts,
+tables files, cards and comma lines are bytes; rows, columns and rooms are numbers. A call returns Refused, with a
+number of the table "Gate says why not" or of Points 1 and 2, or its answer. A cell is blank, declined, or present with
+a number.
 """
 import functools
 from dataclasses import dataclass
@@ -61,11 +62,51 @@ def refusing(call):
     return answered
 
 
+# ---- Cells
+
+MARK_PRESENT = 0
+MARK_BLANK = 1
+MARK_DECLINED = 2
+MARKS = (MARK_PRESENT, MARK_BLANK, MARK_DECLINED)
+
+
+@dataclass(frozen=True)
+class Declined:
+    """The cell of a declined answer."""
+
+
+# A cell is one of these two, or it is present: then it is its number
+BLANK_CELL = None
+DECLINED_CELL = Declined()
+
+
+def cell_with(mark, value):
+    """The cell of a mark and a value. The value of a blank or declined cell may be anything, and nothing keeps it."""
+    return {MARK_PRESENT: value, MARK_BLANK: BLANK_CELL, MARK_DECLINED: DECLINED_CELL}[mark]
+
+
+def mark_of(cell):
+    """The mark of a cell."""
+    if cell is BLANK_CELL:
+        return MARK_BLANK
+    return MARK_DECLINED if is_declined(cell) else MARK_PRESENT
+
+
+def is_declined(cell):
+    """Whether a cell or a number is declined, by the mark; a number never is."""
+    return isinstance(cell, Declined)
+
+
+def counts_as_blank(cell):
+    """Whether a cell or a number is blank for IS NULL and for comparisons: a declined cell is so in every respect."""
+    return cell is BLANK_CELL or is_declined(cell)
+
+
 # ---- Tables
 
 @dataclass(frozen=True)
 class Tables:
-    """The tables of a file: a column count each, and rows of cells, where a cell is a number or None for a blank."""
+    """The tables of a file: a column count each, and rows of cells."""
     columns: list
     rows: list
 
@@ -104,12 +145,12 @@ def tables_of(file):
     require(cell_count <= MOST_CELLS, 1)
     require(len(file) == marks_at + cell_count, 1)
     marks = file[marks_at:]
-    require(all(mark <= 1 for mark in marks), 2)
+    require(all(mark in MARKS for mark in marks), 2)
     cells = []
     for number, mark in enumerate(marks):
         start = values_at + 4 * number
         value = int.from_bytes(file[start:start + 4], "little", signed=True)
-        cells.append(None if mark == 1 else value)
+        cells.append(cell_with(mark, value))
     return Tables([columns for columns, _ in sizes], rows_from(sizes, cells))
 
 
@@ -129,7 +170,8 @@ def rows_from(sizes, cells):
 # ---- Rule text: tokens
 
 TRUTH_WORDS = ("TRUE", "FALSE", "UNKNOWN")
-WORDS = ("AND", "OR", "NOT", "EXISTS", "IN", "SOME", "ALL", "IS", "NULL", "SELECT", "FROM", "WHERE") + TRUTH_WORDS
+BASE_WORDS = ("AND", "OR", "NOT", "EXISTS", "IN", "SOME", "ALL", "IS", "NULL", "SELECT", "FROM", "WHERE")
+WORDS = BASE_WORDS + TRUTH_WORDS + ("DECLINED",)
 COMPARISONS = {"=": 1, "<>": 2, "<": 3, "<=": 4, ">": 5, ">=": 6}
 LONG_SIGNS = (b"<>", b"<=", b">=")
 SHORT_SIGNS = (b"(", b")", b".", b"=", b"<", b">")
@@ -237,12 +279,19 @@ KIND_IS_FALSE = 12
 KIND_IS_NOT_FALSE = 13
 KIND_IS_UNKNOWN = 14
 KIND_IS_NOT_UNKNOWN = 15
+KIND_DECLINED = 16
+KIND_NOT_DECLINED = 17
 
 # The kinds of the truth tests, without and with NOT behind IS
 TRUTH_KINDS = {
     "TRUE": (KIND_IS_TRUE, KIND_IS_NOT_TRUE),
     "FALSE": (KIND_IS_FALSE, KIND_IS_NOT_FALSE),
     "UNKNOWN": (KIND_IS_UNKNOWN, KIND_IS_NOT_UNKNOWN),
+}
+# The same for the tests of a value
+VALUE_KINDS = {
+    "NULL": (KIND_NULL, KIND_NOT_NULL),
+    "DECLINED": (KIND_DECLINED, KIND_NOT_DECLINED),
 }
 
 
@@ -291,6 +340,13 @@ class Compare:
 @dataclass(frozen=True)
 class NullTest:
     """IS NULL or IS NOT NULL."""
+    kind: int
+    value: object
+
+
+@dataclass(frozen=True)
+class DeclinedTest:
+    """IS DECLINED or IS NOT DECLINED."""
     kind: int
     value: object
 
@@ -387,9 +443,7 @@ class Reader:
     def test_of(self, left):
         """The tests that start with a value."""
         if self.take("word", "IS"):
-            kind = KIND_NOT_NULL if self.take("word", "NOT") else KIND_NULL
-            self.expect("word", "NULL")
-            return NullTest(kind, left)
+            return self.value_test(left)
         if self.take("word", "IN"):
             return self.listed(KIND_SOME, COMPARISONS["="], left)
         if self.take("word", "NOT"):
@@ -403,6 +457,14 @@ class Reader:
         if self.take("word", "ALL"):
             return self.listed(KIND_ALL, comparison, left)
         return Compare(comparison, left, self.value())
+
+    def value_test(self, value):
+        """What follows a value and IS."""
+        has_not = self.take("word", "NOT")
+        word = self.any_of("word")
+        require(word in VALUE_KINDS, 6)
+        kind = VALUE_KINDS[word][has_not]
+        return NullTest(kind, value) if word == "NULL" else DeclinedTest(kind, value)
 
     def listed(self, kind, comparison, left):
         self.expect("sign", "(")
@@ -438,6 +500,11 @@ def condition_of(tokens):
 
 # ---- Rule text: limits and names
 
+def no_such(what):
+    """The error where something is of none of the sorts that there are."""
+    return TypeError(f"no such sort: {what}")
+
+
 def inner_conditions(condition):
     """The conditions right under a condition, left first."""
     if isinstance(condition, Join):
@@ -446,7 +513,9 @@ def inner_conditions(condition):
         return [condition.inner]
     if isinstance(condition, (Exists, Listed)):
         return [condition.where]
-    return []
+    if isinstance(condition, (Compare, NullTest, DeclinedTest)):
+        return []
+    raise no_such(condition)
 
 
 def check_limits(condition):
@@ -493,7 +562,7 @@ def check_names(condition, columns, letters, tables):
     if isinstance(condition, Compare):
         check_value(condition.left, columns, letters, tables)
         check_value(condition.right, columns, letters, tables)
-    if isinstance(condition, NullTest):
+    if isinstance(condition, (NullTest, DeclinedTest)):
         check_value(condition.value, columns, letters, tables)
     for inner in inner_conditions(condition):
         check_names(inner, columns, inner_letters, inner_tables)
@@ -544,23 +613,23 @@ def tagged(value, letters):
 
 def part_of(condition, end, letters):
     """The record of a condition, once its end is known."""
-    if isinstance(condition, Join):
+    if isinstance(condition, (Join, TruthTest)):
         return Part(condition.kind, 0, 0, end, UNUSED, UNUSED)
     if isinstance(condition, Not):
         return Part(KIND_NOT, 0, 0, end, UNUSED, UNUSED)
-    if isinstance(condition, TruthTest):
-        return Part(condition.kind, 0, 0, end, UNUSED, UNUSED)
     if isinstance(condition, Compare):
         left = tagged(condition.left, letters)
         right = tagged(condition.right, letters)
         return Part(KIND_COMPARISON, condition.comparison, 0, end, left, right)
-    if isinstance(condition, NullTest):
+    if isinstance(condition, (NullTest, DeclinedTest)):
         return Part(condition.kind, 0, 0, end, tagged(condition.value, letters), UNUSED)
     if isinstance(condition, Exists):
         return Part(KIND_EXISTS, 0, condition.table, end, UNUSED, UNUSED)
-    left = tagged(condition.left, letters)
-    selected = tagged(condition.selected, letters + [condition.letter])
-    return Part(condition.kind, condition.comparison, condition.table, end, left, selected)
+    if isinstance(condition, Listed):
+        left = tagged(condition.left, letters)
+        selected = tagged(condition.selected, letters + [condition.letter])
+        return Part(condition.kind, condition.comparison, condition.table, end, left, selected)
+    raise no_such(condition)
 
 
 def parts_of(rule):
@@ -579,25 +648,38 @@ def parts_of(rule):
     return parts
 
 
-# What a part adds to the sum of its inner parts: 1, where nothing else is said here
+# The kinds of parts by what they add to the sum of their inner parts
 NOTHING_ADDED = (KIND_NOT, KIND_IS_TRUE, KIND_IS_NOT_TRUE, KIND_IS_FALSE, KIND_IS_NOT_FALSE)
+ONE_ADDED = (
+    KIND_AND, KIND_OR, KIND_COMPARISON, KIND_NULL, KIND_NOT_NULL, KIND_EXISTS, KIND_DECLINED, KIND_NOT_DECLINED)
+THREE_ADDED = (KIND_SOME, KIND_ALL)
 INNER_TWICE = (KIND_IS_UNKNOWN, KIND_IS_NOT_UNKNOWN)
 
 
+def sum_with(kind, inner):
+    """The sum of a part of a kind and its inner parts, from the sum of the inner parts."""
+    if kind in NOTHING_ADDED:
+        return inner
+    if kind in ONE_ADDED:
+        return inner + 1
+    if kind in THREE_ADDED:
+        return inner + 3
+    if kind in INNER_TWICE:
+        return 1 + 2 * inner
+    raise no_such(kind)
+
+
 def entry_sum(parts):
-    """The sum n under Card, by the parts alone. No card is made for it: a card could double at each IS UNKNOWN around others."""
+    """The sum n under Card, by the parts alone.
+
+    No card is made for it: a card could double at each IS UNKNOWN around others.
+    """
     def summed(start, end):
         """The sum of the parts from one place up to another."""
         total = 0
         while start < end:
-            kind, after = parts[start].kind, parts[start].end
-            inner = summed(start + 1, after)
-            if kind in INNER_TWICE:
-                total += 1 + 2 * inner
-            elif kind in NOTHING_ADDED:
-                total += inner
-            else:
-                total += inner + (3 if kind in (KIND_SOME, KIND_ALL) else 1)
+            after = parts[start].end
+            total += sum_with(parts[start].kind, summed(start + 1, after))
             start = after
         return total
 
@@ -616,8 +698,8 @@ def read(text, file, room):
 # ---- Meaning
 
 def compared(comparison, left, right):
-    """A comparison of two cells or numbers; with a blank it is unknown."""
-    if left is None or right is None:
+    """A comparison of two cells or numbers; with a blank or declined one it is unknown."""
+    if counts_as_blank(left) or counts_as_blank(right):
         return UNKNOWN
     holds = {
         1: left == right,
@@ -662,8 +744,19 @@ def truth_tested(kind, truth):
     return TRUE if holds else FALSE
 
 
+def value_tested(kind, cell):
+    """IS NULL, IS DECLINED and their opposites of a cell or a number, which are never unknown."""
+    holds = {
+        KIND_NULL: counts_as_blank(cell),
+        KIND_NOT_NULL: not counts_as_blank(cell),
+        KIND_DECLINED: is_declined(cell),
+        KIND_NOT_DECLINED: not is_declined(cell),
+    }[kind]
+    return TRUE if holds else FALSE
+
+
 def cell_of(value, letters, rows):
-    """What a value is, with the letters and their rows by level: a number, or None for a blank."""
+    """What a value is, with the letters and their rows by level: a number, or a cell of one of these rows."""
     if isinstance(value, Constant):
         return value.number
     return rows[level_of(value.letter, letters)][value.number - 1]
@@ -682,14 +775,15 @@ def meaning(condition, tables, letters, rows):
         left = cell_of(condition.left, letters, rows)
         right = cell_of(condition.right, letters, rows)
         return compared(condition.comparison, left, right)
-    if isinstance(condition, NullTest):
-        blank = cell_of(condition.value, letters, rows) is None
-        return TRUE if blank == (condition.kind == KIND_NULL) else FALSE
-    retained = retained_rows(condition, tables, letters, rows)
+    if isinstance(condition, (NullTest, DeclinedTest)):
+        return value_tested(condition.kind, cell_of(condition.value, letters, rows))
     if isinstance(condition, Exists):
-        return TRUE if retained else FALSE
-    truths = list_truths(condition, retained, letters, rows)
-    return either(truths) if condition.kind == KIND_SOME else both(truths)
+        return TRUE if retained_rows(condition, tables, letters, rows) else FALSE
+    if isinstance(condition, Listed):
+        retained = retained_rows(condition, tables, letters, rows)
+        truths = list_truths(condition, retained, letters, rows)
+        return either(truths) if condition.kind == KIND_SOME else both(truths)
+    raise no_such(condition)
 
 
 def retained_rows(condition, tables, letters, rows):
@@ -730,8 +824,16 @@ UNKNOWN_IS_NO = 5
 UNKNOWN_IS_YES = 6
 BLANK = 7
 NOT_BLANK = 8
+DECLINED = 9
+NOT_DECLINED = 10
 
-OTHER_KIND = {1: 2, 2: 1, 3: 4, 4: 3, 5: 6, 6: 5, 7: 8, 8: 7}
+PAIRS = (PAIR_AND, PAIR_OR)
+ROW_ENTRIES = (SOME_ROW, EVERY_ROW)
+COMPARISON_ENTRIES = (UNKNOWN_IS_NO, UNKNOWN_IS_YES)
+VALUE_ENTRIES = (BLANK, NOT_BLANK, DECLINED, NOT_DECLINED)
+ENTRY_KINDS = PAIRS + ROW_ENTRIES + COMPARISON_ENTRIES + VALUE_ENTRIES
+
+OTHER_KIND = {1: 2, 2: 1, 3: 4, 4: 3, 5: 6, 6: 5, 7: 8, 8: 7, 9: 10, 10: 9}
 OTHER_COMPARISON = {1: 2, 2: 1, 3: 6, 6: 3, 4: 5, 5: 4}
 
 
@@ -766,10 +868,15 @@ def blank_entry(kind, value):
     return Entry(kind, left=value)
 
 
+def declined_entry(kind, value):
+    """Kinds 9 and 10."""
+    return Entry(kind, left=value)
+
+
 def negated(entry):
     """The negation of an entry, swapped all the way in."""
     kind = OTHER_KIND[entry.kind]
-    comparison = OTHER_COMPARISON.get(entry.comparison, 0)
+    comparison = OTHER_COMPARISON[entry.comparison] if entry.kind in COMPARISON_ENTRIES else 0
     inner = tuple(negated(one) for one in entry.inner)
     return Entry(kind, entry.table, comparison, entry.left, entry.right, inner)
 
@@ -790,13 +897,27 @@ def interpreted(condition, letters, comparison_kind):
     if isinstance(condition, NullTest):
         kind = BLANK if condition.kind == KIND_NULL else NOT_BLANK
         return blank_entry(kind, tagged(condition.value, letters))
-    inner_letters = letters + [condition.letter]
-    where = interpreted(condition.where, inner_letters, UNKNOWN_IS_NO)
+    if isinstance(condition, DeclinedTest):
+        kind = DECLINED if condition.kind == KIND_DECLINED else NOT_DECLINED
+        return declined_entry(kind, tagged(condition.value, letters))
     if isinstance(condition, Exists):
-        return row_entry(SOME_ROW, condition.table, where)
+        return row_entry(SOME_ROW, condition.table, where_entry(condition, letters))
+    if isinstance(condition, Listed):
+        return list_entry(condition, letters, comparison_kind)
+    raise no_such(condition)
+
+
+def where_entry(condition, letters):
+    """The WHERE of EXISTS or of a list, which starts false-interpreted."""
+    return interpreted(condition.where, letters + [condition.letter], UNKNOWN_IS_NO)
+
+
+def list_entry(condition, letters, comparison_kind):
+    """SOME or ALL over a list, by the kind of its comparison."""
     left = tagged(condition.left, letters)
-    selected = tagged(condition.selected, inner_letters)
+    selected = tagged(condition.selected, letters + [condition.letter])
     comparison = comparison_entry(comparison_kind, condition.comparison, left, selected)
+    where = where_entry(condition, letters)
     if condition.kind == KIND_SOME:
         return row_entry(SOME_ROW, condition.table, pair_entry(PAIR_AND, where, comparison))
     return row_entry(EVERY_ROW, condition.table, pair_entry(PAIR_OR, negated(where), comparison))
@@ -906,9 +1027,9 @@ def check_card_value(value, columns, tables):
 
 def check_fields(record, columns, tables):
     """The fields of one entry: those that its kind uses exist, and the others are 0."""
-    uses_table = record.kind in (SOME_ROW, EVERY_ROW)
-    uses_comparison = record.kind in (UNKNOWN_IS_NO, UNKNOWN_IS_YES)
-    uses_left = uses_comparison or record.kind in (BLANK, NOT_BLANK)
+    uses_table = record.kind in ROW_ENTRIES
+    uses_comparison = record.kind in COMPARISON_ENTRIES
+    uses_left = uses_comparison or record.kind in VALUE_ENTRIES
     if uses_table:
         require(1 <= record.table <= len(columns), 9)
         require(len(tables) <= MOST_FROMS, 9)
@@ -929,13 +1050,13 @@ def check_entry(records, number, columns, tables):
     """Checks an entry and the entries inside it, and gives the number of the first entry after them."""
     require(number < len(records), 9)
     record = records[number]
-    require(1 <= record.kind <= 8, 9)
+    require(record.kind in ENTRY_KINDS, 9)
     check_fields(record, columns, tables)
     after = number + 1
-    if record.kind in (PAIR_AND, PAIR_OR):
+    if record.kind in PAIRS:
         after = check_entry(records, after, columns, tables)
         after = check_entry(records, after, columns, tables)
-    if record.kind in (SOME_ROW, EVERY_ROW):
+    if record.kind in ROW_ENTRIES:
         after = check_entry(records, after, columns, tables + [record.table])
     require(record.end == after, 9)
     return after
@@ -969,19 +1090,31 @@ def says_yes(records, number, tables, rows):
     """The answer of an entry, by its kind, with the rows by level."""
     record = records[number]
     first = number + 1
-    if record.kind in (PAIR_AND, PAIR_OR):
+    if record.kind in PAIRS:
         second = records[first].end
         one = says_yes(records, first, tables, rows)
         other = says_yes(records, second, tables, rows)
         return (one and other) if record.kind == PAIR_AND else (one or other)
-    if record.kind in (SOME_ROW, EVERY_ROW):
+    if record.kind in ROW_ENTRIES:
         answers = [says_yes(records, first, tables, rows + [row]) for row in tables.rows_of(record.table)]
         return any(answers) if record.kind == SOME_ROW else all(answers)
     left = card_cell(record.left, rows)
-    if record.kind in (BLANK, NOT_BLANK):
-        return (left is None) == (record.kind == BLANK)
-    truth = compared(record.comparison, left, card_cell(record.right, rows))
-    return truth == TRUE or (truth == UNKNOWN and record.kind == UNKNOWN_IS_YES)
+    if record.kind in VALUE_ENTRIES:
+        return value_entry_says_yes(record.kind, left)
+    if record.kind in COMPARISON_ENTRIES:
+        truth = compared(record.comparison, left, card_cell(record.right, rows))
+        return truth == TRUE or (truth == UNKNOWN and record.kind == UNKNOWN_IS_YES)
+    raise no_such(record)
+
+
+def value_entry_says_yes(kind, cell):
+    """The answer of an entry of kind 7, 8, 9 or 10 about a cell or a number."""
+    return {
+        BLANK: counts_as_blank(cell),
+        NOT_BLANK: not counts_as_blank(cell),
+        DECLINED: is_declined(cell),
+        NOT_DECLINED: not is_declined(cell),
+    }[kind]
 
 
 def gate(sheet, file):
@@ -1013,6 +1146,10 @@ def list_rows(sheet, file, room):
 
 # ---- Comma lines
 
+BLANK_FIELD = b""
+DECLINED_FIELD = b"!"
+
+
 def lines_of(text):
     """The lines of a text, without their line ends. A CR belongs to a line end only right before its LF.
 
@@ -1024,9 +1161,11 @@ def lines_of(text):
 
 
 def cell_from(field):
-    """The cell of a field: a number, or None for a blank where the field is empty; refusal 14."""
-    if not field:
-        return None
+    """The cell of a field: empty for blank, a lone ! for declined, or a number; refusal 14."""
+    if field == BLANK_FIELD:
+        return BLANK_CELL
+    if field == DECLINED_FIELD:
+        return DECLINED_CELL
     require(is_number(field), 14)
     return int(field)
 
@@ -1043,11 +1182,12 @@ def comma_rows(text, columns):
 
 
 def table_bytes(columns, rows):
-    """The tables file of a single table, with 0 as the value under each blank."""
+    """The tables file of a single table, with 0 as the value of each blank or declined cell."""
     cells = [cell for row in rows for cell in row]
     sizes = bytes([1, columns]) + len(rows).to_bytes(2, "little")
-    values = b"".join((0 if cell is None else cell).to_bytes(4, "little", signed=True) for cell in cells)
-    return sizes + values + bytes(cell is None for cell in cells)
+    numbers = [0 if counts_as_blank(cell) else cell for cell in cells]
+    values = b"".join(number.to_bytes(4, "little", signed=True) for number in numbers)
+    return sizes + values + bytes(mark_of(cell) for cell in cells)
 
 
 @refusing
@@ -1061,8 +1201,10 @@ def import_lines(lines, columns, room):
 
 
 def field_of(cell):
-    """The field of a cell: a number without spare zeros, or nothing for a blank."""
-    return b"" if cell is None else b"%d" % cell
+    """The field of a cell: nothing for a blank, a lone ! for a declined one, or the number without spare zeros."""
+    if cell is BLANK_CELL:
+        return BLANK_FIELD
+    return DECLINED_FIELD if is_declined(cell) else b"%d" % cell
 
 
 @refusing

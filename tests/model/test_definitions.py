@@ -267,6 +267,11 @@ def is_truth_tested(fact):
     return reading and not is_refused(fact) and any(word.encode() in fact.case.source for word in model.TRUTH_WORDS)
 
 
+def asks_declined(fact):
+    """Whether a rule with IS DECLINED or IS NOT DECLINED is accepted: in no other accepted rule the word stands."""
+    return fact.case.call in cases.READING_CALLS and not is_refused(fact) and b"DECLINED" in fact.case.source
+
+
 def is_short(fact):
     """Whether a fact is stated wrongly too: its source is short, or its lines are of few runs, as those of 1,001 empty lines."""
     source = fact.case.source
@@ -274,15 +279,15 @@ def is_short(fact):
 
 
 def mixed_facts(draw, right):
-    """Right facts, of each outcome of each call, where rules are accepted with truth tests and without, and wrong ones of the same cases: pairs of a fact and
-    whether it is wrong."""
+    """Right facts, of each outcome of each call, where rules are accepted with truth tests and with tests for declined cells and without, and wrong ones of the
+    same cases: pairs of a fact and whether it is wrong."""
     by_outcome = collections.defaultdict(list)
     for fact in right:
         lends = fact.case.call in cases.LENDING_CALLS
         if is_short(fact) and (fact.stated.buffer or not lends):
-            by_outcome[fact.case.call, cases.outcome(fact.case), is_truth_tested(fact)].append(fact)
+            by_outcome[fact.case.call, cases.outcome(fact.case), is_truth_tested(fact), asks_declined(fact)].append(fact)
     mixed = []
-    for (call, _, _), facts in by_outcome.items():
+    for (call, *_), facts in by_outcome.items():
         # CHECK has two outcomes only, and IMPORT and EXPORT have four
         kept = facts[-4:] if call == "CHECK" or call in cases.COMMA_CALLS else facts[-1:]
         for fact in kept:
@@ -308,12 +313,20 @@ def demand_outcomes(counts, aside=()):
 
 
 def demand_kinds(facts):
-    """Every kind of part has to occur in what READ gives."""
-    given = [fact.stated for fact in facts if fact.case.call == "READ" and not is_refused(fact)]
-    found = {part.kind for stated in given for part in stated.buffer[:stated.result]}
-    missing = set(range(1, 16)) - found
-    if missing:
-        raise Failure(f"READ: parts of the kinds {sorted(missing)} never occurred")
+    """Every kind of part has to occur in what READ gives, and every kind of entry in what CARD gives."""
+    given = {call: [fact.stated for fact in facts if fact.case.call == call and not is_refused(fact)] for call in ("READ", "CARD")}
+    parts = {part.kind for stated in given["READ"] for part in stated.buffer[:stated.result]}
+    entries = {kind for stated in given["CARD"] for kind in kinds_of(stated.buffer)}
+    for call, kinds, found in (("READ", range(1, 18), parts), ("CARD", range(1, 11), entries)):
+        missing = set(kinds) - found
+        if missing:
+            raise Failure(f"{call}: the kinds {sorted(missing)} never occurred")
+
+
+def kinds_of(card):
+    """The bytes of a card that are the kinds of its entries."""
+    start = 3 + card[2]
+    return card[start:start + card[0] + 256 * card[1]]
 
 
 def report_outcomes(counts):

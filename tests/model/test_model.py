@@ -1,9 +1,11 @@
-"""Tests of the reference model: document 01's own cases, hand-worked truth tests and comma lines, random rules against SQLite,
-and random comma lines against the csv module and a regular expression.
+"""Tests of the reference model: document 01's own cases, hand-worked truth tests, comma lines and declined cells,
+random rules against SQLite, and random comma lines against the csv module and a regular expression.
 
-Exit status 0 when all agree. The rules without SOME and ALL are given to SQLite token by token, so that its own grammar,
-scopes and grouping are compared; those with all forms are given through the model's reading of them. SQLite has no IS UNKNOWN:
-IS NULL stands for it there. The csv module judges right comma lines only; the regular expression judges any bytes.
+Exit status 0 when all agree. The rules without SOME and ALL are given to SQLite token by token, so that its own
+grammar, scopes and grouping are compared; those with all forms are given through the model's reading of them. SQLite
+has no IS UNKNOWN: IS NULL stands for it there. It has no declined cells either: beside each column there stands one
+for the marks, so that IS DECLINED compares a mark with 2, and SQLite itself makes NULL of a value whose mark is not 0.
+The csv module judges right comma lines only; the regular expression judges any bytes.
 """
 import collections
 import csv
@@ -23,6 +25,10 @@ SEED = 20250101
 RULES_OF_EACH_SORT = 1500
 SUMMED_RULES_OF_EACH_SORT = 250
 MISPLACED_TRUTHS = 400
+MISPLACED_DECLINEDS = 400
+MARKED_RULES = 120
+MARKED_CARDS = 200
+DRAWN_CHECKS = 2000
 COMMA_FILES = 3000
 COMMA_CASES_OF_EACH_CALL = 2000
 AMPLE_ROOM = 10000
@@ -30,6 +36,14 @@ AMPLE_COMMA_ROOM = 100000
 SQL_TRUTHS = {None: model.UNKNOWN, 0: model.FALSE, 1: model.TRUE}
 SIGN_OF = {number: sign for sign, number in model.COMPARISONS.items()}
 SQL_TRUTH_TESTS = {10: "IS TRUE", 11: "IS NOT TRUE", 12: "IS FALSE", 13: "IS NOT FALSE", 14: "IS NULL", 15: "IS NOT NULL"}
+
+# The refusals that occur among the hand-worked answers about declined cells
+STATED_REFUSALS = {
+    "READ": (2, 3, 4, 5, 6, 7, 8, 13, 12), "JUDGE": (2, 3, 4, 5, 6, 7, 8, 13, 11),
+    "CARD": (2, 3, 4, 5, 6, 7, 8, 13, 12), "CHECK": (9,), "RUN": (2, 9), "LIST": (2, 12), "IMPORT": (14, 12),
+    "EXPORT": (1, 2, 12)}
+# The fields of cells that are not present, by their marks
+FIELDS_BY_MARK = {1: b"", 2: b"!"}
 
 CASE_TABLES = generate.tables_file([(2, [[1, 5], [2, None], [3, 0]]), (1, [[1], [None]]), (1, [])])
 ALL_OF_2 = "(SELECT v.1 FROM 2 v WHERE 1 = 1)"
@@ -228,6 +242,13 @@ COMMA_TEXTS = [
     (b"1", 257, 14),
     (b"1", 2**64 + 1, 14),
     (b"1", -1, 14),
+    # a declined cell is a lone !
+    (b"!\n", 1, [[model.DECLINED_CELL]]),
+    (b"1,!\r\n!,\n,!", 2, [[1, model.DECLINED_CELL], [model.DECLINED_CELL, None], [None, model.DECLINED_CELL]]),
+    (b"!!\n", 1, 14),
+    (b"!1\n", 1, 14),
+    (b"-!\n", 1, 14),
+    (b"! \n", 1, 14),
 ]
 
 # Comma lines with the columns and all the bytes of the tables file
@@ -237,6 +258,7 @@ IMPORTED_BYTES = [
     (b"-0", 1, "01 01 01 00 00 00 00 00 00"),
     (b"1,\r\n5,-2\n", 2, "01 02 02 00 01 00 00 00 00 00 00 00 05 00 00 00 FE FF FF FF 00 01 00 00"),
     (b"-2147483648,,0000065538", 3, "01 03 01 00 00 00 00 80 00 00 00 00 02 00 01 00 00 01 00"),
+    (b"!,7\n", 2, "01 02 01 00 00 00 00 00 07 00 00 00 02 00"),
 ]
 
 # Tables files, and the comma lines of their table 1
@@ -250,6 +272,7 @@ EXPORTED_TEXTS = [
     ("02 01 01 00 01 01 00 03 00 00 00 04 00 00 00 00 00", b"3\n"),
     ("02 01 00 00 01 01 00 04 00 00 00 00", b""),
     ("01 03 01 00 01 00 00 00 01 00 00 00 01 00 00 00 01 01 01", b",,\n"),
+    ("01 03 01 00 01 00 00 00 01 00 00 00 01 00 00 00 02 00 01", b"!,1,\n"),
 ]
 
 
@@ -307,7 +330,8 @@ def test_refusal_table():
     three_rows = generate.tables_file([(2, [[0, 0]] * 3)])
     examples = [
         (1, read_refusal(b"1 = 1", b"\x00")),
-        (2, read_refusal(b"1 = 1", bytes.fromhex("01 01 01 00 00 00 00 00 02"))),
+        (2, read_refusal(b"1 = 1", bytes.fromhex("01 01 01 00 00 00 00 00 03"))),
+        (None, read_refusal(b"1 = 1", bytes.fromhex("01 01 01 00 00 00 00 00 02"))),
         (3, read_refusal(b" " * 4097)),
         (6, read_refusal(b" " * 4096)),
         (4, read_refusal(b"m.1 = 2147483648")),
@@ -344,7 +368,7 @@ def test_truth_parts():
         same(f"kinds of {written}", [part.kind for part in parts], kinds)
         same(f"ends of {written}", [part.end for part in parts], ends)
         for part in parts:
-            if part.kind >= 10:
+            if part.kind in range(10, 16):
                 same(f"fields of {written}", part, model.Part(part.kind, 0, 0, part.end, model.UNUSED, model.UNUSED))
         same(f"READ of {written}, no room", model.read(written.encode(), CASE_TABLES, len(kinds) - 1), model.Refused(12))
 
@@ -410,18 +434,23 @@ def test_truth_refusals():
     for wanted, text in examples:
         same(f"READ of {text!r}", read_refusal(text), wanted)
     same("seven truth tests, wrong sizes", read_refusal(seven, b"\x00"), 1)
-    same("seven truth tests, a wrong mark", read_refusal(seven, bytes.fromhex("01 01 01 00 00 00 00 00 02")), 2)
+    same("seven truth tests, a wrong mark", read_refusal(seven, bytes.fromhex("01 01 01 00 00 00 00 00 03")), 2)
 
 
 def test_misplaced_truths():
     """Random texts with one fault about a truth test, and nothing else wrong before 7."""
-    draw = random.Random(f"{SEED} misplaced")
-    for _ in range(MISPLACED_TRUTHS):
+    refuse_misplaced("misplaced", MISPLACED_TRUTHS, generate.misplaced_truth, "a truth test")
+
+
+def refuse_misplaced(seed, count, misplaced, name):
+    """Draws texts with one fault each, which are refused with 6."""
+    draw = random.Random(f"{SEED} {seed}")
+    for _ in range(count):
         file = generate.random_tables(draw)
-        tokens = generate.misplaced_truth(draw, model.tables_of(file).columns)
+        tokens = misplaced(draw, model.tables_of(file).columns)
         text = generate.spaced(draw, tokens)
         same(f"READ of {text!r}", read_refusal(text, file), 6)
-    print(f"model: {MISPLACED_TRUTHS} texts with a fault about a truth test: refused with 6")
+    print(f"model: {count} texts with a fault about {name}: refused with 6")
 
 
 def test_refusal_sets():
@@ -437,13 +466,205 @@ def test_refusal_sets():
             same(f"{call} where {applying} apply", got, wanted)
 
 
+# ---- declined cells
+
+def test_stated_declined():
+    """The hand-worked answers about declined cells, with the whole buffers."""
+    seen = Seen()
+    for case, wanted in cases.stated_declined():
+        same(f"{case}", cases.expected(case), wanted)
+        seen.add("case", [f"{case.call} {cases.outcome_of(case, wanted)}"])
+    for call, refusals in STATED_REFUSALS.items():
+        seen.demand("case", [f"{call} refused {number}" for number in refusals])
+    seen.demand("case", [f"JUDGE given {truth}" for truth in (model.TRUE, model.FALSE, model.UNKNOWN)])
+    seen.demand("case", ["RUN given True", "RUN given False", "CHECK given sound"])
+    seen.demand("case", [f"{call} given" for call in cases.LENDING_CALLS])
+    print(f"model: {len(cases.stated_declined())} answers about declined cells: as worked out by hand")
+
+
+def test_misplaced_declineds():
+    """Random texts with one fault about the word DECLINED, and nothing else wrong before 7."""
+    refuse_misplaced("misplaced declined", MISPLACED_DECLINEDS, generate.misplaced_declined, "DECLINED")
+
+
+def answers_of_rule(text, file):
+    """All that READ, CARD and JUDGE say about a rule with a file."""
+    answers = [model.read(text, file, AMPLE_ROOM), model.card(text, file, AMPLE_ROOM)]
+    return answers + truths_by_model(text, file)
+
+
+def answers_of_card(sheet, file):
+    """All that LIST and RUN say about a card with a file."""
+    row_count = struct.unpack_from("<H", file, 2)[0]
+    return [model.list_rows(sheet, file, AMPLE_ROOM)] + [model.run(sheet, file, row) for row in range(row_count)]
+
+
+def drawn_marked_rule(draw, declined):
+    """A tables file with blank and declined cells and with rows in table 1, and an accepted rule."""
+    while True:
+        file = generate.random_tables(draw, counts=(1, 2, 3))
+        columns = model.tables_of(file).columns
+        maker = generate.RuleMaker(draw, columns, even=True, truths=draw.choice([0, .1, .3]), declined=declined)
+        text = generate.spaced(draw, maker.rule(draw.choice([1, 1, 2, 3, 4])))
+        has_rows = struct.unpack_from("<H", file, 2)[0] > 0
+        if has_rows and 2 in file[generate.marks_at(file):] and read_refusal(text, file) is None:
+            return file, text
+
+
+def drawn_marked_card(draw, value_kinds):
+    """A tables file with declined cells and with rows in table 1, and a sound card of its columns."""
+    while True:
+        file = generate.random_tables(draw, counts=(1, 2, 3))
+        if struct.unpack_from("<H", file, 2)[0] > 0 and 2 in file[generate.marks_at(file):]:
+            return file, generate.random_card(draw, model.tables_of(file).columns, 0, value_kinds)
+
+
+def test_declined_as_blank():
+    """With every mark 2 turned into 1, no answer changes of a rule without the two tests or a card without 9 and 10.
+
+    Of those with them, some answers change and some do not.
+    """
+    draw = random.Random(f"{SEED} as blank")
+    seen = Seen()
+    for declined in (0, .7):
+        for _ in range(MARKED_RULES):
+            file, text = drawn_marked_rule(draw, declined)
+            compare_as_blank(seen, answers_of_rule, text, file, "rule", b"DECLINED" in text)
+    for value_kinds in ((7, 8), (7, 8, 9, 10)):
+        for _ in range(MARKED_CARDS):
+            file, sheet = drawn_marked_card(draw, value_kinds)
+            kinds = sheet[3 + sheet[2]:3 + sheet[2] + sheet[0]]
+            compare_as_blank(seen, answers_of_card, sheet, file, "card", 9 in kinds or 10 in kinds)
+    for sort in ("rule", "card"):
+        seen.demand("as blank", [f"{sort} without: same", f"{sort} with: same", f"{sort} with: other"])
+    print(f"model: declined cells made blank\n  {seen.report('as blank')}")
+
+
+def compare_as_blank(seen, answers, source, file, sort, with_declined):
+    """One rule or card on a file, and on the same with every mark 2 turned into 1."""
+    blanked = generate.with_marks(file, {2: 1})
+    before, after = answers(source, file), answers(source, blanked)
+    if not with_declined:
+        same(f"{sort} {source!r} with {file.hex(' ')}, declined cells made blank", after, before)
+    changed = "same" if after == before else "other"
+    seen.add("as blank", [f"{sort} {'with' if with_declined else 'without'}: {changed}"])
+
+
+def test_idle_values():
+    """The value bytes of blank and declined cells affect no answer of any call."""
+    draw = random.Random(f"{SEED} idle values")
+    for _ in range(MARKED_RULES):
+        file, text = drawn_marked_rule(draw, .4)
+        sheet = generate.random_card(draw, model.tables_of(file).columns)
+        other = generate.with_other_values(draw, file)
+        same(f"{text!r} with {other.hex(' ')}", answers_of_rule(text, other), answers_of_rule(text, file))
+        lines = model.export_lines(file, AMPLE_COMMA_ROOM)
+        same(f"EXPORT of {other.hex(' ')}", model.export_lines(other, AMPLE_COMMA_ROOM), lines)
+        for card in (sheet, model.card(text, file, AMPLE_ROOM)):
+            what = f"card {card.hex(' ')} with {other.hex(' ')}"
+            same(what, answers_of_card(card, other), answers_of_card(card, file))
+    print(f"model: {MARKED_RULES} rules and cards with other values in blank and declined cells: the same answers")
+
+
+def test_never_unknown():
+    """IS DECLINED and IS NOT DECLINED of each cell of table 1 and of numbers: by the mark, and never unknown."""
+    draw = random.Random(f"{SEED} never unknown")
+    seen = Seen()
+    for _ in range(MARKED_RULES):
+        file, _ = drawn_marked_rule(draw, 0)
+        columns, row_count = struct.unpack_from("<BH", file, 1)
+        column, row = draw.randint(1, columns), draw.randrange(row_count)
+        mark = file[generate.marks_at(file) + columns * row + column - 1]
+        number = generate.number_token(draw)
+        for value, declined in ((f"m.{column}", mark == 2), (number, False)):
+            compare_value_tests(file, row, value, declined)
+        seen.add("mark", [mark])
+    seen.demand("mark", [0, 1, 2])
+    print(f"model: {MARKED_RULES} cells and numbers tested with IS DECLINED: never unknown")
+    print(f"  mark: {seen.report('mark')}")
+
+
+def compare_value_tests(file, row, value, declined):
+    """The two tests of a value that is declined or not, alone, under NOT and in truth tests."""
+    for test, holds in ((f"{value} IS DECLINED", declined), (f"{value} IS NOT DECLINED", not declined)):
+        around = {test: holds, f"NOT {test}": not holds, f"({test}) IS UNKNOWN": False, f"({test}) IS NOT FALSE": holds}
+        for text, wanted in around.items():
+            what = f"{text} on row {row} of {file.hex(' ')}"
+            same(what, model.judge(text.encode(), file, row), model.TRUE if wanted else model.FALSE)
+            sheet = model.card(text.encode(), file, AMPLE_ROOM)
+            same(f"RUN of {what}", model.run(sheet, file, row), wanted)
+
+
+def judged_entry(sheet, number, columns, around):
+    """The number of the entry after this one of a card and its inner ones, by struct; None where the card is not sound.
+
+    `around`: the tables of the rows, by level.
+    """
+    count, table_count = struct.unpack_from("<HB", sheet)
+    if number >= count:
+        return None
+    kind = sheet[3 + table_count + number]
+    place = 3 + table_count + count + 14 * number
+    end, table, comparison, left_tag, left, right_tag, right = struct.unpack_from("<HBBBiBi", sheet, place)
+    used = {1: "", 2: "", 3: "t", 4: "t", 5: "clr", 6: "clr", 7: "l", 8: "l", 9: "l", 10: "l"}.get(kind)
+
+    def fits(tag, column):
+        return tag == 255 or tag < len(around) and 1 <= column <= columns[around[tag] - 1]
+
+    if used is None or ("t" not in used and table != 0) or ("c" not in used and comparison != 0):
+        return None
+    if not (fits(left_tag, left) if "l" in used else left_tag == left == 0):
+        return None
+    if not (fits(right_tag, right) if "r" in used else right_tag == right == 0):
+        return None
+    if "c" in used and comparison not in range(1, 7):
+        return None
+    if "t" in used and (table not in range(1, table_count + 1) or len(around) > 3):
+        return None
+    after = number + 1
+    for _ in range({1: 2, 2: 2, 3: 1, 4: 1}.get(kind, 0)):
+        after = after and judged_entry(sheet, after, columns, around + [table] if kind in (3, 4) else around)
+    return after if after == end else None
+
+
+def judged_check(sheet):
+    """Whether a card is sound, by its layout alone."""
+    if len(sheet) < 3:
+        return False
+    count, table_count = struct.unpack_from("<HB", sheet)
+    columns = list(sheet[3:3 + table_count])
+    if not 1 <= count <= 192 or not 1 <= table_count <= 8 or len(sheet) != 3 + table_count + 15 * count:
+        return False
+    return all(1 <= number <= 16 for number in columns) and judged_entry(sheet, 0, columns, [1]) == count
+
+
+def test_drawn_cards():
+    """Cards drawn right and damaged, and the targeted ones: CHECK as judged, each kind in sound and refused cards."""
+    draw = random.Random(f"{SEED} cards")
+    seen = Seen()
+    chosen = [cases.drawn(draw, "CHECK").source for _ in range(DRAWN_CHECKS)]
+    chosen += [case.source for case in cases.card_byte_cases() + cases.card_limit_cases()]
+    for _ in range(DRAWN_CHECKS // 10):
+        sheet = generate.random_card(draw, [2, 1, 3])
+        chosen += [sheet, generate.damaged_value_entry(draw, sheet)]
+    for sheet in chosen:
+        sound = judged_check(sheet)
+        same(f"CHECK of {sheet.hex(' ')}", model.check(sheet), model.SOUND if sound else model.Refused(9))
+        kinds = set(sheet[3 + sheet[2]:3 + sheet[2] + sheet[0]]) if len(sheet) > 2 else set()
+        seen.add("kind", [f"{kind} {'sound' if sound else 'refused'}" for kind in kinds & set(range(12))])
+    seen.demand("kind", [f"{kind} {result}" for kind in range(1, 11) for result in ("sound", "refused")])
+    seen.demand("kind", ["0 refused", "11 refused"])
+    print(f"model: {len(chosen)} cards checked: as judged\n  {seen.report('kind')}")
+
+
 # ---- comma lines: worked by hand
 
 def single_table(columns, rows):
-    """The tables file of one table, with 0 under each blank."""
+    """The tables file of one table, with 0 under each blank or declined cell."""
     cells = [cell for row in rows for cell in row]
-    values = struct.pack(f"<{len(cells)}i", *(cell or 0 for cell in cells))
-    return struct.pack("<BBH", 1, columns, len(rows)) + values + bytes(cell is None for cell in cells)
+    marks = [1 if cell is None else 2 if cell == model.DECLINED_CELL else 0 for cell in cells]
+    values = struct.pack(f"<{len(cells)}i", *(0 if mark else cell for cell, mark in zip(cells, marks)))
+    return struct.pack("<BBH", 1, columns, len(rows)) + values + bytes(marks)
 
 
 def test_comma_texts():
@@ -485,7 +706,7 @@ def test_comma_numbers():
 def test_comma_refusals():
     """14, then 15, then 12, and for EXPORT 1, then 2, then 12: each over the whole input."""
     many, much = b"\n" * 1001, (b"," * 15 + b"\n") * 513
-    over = bytes.fromhex("01 01 01 00 00 00 00 00 02")
+    over = bytes.fromhex("01 01 01 00 00 00 00 00 03")
     examples = [
         (None, model.import_lines(b"\n" * 1000, 1, 5004)),
         (12, model.import_lines(b"\n" * 1000, 1, 5003)),
@@ -506,10 +727,16 @@ def test_comma_refusals():
         (1, model.export_lines(b"", 0)),
         (1, model.export_lines(over + b"\0", 0)),
         (2, model.export_lines(over, 0)),
-        (2, model.export_lines(bytes.fromhex("02 01 00 00 01 01 00 00 00 00 00 02"), 0)),
+        (2, model.export_lines(bytes.fromhex("02 01 00 00 01 01 00 00 00 00 00 03"), 0)),
         (12, model.export_lines(over[:-1] + b"\0", 1)),
         (12, model.export_lines(over[:-1] + b"\1", 0)),
         (None, model.export_lines(over[:-1] + b"\1", 1)),
+        (12, model.export_lines(over[:-1] + b"\2", 1)),
+        (None, model.export_lines(over[:-1] + b"\2", 2)),
+        (None, model.import_lines(b"!\n" * 1000, 1, 5004)),
+        (12, model.import_lines(b"!\n" * 1000, 1, 5003)),
+        (15, model.import_lines(b"!\n" * 1001, 1, 0)),
+        (14, model.import_lines(b"!\n" * 1001 + b"!1", 1, 0)),
         (None, model.export_lines(b"\1\1\0\0", 0)),
     ]
     for place, (wanted, got) in enumerate(examples):
@@ -522,12 +749,19 @@ def matched_rows(lines, columns):
     """The rows of comma lines, by one regular expression for the whole of them; None where it does not match or a number is beyond the range."""
     if columns not in range(1, 17):
         return None
-    line = b",".join([rb"(?:-?[0-9]{1,10})?"] * columns)
+    line = b",".join([rb"(?:-?[0-9]{1,10}|!)?"] * columns)
     if not re.fullmatch(rb"(?:%s\r?\n)*(?:(?!\Z)%s)?" % (line, line), lines):
         return None
-    rows = [[int(field) if field else None for field in one.split(b",")] for one in lines.splitlines()]
-    in_range = all(cell is None or -2**31 <= cell < 2**31 for row in rows for cell in row)
-    return rows if in_range else None
+    rows = [[cell_in(field) for field in one.split(b",")] for one in lines.splitlines()]
+    numbers = [cell for row in rows for cell in row if isinstance(cell, int)]
+    return rows if all(-2**31 <= number < 2**31 for number in numbers) else None
+
+
+def cell_in(field):
+    """The cell of a right field, which is text or bytes."""
+    if not field:
+        return None
+    return model.DECLINED_CELL if field in ("!", b"!") else int(field)
 
 
 def judged_import(lines, columns, room):
@@ -553,13 +787,13 @@ def judged_export(file, room):
     if not fit or cells > 8192 or len(file) != head + 5 * cells:
         return model.Refused(1)
     marks = file[head + 4 * cells:]
-    if set(marks) - {0, 1}:
+    if set(marks) - {0, 1, 2}:
         return model.Refused(2)
     columns, rows = sizes[0]
     values = struct.unpack_from(f"<{columns * rows}i", file, head)
     answer = b""
     for place, value in enumerate(values):
-        answer += (b"" if marks[place] else str(value).encode()) + (b"," if (place + 1) % columns else b"\n")
+        answer += FIELDS_BY_MARK.get(marks[place], str(value).encode()) + (b"," if (place + 1) % columns else b"\n")
     return answer if len(answer) <= room else model.Refused(12)
 
 
@@ -574,7 +808,8 @@ def with_every_byte(file):
 def test_every_byte():
     """Each byte at each place of small comma lines and small tables files."""
     count = 0
-    for lines in (b"", b"1", b"\n", b"\r\n", b"1,2", b"-7,\r\n,0\n", b"10\r\n\n-0", b",\n2147483647,", b"1\n\r\n3\r\n", b"000000001,-2147483648"):
+    for lines in (b"", b"1", b"\n", b"\r\n", b"1,2", b"-7,\r\n,0\n", b"10\r\n\n-0", b",\n2147483647,",
+                  b"1\n\r\n3\r\n", b"000000001,-2147483648", b"!", b"!,\r\n1,!"):
         for changed, columns in itertools.product(with_every_byte(lines), (1, 2, 3)):
             same(f"IMPORT of {changed!r} with {columns} columns", model.import_lines(changed, columns, 64), judged_import(changed, columns, 64))
             count += 1
@@ -589,10 +824,10 @@ def test_comma_sizes():
     """Rows and cells around their limits with each number of columns, and the files at the limits for EXPORT."""
     for columns in range(1, 17):
         most = min(1000, 8192 // columns)
-        for cell, rows in itertools.product((b"", b"-1"), (most - 1, most, most + 1)):
+        for cell, rows in itertools.product((b"", b"-1", b"!"), (most - 1, most, most + 1)):
             lines = (b",".join([cell] * columns) + b"\n") * rows
             length = 4 + 5 * columns * rows
-            given = single_table(columns, [[int(cell) if cell else None] * columns] * rows)
+            given = single_table(columns, [[cell_in(cell)] * columns] * rows)
             same(f"length of {columns} columns and {rows} rows", len(given), length)
             wanted = [given, model.Refused(12)] if rows <= most else [model.Refused(15)] * 2
             what = f"IMPORT of {columns} columns and {rows} rows of {cell!r}"
@@ -612,13 +847,14 @@ def test_comma_sizes():
 def csv_rows(lines):
     """The rows of right comma lines, by the csv module; it gives an empty line as a row without fields."""
     fields = csv.reader(io.StringIO(lines.decode("ascii"), newline=""), strict=True)
-    return [[int(field) if field else None for field in row] for row in fields]
+    return [[cell_in(field) for field in row] for row in fields]
 
 
 def csv_written(rows):
     """The comma lines of rows, by the csv module; it writes a blank alone in its line as quotes."""
     written = io.StringIO(newline="")
-    csv.writer(written, lineterminator="\n").writerows(["" if cell is None else cell for cell in row] for row in rows)
+    fields = [[{None: "", model.DECLINED_CELL: "!"}.get(cell, cell) for cell in row] for row in rows]
+    csv.writer(written, lineterminator="\n").writerows(fields)
     return written.getvalue().encode()
 
 
@@ -635,6 +871,8 @@ def note_lines(seen, lines, rows):
     occurring = {
         "LF": re.search(rb"(?<!\r)\n", lines), "CRLF": b"\r\n" in lines, "both line ends": b"\r\n" in lines and re.search(rb"(?<!\r)\n", lines),
         "no last line end": lines and not lines.endswith(b"\n"), "no rows": not rows, "blank": any(None in row for row in rows),
+        "declined": any(model.DECLINED_CELL in row for row in rows), "declined line": [model.DECLINED_CELL] in rows,
+        "declined at the end": lines.endswith(b"!"),
         "one column": rows and len(rows[0]) == 1, "sixteen columns": rows and len(rows[0]) == 16, "empty line": [None] in rows,
         "lowest": any(-2**31 in row for row in rows), "highest": any(2**31 - 1 in row for row in rows),
         "-0": b"-0" in fields, "spare zeros": any(re.fullmatch(rb"-?0[0-9]+", field) for field in fields),
@@ -665,8 +903,12 @@ def test_right_lines():
 
 
 def test_round_trips():
-    """Drawn tables files of one table and more: EXPORT and IMPORT give the cells and marks of table 1, with 0 under each blank."""
+    """Drawn tables files of one table and more: EXPORT and IMPORT give the cells and marks of table 1.
+
+    The value is 0 in each blank or declined cell.
+    """
     draw = random.Random(f"{SEED} round trips")
+    seen = Seen()
     for _ in range(COMMA_FILES):
         file = generate.random_tables(draw)
         columns, row_count = struct.unpack_from("<BH", file, 1)
@@ -676,12 +918,19 @@ def test_round_trips():
         again = model.import_lines(lines, columns, AMPLE_COMMA_ROOM)
         same(f"EXPORT and IMPORT of {file.hex(' ')}", again, single_table(columns, rows))
         marks_at = len(file) - sum(size * count for size, count in struct.iter_unpack("<BH", file[1:1 + 3 * file[0]]))
-        same(f"marks of {file.hex(' ')}", again[len(again) - cells:], file[marks_at:marks_at + cells])
+        marks = file[marks_at:marks_at + cells]
+        same(f"marks of {file.hex(' ')}", again[len(again) - cells:], marks)
+        values = struct.unpack_from(f"<{cells}i", file, 1 + 3 * file[0])
+        kept = tuple(0 if mark else value for value, mark in zip(values, marks))
+        same(f"values of {file.hex(' ')}", struct.unpack_from(f"<{cells}i", again, 4), kept)
+        seen.add("mark", marks)
         same(f"EXPORT again of {lines!r}", model.export_lines(again, AMPLE_COMMA_ROOM), lines)
         same_as_csv(lines, columns, rows)
         if columns > 1:
             same(f"EXPORT of {rows}", lines, csv_written(rows))
+    seen.demand("mark", [0, 1, 2])
     print(f"model: {COMMA_FILES} tables files exported and imported: the same cells and marks, and the csv module agrees")
+    print(f"  mark: {seen.report('mark')}")
 
 
 def test_damaged_lines():
@@ -732,20 +981,38 @@ def test_comma_cases():
 
 # ---- SQLite
 
-def database_of(tables):
-    """The tables in SQLite, with a column for the row's number; a blank is NULL."""
+def database_of(file):
+    """A tables file in SQLite, with a column for the row's number, and a value and a mark for each cell.
+
+    The values are given as they stand in the file. SQLite makes NULL of each whose mark is not 0.
+    """
     database = sqlite3.connect(":memory:")
-    for number, columns in enumerate(tables.columns, 1):
-        names = ", ".join(f"c{column} INTEGER" for column in range(1, columns + 1))
+    sizes = list(struct.iter_unpack("<BH", file[1:1 + 3 * file[0]]))
+    cells = sum(columns * row_count for columns, row_count in sizes)
+    values = iter(struct.unpack_from(f"<{cells}i", file, 1 + 3 * file[0]))
+    marks = iter(file[len(file) - cells:])
+    for number, (columns, row_count) in enumerate(sizes, 1):
+        names = ", ".join(f"c{column} INTEGER, mark{column} INTEGER" for column in range(1, columns + 1))
         database.execute(f"CREATE TABLE t{number} (rowno INTEGER, {names})")
-        places = ", ".join("?" * (columns + 1))
-        rows = [[place] + row for place, row in enumerate(tables.rows_of(number))]
-        database.executemany(f"INSERT INTO t{number} VALUES ({places})", rows)
+        pairs = [(place, place + 1) for place in range(2, 2 * columns + 2, 2)]
+        places = "".join(f", CASE ?{mark} WHEN 0 THEN ?{value} END, ?{mark}" for value, mark in pairs)
+        rows = []
+        for row in range(row_count):
+            rows.append([row] + [field for _ in range(columns) for field in (next(values), next(marks))])
+        database.executemany(f"INSERT INTO t{number} VALUES (?1{places})", rows)
     return database
 
 
+def tests_declined(tokens, place):
+    """Whether IS DECLINED or IS NOT DECLINED stands at a place among tokens."""
+    return tokens[place:place + 2] == ["IS", "DECLINED"] or tokens[place:place + 3] == ["IS", "NOT", "DECLINED"]
+
+
 def sql_of_tokens(tokens):
-    """The SQL of a rule from its written tokens alone; SOME and ALL stay as they are, and SQLite knows neither."""
+    """The SQL of a rule from its written tokens alone; SOME and ALL stay as they are, and SQLite knows neither.
+
+    IS DECLINED becomes IS 2, and the value before it becomes its mark, which is 0 for a number.
+    """
     words = []
     place = 0
     while place < len(tokens):
@@ -757,10 +1024,17 @@ def sql_of_tokens(tokens):
             words.append(f"FROM t{tokens[place + 1]} AS {tokens[place + 2]}")
             place += 3
         elif token.islower():
-            words.append(f"{token}.c{tokens[place + 2]}")
+            name = "mark" if tests_declined(tokens, place + 3) else "c"
+            words.append(f"{token}.{name}{tokens[place + 2]}")
             place += 3
         elif token == "UNKNOWN":
             words.append("NULL")
+            place += 1
+        elif token == "DECLINED":
+            words.append("2")
+            place += 1
+        elif tests_declined(tokens, place + 1):
+            words.append("0")
             place += 1
         else:
             words.append(f"({token})" if token[-1].isdigit() else token)
@@ -773,6 +1047,13 @@ def sql_of_value(value, scope):
     if isinstance(value, model.Constant):
         return f"({value.number})"
     return f"{dict(scope)[value.letter]}.c{value.number}"
+
+
+def sql_of_mark(value, scope):
+    """The SQL of a value's mark, which is 0 for a number."""
+    if isinstance(value, model.Constant):
+        return "0"
+    return f"{dict(scope)[value.letter]}.mark{value.number}"
 
 
 def sql_of_rule(condition, scope):
@@ -791,6 +1072,9 @@ def sql_of_rule(condition, scope):
     if isinstance(condition, model.NullTest):
         ending = "IS NULL" if condition.kind == model.KIND_NULL else "IS NOT NULL"
         return f"({sql_of_value(condition.value, scope)} {ending})"
+    if isinstance(condition, model.DeclinedTest):
+        sign = "=" if condition.kind == model.KIND_DECLINED else "<>"
+        return f"({sql_of_mark(condition.value, scope)} {sign} 2)"
     alias = f"level{len(scope)}"
     inner_scope = scope + [(condition.letter, alias)]
     where = sql_of_rule(condition.where, inner_scope)
@@ -809,9 +1093,9 @@ def sql_of_list(kind, retained, comparison):
             f" WHEN EXISTS ({retained} AND {comparison} IS NULL) THEN NULL ELSE {otherwise} END)")
 
 
-def truths_by_sqlite(sql, tables):
+def truths_by_sqlite(sql, file):
     """The value of a rule on each row of table 1, by SQLite."""
-    database = database_of(tables)
+    database = database_of(file)
     try:
         answers = database.execute(f"SELECT {sql} FROM t1 AS m ORDER BY m.rowno").fetchall()
     except sqlite3.Error as error:
@@ -877,12 +1161,12 @@ def drawn_summed_rule(draw, quantified):
 def compare_on(file, text, sql, seen):
     """One rule on one file: SQLite against JUDGE, on each row. Gives the rows where SQLite says true."""
     tables = model.tables_of(file)
-    wanted = truths_by_sqlite(sql, tables)
+    wanted = truths_by_sqlite(sql, file)
     got = truths_by_model(text, file)
     same(f"rule   {text!r}\ntables {tables}\nSQL    {sql}\nmodel (got) and SQLite (wanted):", got, wanted)
     seen.add("truth value", wanted)
-    cells = [cell for table in tables.rows for row in table for cell in row]
-    seen.add("cell", ["blank" if cell is None else "present" for cell in cells])
+    names = {0: "present", 1: "blank", 2: "declined"}
+    seen.add("cell", [names[mark] for mark in file[generate.marks_at(file):]])
     return [row for row, truth in enumerate(wanted) if truth == model.TRUE]
 
 
@@ -933,7 +1217,7 @@ def test_many(seed, rules, title, compare, quantified, sort, values):
     seen = Seen()
     for _ in range(rules):
         compare(draw, quantified, seen)
-    demanded = {"truth value": [model.TRUE, model.FALSE, model.UNKNOWN], "part kind": range(1, 16), sort: values}
+    demanded = {"truth value": [model.TRUE, model.FALSE, model.UNKNOWN], "part kind": range(1, 18), sort: values}
     for what, wanted in demanded.items():
         seen.demand(what, wanted)
     print(f"model: {rules} {title}, {sort_name(quantified)}: SQLite agrees")
@@ -942,8 +1226,8 @@ def test_many(seed, rules, title, compare, quantified, sort, values):
 
 
 def test_against_sqlite(quantified):
-    """Rules over blank and present cells."""
-    test_many("", RULES_OF_EACH_SORT, "rules", compare_one, quantified, "cell", ["blank", "present"])
+    """Rules over blank, declined and present cells."""
+    test_many("", RULES_OF_EACH_SORT, "rules", compare_one, quantified, "cell", ["blank", "declined", "present"])
 
 
 def test_sums_against_sqlite(quantified):
@@ -963,6 +1247,12 @@ def main():
         test_stated_sums()
         test_truth_refusals()
         test_misplaced_truths()
+        test_stated_declined()
+        test_misplaced_declineds()
+        test_declined_as_blank()
+        test_idle_values()
+        test_never_unknown()
+        test_drawn_cards()
         test_refusal_sets()
         test_comma_texts()
         test_comma_bytes()

@@ -1,7 +1,7 @@
 """Random rules against PostgreSQL: JUDGE and RUN on every row and LIST as built, with the tables file that a rule is accepted with and with a later one.
 
 Exit status 0 when all agree, when every sort of rule and value was seen often, and when changed rules, tables and answers are noticed.
-`--store` writes the answers to the file that replay.py compares with.
+`--store` writes the answers to the file that replay.py compares with, as its last batch.
 """
 import argparse
 import collections
@@ -14,15 +14,17 @@ import built
 import changed
 import comparison
 import drawn
+import mix
 import server
 import sql
 import store
 
+import cases
 import model
 import test_model
 
 RULES, SEED = 10000, 20261201
-STORED_RULES, STORED_SEED = 2000, 20261202
+STORED_RULES, STORED_SEED = 200, 20261204
 CHANGED_RULES, CHANGED_SEED = 1000, 20261203
 GROUPS_OF_A_BATCH = 20
 
@@ -44,13 +46,20 @@ def all_answered(asked, groups):
 
 
 def check_cases(asked):
-    """The proved cases of document 01, and cases of truth tests with their values, have the same values with the server."""
-    cases = test_model.CASES + test_model.TRUTH_CASES
-    tokens = [[str(token.value) for token in model.tokens_of(text.encode())] for text, _ in cases]
-    answers, = sql.answers(asked, [(model.tables_of(test_model.CASE_TABLES), [sql.condition_of(some) for some in tokens])])
-    for (text, letters), values in zip(cases, answers):
+    """The proved cases of document 01, and cases of truth tests and of declined cells with their values, have the same values with the server."""
+    plain = [(text.encode(), letters) for text, letters in test_model.CASES + test_model.TRUTH_CASES]
+    check_values(asked, test_model.CASE_TABLES, plain)
+    check_values(asked, cases.declined_file(0), cases.DECLINED_VALUES)
+    counts = len(test_model.CASES), len(test_model.TRUTH_CASES), len(cases.DECLINED_VALUES)
+    print("{} proved cases, {} of truth tests and {} of declined cells have the same values".format(*counts))
+
+
+def check_values(asked, file, rules):
+    """Rules by their texts have these values on the rows of a file, in letters, with the server."""
+    tokens = [[str(token.value) for token in model.tokens_of(text)] for text, _ in rules]
+    answers, = sql.answers(asked, [(model.tables_of(file), [sql.condition_of(some) for some in tokens])])
+    for (text, letters), values in zip(rules, answers):
         built.compare.same(text, built.written(values), letters)
-    print(f"{len(test_model.CASES)} proved cases and {len(test_model.TRUTH_CASES)} of truth tests have the same values")
 
 
 def check_too_large(calls, groups):
@@ -67,7 +76,7 @@ def arguments():
     parser = argparse.ArgumentParser(description="compares the calls as built with PostgreSQL on random rules")
     parser.add_argument("--rules", type=int, help="how many rules")
     parser.add_argument("--seed", type=int, help="what the drawing begins with")
-    parser.add_argument("--store", action="store_true", help="write the server's answers to the stored file")
+    parser.add_argument("--store", action="store_true", help="write the server's answers to the stored file, as its last batch")
     given = parser.parse_args()
     rules, seed = (STORED_RULES, STORED_SEED) if given.store else (RULES, SEED)
     return rules if given.rules is None else given.rules, seed if given.seed is None else given.seed, given.store
@@ -83,7 +92,7 @@ def compare_with(asked, calls, rules, seed, to_store):
     groups = list(drawn.groups(random.Random(seed), rules))
     check_too_large(calls, groups)
     with_values = list(all_answered(asked, groups))
-    compared = comparison.Comparison(calls)
+    compared = comparison.Comparison(calls, mix.LEAST_OF_DECLINED if to_store else mix.LEAST_WITH_DECLINED)
     compared.all(with_values, rules)
     if to_store:
         print(f"stored: {store.write(heading, with_values):,} bytes")

@@ -58,9 +58,11 @@ def without_list_wheres(tokens):
     return tokens[:where] + without_list_wheres(tokens[bracket_end(tokens, select):])
 
 
-def blanks_as_zeros(tables):
-    """Tables with 0 in each blank cell."""
-    return model.Tables(tables.columns, [[[0 if cell is None else cell for cell in row] for row in rows] for rows in tables.rows])
+def cells_replaced(old, new):
+    """The change that puts the cell `new` in place of each cell `old`."""
+    def change(tables):
+        return model.Tables(tables.columns, [[[new if cell == old else cell for cell in row] for row in rows] for rows in tables.rows])
+    return change
 
 
 def last_rows_dropped(tables):
@@ -91,7 +93,13 @@ CHANGES = (
     Change("IS TRUE for IS NOT FALSE and IS FALSE for IS NOT TRUE", unknown_passes_neither),
     Change("IS FALSE for IS UNKNOWN", replaced(["IS", "UNKNOWN"], ["IS", "FALSE"])),
     Change("IS TRUE for IS NOT UNKNOWN", replaced(["IS", "NOT", "UNKNOWN"], ["IS", "TRUE"])),
-    Change("blanks as 0", of_tables=blanks_as_zeros),
+    Change("IS NOT DECLINED for IS DECLINED", replaced(["IS", "DECLINED"], ["IS", "NOT", "DECLINED"])),
+    Change("IS NULL for IS DECLINED", replaced(["IS", "DECLINED"], ["IS", "NULL"])),
+    Change("IS NOT NULL for IS NOT DECLINED", replaced(["IS", "NOT", "DECLINED"], ["IS", "NOT", "NULL"])),
+    Change("blanks as 0", of_tables=cells_replaced(model.BLANK_CELL, 0)),
+    Change("declined as 0", of_tables=cells_replaced(model.DECLINED_CELL, 0)),
+    Change("declined as blank", of_tables=cells_replaced(model.DECLINED_CELL, model.BLANK_CELL)),
+    Change("blank as declined", of_tables=cells_replaced(model.BLANK_CELL, model.DECLINED_CELL)),
     Change("last rows dropped", of_tables=last_rows_dropped),
 )
 

@@ -17,11 +17,11 @@ def with_one_wrong(values):
 
 
 class Comparison:
-    """Compares group after group, and counts what was seen."""
+    """Compares group after group, and counts what was seen. `least`: how much there has to be of what."""
 
-    def __init__(self, calls):
+    def __init__(self, calls, least):
         self.calls = calls
-        self.seen = mix.Mix()
+        self.seen = mix.Mix(least)
         self.wrong_values = 0
 
     def group(self, group):

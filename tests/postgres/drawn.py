@@ -1,4 +1,5 @@
-"""Random rules and tables: about half of the cells blank, empty tables often, FROMs in one another, letters bound again, truth tests in many rules."""
+"""Random rules and tables: about half of the cells blank or declined, empty tables often, FROMs in one another, letters bound again, truth tests and tests
+for declined values in many rules."""
 import typing
 
 import built  # noqa: F401  (it adds the folders of the calls and of the model to the path)
@@ -9,7 +10,7 @@ import generate
 RULES_OF_A_FILE = 25
 SIZES = (1, 2, 2, 3, 3, 4, 4, 5, 6, 8, 12, 20)
 FROMS = (1, 2, 3, 3)
-BLANKS = (.4, .5, .5, .6)
+BLANKS = (.4, .5, .5, .6)  # how often a cell is blank or declined
 TRUTHS = (0, 0, .1, .2)  # how often a factor is a truth test
 SORTS = {"of a size": .82, "tested": .12, "of a sum": .06}
 TESTED_SIZES = (1, 1, 2, 3)

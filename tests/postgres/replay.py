@@ -4,16 +4,19 @@ Exit status 0 when all agree, when there are as many rules as are to be, of ever
 """
 import built
 import comparison
+import mix
 import store
 
-LEAST_RULES = 2000
+# For each batch, how many rules there are, and how much of what
+BATCHES = ((2000, mix.LEAST_WITHOUT_DECLINED), (200, mix.LEAST_OF_DECLINED))
 
 
 def main():
-    heading, groups = store.read()
-    compared = comparison.Comparison(built.Calls())
-    compared.all(groups, LEAST_RULES)
-    print(f"postgres, stored ({heading}): {compared.agreed()}")
+    calls = built.Calls()
+    for (heading, groups), (rules, least) in zip(store.read(), BATCHES, strict=True):
+        compared = comparison.Comparison(calls, least)
+        compared.all(groups, rules)
+        print(f"postgres, stored ({heading}): {compared.agreed()}")
 
 
 if __name__ == "__main__":

@@ -7,7 +7,8 @@ import model
 
 SIGNS = tuple(model.COMPARISONS)
 TRUTH_TESTS = tuple(f"{words} {word}" for word in model.TRUTH_WORDS for words in ("IS", "IS NOT"))
-BEHIND_NOT = ("IN", "NULL") + model.TRUTH_WORDS  # what stands behind a NOT that is no part of its own
+MARK_TESTS = ("IS DECLINED", "IS NOT DECLINED")
+BEHIND_NOT = ("IN", "NULL", "DECLINED") + model.TRUTH_WORDS  # what stands behind a NOT that is no part of its own
 EDGE = 2**31 - 2
 MANY_ENTRIES = 100
 
@@ -60,7 +61,7 @@ def own_entries(tokens, place):
     if token == "IN" or token in SIGNS and tokens[place + 1] in ("SOME", "ALL"):
         return 3
     if token == "IS":
-        return int(words_from(tokens, place).endswith(("NULL", "UNKNOWN")))
+        return int(words_from(tokens, place).endswith(("NULL", "UNKNOWN", "DECLINED")))
     return int(token in ("AND", "OR", "EXISTS") or token in SIGNS)
 
 
@@ -158,6 +159,26 @@ def traits(tokens):
             found.add("a column of an outer row")
         if token[-1].isdigit() and abs(int(token)) >= EDGE:
             found.add("a number at an end of the range")
+    return found
+
+
+def mark_traits(tokens):
+    """What is worth counting of the places of tests for declined values in a rule."""
+    found, tests = set(), truth_tests(tokens)
+    for place, bound in scopes(tokens):
+        if tokens[place] != "IS" or words_from(tokens, place) not in MARK_TESTS:
+            continue
+        is_column = place > 2 and tokens[place - 2] == "."
+        start = place - (3 if is_column else 1)
+        found.add("a column tested for declined" if is_column else "a number tested for declined")
+        if is_column and tokens[start] != bound[-1]:
+            found.add("a column of an outer row tested for declined")
+        if len(bound) > 1:
+            found.add("a test for declined in a WHERE")
+        if start > 0 and tokens[start - 1] == "NOT":
+            found.add("a test for declined under NOT")
+        if any(test.holds(place) for test in tests):
+            found.add("a test for declined in a truth test")
     return found
 
 

@@ -1,4 +1,8 @@
-"""Rules and tables as SQL. A rule is translated token by token, so that PostgreSQL's own grammar, grouping, scopes and three-valued logic decide."""
+"""Rules and tables as SQL. A rule is translated token by token, so that PostgreSQL's own grammar, grouping, scopes and three-valued logic decide.
+
+PostgreSQL has no declined cells: beside each column there stands one for the marks, which is never NULL. A blank or declined cell is NULL, and a test for
+a declined value is a condition on its mark.
+"""
 from built import Disagreement  # (built adds the folders of the calls and of the model to the path)
 
 import model
@@ -10,22 +14,33 @@ TRUTHS = {"t": model.TRUE, "f": model.FALSE, "U": model.UNKNOWN}
 
 def condition_of(tokens):
     """The condition in SQL of a rule's tokens. SOME, ALL and the words of truth tests stay as they are, UNKNOWN too, which the model has another word for."""
-    if "UNKNOWN" not in tokens:
+    place = next((place for place, token in enumerate(tokens) if token in ("UNKNOWN", "DECLINED")), None)
+    if place is None:
         return sql_of_tokens(tokens)
-    place = tokens.index("UNKNOWN")
-    return f"{sql_of_tokens(tokens[:place])} UNKNOWN {condition_of(tokens[place + 1:])}"
+    start, translated = (place, "UNKNOWN") if tokens[place] == "UNKNOWN" else mark_test(tokens, place)
+    return f"{sql_of_tokens(tokens[:start])} {translated} {condition_of(tokens[place + 1:])}"
+
+
+def mark_test(tokens, place):
+    """Where the test begins whose DECLINED stands at a place, and its condition on the mark of its value; a number is never declined, so its mark is 0."""
+    words = 2 if tokens[place - 1] == "NOT" else 1
+    end = place - words
+    is_column = end > 2 and tokens[end - 2] == "."
+    mark = f"{tokens[end - 3]}.mark{tokens[end - 1]}" if is_column else "0"
+    return end - (3 if is_column else 1), f"({mark} {'<>' if words == 2 else '='} {model.MARK_DECLINED})"
 
 
 def cell_sql(cell):
-    return "NULL" if cell is None else str(cell)
+    """A cell's value and mark."""
+    return f"{'NULL' if model.counts_as_blank(cell) else cell}, {model.mark_of(cell)}"
 
 
 def table_sql(number, columns, rows):
-    """A table with a column for the row's number, and then its own."""
-    names = "".join(f", c{column} integer" for column in range(1, columns + 1))
+    """A table with a column for the row's number, and then for each of its own the values and the marks."""
+    names = "".join(f", c{column} integer, mark{column} smallint NOT NULL" for column in range(1, columns + 1))
     yield f"CREATE TEMP TABLE t{number} (rowno integer{names});"
     if rows:
-        listed = ", ".join(f"({', '.join(map(cell_sql, [place] + row))})" for place, row in enumerate(rows))
+        listed = ", ".join(f"({', '.join([str(place), *map(cell_sql, row)])})" for place, row in enumerate(rows))
         yield f"INSERT INTO t{number} VALUES {listed};"
 
 

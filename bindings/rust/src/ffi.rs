@@ -8,7 +8,7 @@ pub struct Value {
     pub number: i32,
 }
 
-/// A part of a rule.
+/// A part of a rule. Its kind is 1 to 17, as include/roskudla.h names them.
 #[repr(C)]
 #[derive(Clone, Copy, Debug, Default, PartialEq, Eq)]
 pub struct Part {

@@ -1,8 +1,9 @@
-//! The eight calls of Roskudla: entry rules with blanks, turned into cards that answer yes or no; and tables from comma lines, and back.
+//! The eight calls of Roskudla: entry rules with blanks and declined answers, turned into cards that answer yes or no; and tables from comma lines, and back.
 //!
-//! A rule's text, a tables file, a card and comma lines are bytes. What [`read`], [`card`] and [`list`] write goes to a slice that the caller lends; a refusal
-//! leaves it as it was, and a success leaves what lies past the answer. With room for [`MOST_PARTS`], [`MOST_CARD_BYTES`] or [`MOST_ROWS`] elements, no call is
-//! refused with 12. [`import_lines`] and [`export_lines`] answer with a vector, which has room for any answer.
+//! A rule's text, a tables file, a card and comma lines are bytes. The mark byte of a cell in a tables file is [`MARK_PRESENT`], [`MARK_BLANK`] or
+//! [`MARK_DECLINED`]. What [`read`], [`card`] and [`list`] write goes to a slice that the caller lends; a refusal leaves it as it was, and a success leaves
+//! what lies past the answer. With room for [`MOST_PARTS`], [`MOST_CARD_BYTES`] or [`MOST_ROWS`] elements, no call is refused with 12. [`import_lines`] and
+//! [`export_lines`] answer with a vector, which has room for any answer.
 //!
 //! Links `libroskudla.a`, which `bindings/build` writes. Every call may be used from several threads at a time; what it takes of a thread's stack, and
 //! how its time grows, is in `include/roskudla.h`.
@@ -11,6 +12,15 @@ pub mod ffi;
 
 pub use ffi::{Part, Value};
 use std::fmt;
+
+/// The mark of a cell that has a number.
+pub const MARK_PRESENT: u8 = 0;
+
+/// The mark of a blank cell.
+pub const MARK_BLANK: u8 = 1;
+
+/// The mark of a cell whose answer was declined: it is blank in every respect, and IS DECLINED and comma lines alone tell it apart.
+pub const MARK_DECLINED: u8 = 2;
 
 /// The most parts that a rule has.
 pub const MOST_PARTS: usize = 64;
@@ -35,7 +45,7 @@ impl fmt::Display for Refusal {
     fn fmt(&self, f: &mut fmt::Formatter<'_>) -> fmt::Result {
         let reason = match self.0 {
             1 => "tables: sizes or length wrong",
-            2 => "tables: a mark above 1",
+            2 => "tables: a mark above 2",
             3 => "text over 4,096 bytes",
             4 => "no such token, or a number beyond the range",
             5 => "over 32 more ( than ) up to some token",
@@ -126,7 +136,8 @@ pub fn list(card: &[u8], tables: &[u8], rows: &mut [u32]) -> Result<usize, Refus
     answer_of(status, count)
 }
 
-/// IMPORT: comma lines as a tables file with one table, of so many columns. Refusals, in this order: 14, 15.
+/// IMPORT: comma lines as a tables file with one table, of so many columns; an empty field is blank, and a lone `!` is declined. Refusals, in this
+/// order: 14, 15.
 pub fn import_lines(lines: &[u8], columns: usize) -> Result<Vec<u8>, Refusal> {
     let (mut tables, mut length) = (vec![0; MOST_TABLE_BYTES], 0);
     let status = unsafe { ffi::roskudla_import(lines.as_ptr(), lines.len(), columns, tables.as_mut_ptr(), tables.len(), &mut length) };
@@ -134,7 +145,7 @@ pub fn import_lines(lines: &[u8], columns: usize) -> Result<Vec<u8>, Refusal> {
     answer_of(status, tables)
 }
 
-/// EXPORT: table 1 of a tables file as comma lines. Refusals, in this order: 1, 2.
+/// EXPORT: table 1 of a tables file as comma lines; a blank cell is an empty field, and a declined one is a lone `!`. Refusals, in this order: 1, 2.
 pub fn export_lines(tables: &[u8]) -> Result<Vec<u8>, Refusal> {
     let (mut lines, mut length) = (vec![0; MOST_LINES_BYTES], 0);
     let status = unsafe { ffi::roskudla_export(tables.as_ptr(), tables.len(), lines.as_mut_ptr(), lines.len(), &mut length) };

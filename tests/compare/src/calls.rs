@@ -2,6 +2,7 @@
 
 use crate::inputs::{rows_of_first, Call, Input};
 use crate::outcomes::{possible, Outcome};
+use crate::sorts::Seen;
 use roskudla::ffi;
 
 /// Bytes of pattern on each side of a buffer. What the library writes beside a buffer shows there.
@@ -239,6 +240,16 @@ impl Space {
             Ok(outcome)
         } else {
             Err("an outcome that the call cannot have".into())
+        }
+    }
+
+    /// What the sorts of input are told by: the input and its outcome, and what the reference wrote.
+    pub fn seen<'a>(&'a self, input: &'a Input, outcome: Outcome) -> Seen<'a> {
+        let written = self.expected.and_then(Result::ok).unwrap_or(0) as usize;
+        match input.call {
+            Call::Read => Seen::new(input, outcome, &self.parts[..written], &[]),
+            Call::Card | Call::Import | Call::Export => Seen::new(input, outcome, &[], &self.bytes[..written]),
+            _ => Seen::new(input, outcome, &[], &[]),
         }
     }
 

@@ -8,6 +8,10 @@ use crate::tables::{self, Size};
 /// The tag of a constant.
 const CONSTANT: u8 = 255;
 
+/// The kinds of document 02, Point 4.
+pub const DECLINED: u8 = 9;
+pub const NOT_DECLINED: u8 = 10;
+
 /// The places of fields in a record.
 const TABLE: usize = 2;
 const COMPARISON: usize = 3;
@@ -117,11 +121,11 @@ impl Tree<'_> {
 
     fn plain(&mut self) {
         let left = self.value();
-        let entry = if self.draw.percent(75) {
+        let entry = if self.draw.percent(65) {
             let (kind, comparison) = (self.draw.pick(&[5, 6]), self.draw.between(1, 6) as u8);
             Entry { kind, comparison, left, right: self.value(), ..Entry::default() }
         } else {
-            Entry { kind: self.draw.pick(&[7, 8]), left, ..Entry::default() }
+            Entry { kind: self.draw.pick(&[7, 8, DECLINED, NOT_DECLINED]), left, ..Entry::default() }
         };
         self.entries.push(entry);
     }
@@ -240,7 +244,7 @@ fn bad_end(draw: &mut Draw, sheet: &mut Sheet) {
 /// A kind that there is not, though parts have some of these, or another one with fields of the first.
 fn bad_kind(draw: &mut Draw, sheet: &mut Sheet) {
     let at = sheet.kind_at(draw.below(sheet.count));
-    sheet.bytes[at] = draw.pick(&[0, 9, 10, 14, 255, 1, 2, 3, 4, 5, 6, 7, 8]);
+    sheet.bytes[at] = draw.pick(&[0, 11, 11, 12, 14, 16, 17, 255, 1, 2, 3, 4, 5, 6, 7, 8, DECLINED, NOT_DECLINED]);
 }
 
 fn bad_table(draw: &mut Draw, sheet: &mut Sheet) {
@@ -255,7 +259,7 @@ fn bad_comparison(draw: &mut Draw, sheet: &mut Sheet) {
 
 /// An entry with values, and the place of one that its kind uses.
 fn value_at(draw: &mut Draw, sheet: &Sheet) -> (usize, usize) {
-    let entry = sheet.entry_of(draw, &[5, 6, 7, 8]);
+    let entry = if draw.percent(75) { sheet.entry_of(draw, &[5, 6, 7, 8]) } else { sheet.entry_of(draw, &[DECLINED, NOT_DECLINED]) };
     let right = matches!(sheet.kind(entry), 5 | 6) && draw.percent(50);
     (entry, sheet.record_at(entry) + if right { RIGHT } else { LEFT })
 }
@@ -282,11 +286,12 @@ fn bad_column(draw: &mut Draw, sheet: &mut Sheet) {
 
 /// A byte that the entry's kind leaves unused is not 0.
 fn unused_byte(draw: &mut Draw, sheet: &mut Sheet) {
-    let entry = draw.below(sheet.count);
+    let entry = if draw.percent(75) { draw.below(sheet.count) } else { sheet.entry_of(draw, &[DECLINED, NOT_DECLINED]) };
     let fields: &[usize] = match sheet.kind(entry) {
         1 | 2 => &[TABLE, COMPARISON, LEFT, RIGHT],
         3 | 4 => &[COMPARISON, LEFT, RIGHT],
         5 | 6 => &[TABLE],
+        // kinds 7 to 10
         _ => &[TABLE, COMPARISON, RIGHT],
     };
     let field = draw.pick(fields);
@@ -364,11 +369,16 @@ pub fn random_card(draw: &mut Draw) -> Vec<u8> {
     bytes
 }
 
-/// The paper's card for `NOT m.2 < 5` on one table of three columns, its example of an unsound one, and none at all.
+/// The paper's card for `NOT m.2 < 5` on one table of three columns, its example of an unsound one, and none at all; and the card with
+/// one entry of kind 7 to 11 for column 2 or for the number 2.
 pub fn example(draw: &mut Draw) -> Vec<u8> {
-    match draw.below(4) {
+    match draw.below(8) {
         0 => vec![0, 0],
         1 => Vec::new(),
-        _ => vec![1, 0, 1, 3, 5, 1, 0, 0, 6, 0, 2, 0, 0, 0, 0xFF, 5, 0, 0, 0],
+        2 | 3 => vec![1, 0, 1, 3, 5, 1, 0, 0, 6, 0, 2, 0, 0, 0, 0xFF, 5, 0, 0, 0],
+        _ => {
+            let (kind, tag) = (draw.pick(&[7, 8, DECLINED, DECLINED, NOT_DECLINED, NOT_DECLINED, 11]), draw.pick(&[0, 0, CONSTANT]));
+            vec![1, 0, 1, 3, kind, 1, 0, 0, 0, tag, 2, 0, 0, 0, 0, 0, 0, 0, 0]
+        }
     }
 }

@@ -8,17 +8,17 @@ use crate::tokens::{self, Token, SIGNS};
 use crate::truths;
 
 #[rustfmt::skip]
-const WORDS: [&str; 15] = [
-    "AND", "OR", "NOT", "EXISTS", "IN", "SOME", "ALL", "IS", "NULL", "SELECT", "FROM", "WHERE", "TRUE", "FALSE", "UNKNOWN",
+const WORDS: [&str; 16] = [
+    "AND", "OR", "NOT", "EXISTS", "IN", "SOME", "ALL", "IS", "NULL", "SELECT", "FROM", "WHERE", "TRUE", "FALSE", "UNKNOWN", "DECLINED",
 ];
 const LOOSE: [&str; 16] = ["(", ")", ".", "(", ")", ".", "m", "m", "v", "k", "1", "1", "2", "0", "-1", "3"];
 
 /// What is no token, or reads as more than one.
 #[rustfmt::skip]
-const NO_TOKENS: [&str; 36] = [
+const NO_TOKENS: [&str; 41] = [
     "AN", "NOTNOT", "ANDOR", "ISNULL", "ISTRUE", "TRUEFALSE", "NOTUNKNOWN", "UNKNOW", "A", "Z", "@", "\t", "\r", "\0", "\u{b}", "-",
     "--1", "- 1", "==", "!=", ",", "+1", "[", "`", "{", "/", ":", ";", "'", "<=>", "=<",
-    "00000000001", "-00000000001", "2147483648", "-2147483649", "9999999999",
+    "00000000001", "-00000000001", "2147483648", "-2147483649", "9999999999", "DECLINE", "DECLINEDX", "DECLIN ED", "ISDECLINED", "!",
 ];
 
 /// Numbers about the ends of the range and about ten digits.
@@ -32,7 +32,7 @@ const EDGE_NUMBERS: [&str; 14] = [
 const USEFUL_BYTES: &[u8] = b"ANDORTISEXULFMWHCK mvk.12-0()<>=\n 19A(:/`{@[\t";
 
 /// The small examples of the table of refusals, and rules of the proved cases.
-const EXAMPLES: [&str; 25] = [
+const EXAMPLES: [&str; 33] = [
     "",
     "m.1 =",
     "m.1 = 2147483648",
@@ -58,6 +58,14 @@ const EXAMPLES: [&str; 25] = [
     "((1 = 1) IS TRUE) IS TRUE",
     "(1 = 1) IS TRUE IS TRUE",
     "EXISTS (FROM 2 v WHERE 1 = 1) IS TRUE",
+    "m.2 IS DECLINED",
+    "m.2 IS NOT DECLINED",
+    "NOT m.2 IS DECLINED",
+    "m.2 IS NULL AND NOT m.2 IS DECLINED",
+    "1 IS DECLINED",
+    "EXISTS (FROM 2 v WHERE v.1 IS DECLINED)",
+    "(m.2 IS DECLINED) IS UNKNOWN",
+    "(m.2 > 0) IS DECLINED",
 ];
 
 /// A text of the paper's own, or its nearest neighbour.
@@ -209,6 +217,9 @@ fn vast(draw: &mut Draw) -> Vec<u8> {
         ("(1=1)", " IS TRUE", ""),
         ("(1=1)IS", " NOT", " FALSE"),
         ("(m.1=1)IS UNKNOWN", " OR(1=1)IS UNKNOWN", ""),
+        ("m.1 IS DECLINED", " OR 1 IS DECLINED", ""),
+        ("m.1 IS", " NOT", " DECLINED"),
+        ("", "DECLINED ", ""),
     ]);
     let most = (MOST_TEXT_BYTES - first.len() - last.len()) / again.len();
     let times = if draw.percent(50) { most + draw.below(2) } else { draw.between(0, most) };
@@ -235,7 +246,7 @@ fn many_nots(draw: &mut Draw, sizes: &[Size], bounds: Bounds) -> Vec<u8> {
 
 /// FROMs around one another, two to five of them, beside other tests.
 fn deep_froms(draw: &mut Draw, sizes: &[Size]) -> Vec<u8> {
-    let mut text = String::from(draw.pick(&["1=1", "m.1=1", "m.1 IS NULL", "v.1<m.1", "1=", "q.1=1", "0>m.1"]));
+    let mut text = String::from(draw.pick(&["1=1", "m.1=1", "m.1 IS NULL", "m.1 IS DECLINED", "v.1<m.1", "1=", "q.1=1", "0>m.1"]));
     for _ in 0..draw.pick(&[2, 3, 3, 3, 4, 4, 5]) {
         let letter = draw.pick(&['m', 'm', 'v', 'w']);
         let table = if draw.percent(95) { draw.between(1, sizes.len()) } else { draw.pick(&[0, 9]) };

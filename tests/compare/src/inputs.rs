@@ -4,7 +4,7 @@ use crate::draw::Draw;
 use crate::limits::{card_bytes, MOST_ENTRIES, MOST_LINES_BYTES, MOST_PARTS, MOST_ROWS, MOST_TABLES, MOST_TABLE_BYTES, MOST_TEXT_BYTES};
 use crate::rules::{self, Bounds};
 use crate::tables::{self, Size};
-use crate::{cards, faults, lines, tokens, truths};
+use crate::{cards, declined, faults, lines, tokens, truths};
 
 #[derive(Clone, Copy, PartialEq, Eq, Debug)]
 pub enum Call {
@@ -125,7 +125,7 @@ fn right_text(draw: &mut Draw, sizes: &[Size], bounds: Bounds) -> Vec<u8> {
 
 /// A text that is mostly refused, or near to be.
 fn other_text(draw: &mut Draw, sizes: &[Size], bounds: Bounds) -> Vec<u8> {
-    match draw.weighted(&[16, 13, 40, 20, 5, 4, 7, 40]) {
+    match draw.weighted(&[16, 13, 40, 20, 5, 4, 7, 40, 15]) {
         0 => {
             let parts = draw.between(1, 8);
             let mut tokens = rules::rule(draw, sizes, parts, bounds);
@@ -151,7 +151,8 @@ fn other_text(draw: &mut Draw, sizes: &[Size], bounds: Bounds) -> Vec<u8> {
             let tokens = rules::rule(draw, sizes, parts, bounds);
             faults::stray_byte(draw, &tokens)
         }
-        _ => truths::text(draw, sizes, bounds),
+        7 => truths::text(draw, sizes, bounds),
+        _ => declined::text(draw, sizes, bounds),
     }
 }
 

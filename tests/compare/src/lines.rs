@@ -9,11 +9,18 @@ use crate::tokens::Token;
 /// Numbers as they may be written, with spare zeros and at the ends of the range.
 const WRITTEN: [&str; 10] = ["0", "-0", "00", "-00", "0000000000", "-0000000000", "2147483647", "-2147483648", "0000000001", "-0000000009"];
 
+/// The field of a declined cell.
+const DECLINED: &str = "!";
+
+/// Fields that are none, though near to the one of a declined cell.
+const NEAR_DECLINED: [&str; 16] =
+    ["!1", "1!", "!!", "! ", " !", "-!", "!-", "!0", "0!", "-1!", "\"!\"", "!\0", "!\t", "\u{a1}", "\u{ff01}", "!DECLINED"];
+
 /// Fields that are none. What some of them are for other readers of comma lines is a number, or a blank.
 #[rustfmt::skip]
 const BAD_FIELDS: [&str; 40] = [
     "+1", "+", "-", "--1", "-+1", "1-", "1-2", " ", " 1", "1 ", "\t1", "1\t", "- 1", "1 2", "\"1\"", "\"\"", "\"", "'1'", "1.0", "1e3", "0x1",
-    "1_0", "1;2", "x", "!", "NULL", "\0", "1\0", "\u{a0}1", "\u{feff}1", "\u{2212}1", "\u{663}", "00000000000", "-00000000001", "12345678901",
+    "1_0", "1;2", "x", "?", "NULL", "\0", "1\0", "\u{a0}1", "\u{feff}1", "\u{2212}1", "\u{663}", "00000000000", "-00000000001", "12345678901",
     "2147483648", "-2147483649", "4294967297", "-4294967295", "9999999999",
 ];
 
@@ -22,17 +29,18 @@ const BAD_ENDS: [&str; 10] = ["\r", "\r\r\n", "\n\r", "", " \n", "\n\n", "\r\n\n
 
 /// Lines by themselves and the columns for them: the shortest of each sort, right or wrong.
 #[rustfmt::skip]
-const EXAMPLES: [(&str, usize); 24] = [
+const EXAMPLES: [(&str, usize); 40] = [
     ("", 1), ("", 16), ("", 0), ("", 17), ("\n", 1), ("\r\n", 1), ("\n", 2), ("\n", 0), ("1", 1), ("1\n", 1), ("1\r\n", 1), ("1\n\n", 1), ("1,", 1),
     ("1,", 2), (",", 2), ("1\r", 1), ("\r", 1), ("1\r\r\n", 1), ("1\r2\n", 1), ("1\r,2\n", 2), ("-0,007\r\n,", 2), ("1,2\n1", 2), ("1,2\n1,2,3", 2),
-    ("2147483647,-2147483648\n", 2),
+    ("2147483647,-2147483648\n", 2), ("!", 1), ("!\n", 1), ("!\r\n", 1), ("!\n!", 1), ("!,!", 2), ("!,", 2), (",!\n", 2), ("1,!\n!,1", 2), ("!", 2),
+    ("!!", 1), ("!1", 1), ("1!", 1), ("!\r", 1), ("! ", 1), (" !", 1), ("-!", 1),
 ];
 
 /// The bytes that matter in lines, and few others.
-const USEFUL_BYTES: &[u8] = b"0123456789-,\n\r0019-,,,,\n\n\n\r\r +\".;x\0";
+const USEFUL_BYTES: &[u8] = b"0123456789-,\n\r0019-,,,,\n\n\n\r\r +\".;x\0!!!";
 
 /// The bytes that right lines are made of, some more often than others: of few of them many lines are right.
-const LINE_BYTES: &[u8] = b"0012789--,,,\n\n\n\n\r\r";
+const LINE_BYTES: &[u8] = b"0012789--,,,\n\n\n\n\r\r!!!";
 
 /// One line: its fields, and its end.
 struct Line {
@@ -107,15 +115,17 @@ fn number(draw: &mut Draw) -> i32 {
 
 /// How the fields of one file are drawn.
 struct Filling {
-    /// Blank fields in a hundred.
+    /// Blank and declined fields in a hundred.
     blanks: usize,
+    /// Declined ones among these in a hundred.
+    declined: usize,
     /// Numbers with spare zeros in a hundred.
     spare: usize,
 }
 
 fn field(draw: &mut Draw, filling: &Filling) -> Token {
     if draw.percent(filling.blanks) {
-        return Token::new("");
+        return Token::new(if draw.percent(filling.declined) { DECLINED } else { "" });
     }
     if !draw.percent(filling.spare) {
         return Token::number(number(draw).into(), 1);
@@ -128,7 +138,8 @@ fn field(draw: &mut Draw, filling: &Filling) -> Token {
 
 /// Lines of this size, which need not be allowed: with LF, CRLF or both, and an end of the last or none.
 fn right(draw: &mut Draw, size: Size) -> Vec<Line> {
-    let filling = Filling { blanks: draw.pick(&[0, 10, 40, 40, 70, 100]), spare: draw.pick(&[0, 10, 10, 50, 100]) };
+    let (blanks, declined) = (draw.pick(&[0, 10, 40, 40, 70, 100]), tables::declined_share(draw));
+    let filling = Filling { blanks, declined, spare: draw.pick(&[0, 10, 10, 50, 100]) };
     let returns = draw.pick(&[0, 0, 50, 100]);
     let mut lines: Vec<Line> = (0..size.rows)
         .map(|_| Line {
@@ -177,9 +188,9 @@ fn damage_once(draw: &mut Draw, lines: &mut Vec<Line>, place: usize) {
     match draw.weighted(&[40, 12, 12, 6, 26, 4, 6]) {
         0 if !fields.is_empty() => fields[at] = bad_field(draw),
         1 if !fields.is_empty() => drop(fields.remove(at)),
-        2 => fields.insert(at, field(draw, &Filling { blanks: 50, spare: 10 })),
+        2 => fields.insert(at, field(draw, &Filling { blanks: 50, declined: 50, spare: 10 })),
         3 if at > 0 => {
-            let between = draw.pick(&[";", ";", "\t", " ", ".", "|", ", ", "\r", "-"]);
+            let between = draw.pick(&[";", ";", "\t", " ", ".", "|", ", ", "\r", "-", "!"]);
             fields[at - 1] = Token::new(&format!("{}{between}{}", draw.below(100), draw.below(100)));
             fields.remove(at);
         }
@@ -189,16 +200,17 @@ fn damage_once(draw: &mut Draw, lines: &mut Vec<Line>, place: usize) {
     }
 }
 
-/// A field that is none: one of the list, a number that is too long or beyond the range, or one with something about it.
+/// A field that is none: one of the lists, a number that is too long or beyond the range, or one with something about it.
 fn bad_field(draw: &mut Draw) -> Token {
     let size = number(draw).unsigned_abs().min(i32::MAX as u32);
-    match draw.weighted(&[40, 15, 15, 30]) {
+    match draw.weighted(&[32, 13, 13, 16, 26]) {
         0 => Token::new(draw.pick(&BAD_FIELDS)),
         1 => Token::number(if draw.percent(50) { -i64::from(size) } else { size.into() }, draw.between(MOST_DIGITS + 1, MOST_DIGITS + 2)),
         2 => {
             let beyond = draw.pick(&[1 << 31, 1 << 31, 1 << 32, 3 << 31, 9_999_999_990]) + draw.below(9) as i64;
             Token::number(if draw.percent(50) { -1 - beyond } else { beyond }, 1)
         }
+        3 => Token::new(draw.pick(&NEAR_DECLINED)),
         _ => {
             let (before, behind) = draw.pick(&[
                 ("+", ""),
@@ -211,6 +223,8 @@ fn bad_field(draw: &mut Draw) -> Token {
                 ("", "."),
                 ("\t", ""),
                 ("--", ""),
+                ("!", ""),
+                ("", "!"),
             ]);
             Token::new(&format!("{before}{size}{behind}"))
         }
@@ -261,8 +275,20 @@ fn wrong_columns(draw: &mut Draw) -> (Vec<u8>, usize) {
 
 /// One thing over and over: far more lines, fields or digits than there may be, and more lines than two bytes count.
 fn vast(draw: &mut Draw) -> (Vec<u8>, usize) {
-    let (again, columns) =
-        draw.pick(&[("\n", 1), ("\n", 1), ("1\n", 1), ("\r\n", 1), (",\n", 2), (",", 1), (",", 16), ("0", 1), ("-", 1), ("\r", 1)]);
+    let (again, columns) = draw.pick(&[
+        ("\n", 1),
+        ("\n", 1),
+        ("1\n", 1),
+        ("!\n", 1),
+        ("\r\n", 1),
+        (",\n", 2),
+        (",", 1),
+        (",", 16),
+        ("0", 1),
+        ("-", 1),
+        ("\r", 1),
+        ("!", 1),
+    ]);
     let times = if draw.percent(50) { (1 << 16) + draw.below(1003) } else { draw.below(3000) };
     let last = draw.pick(&["", "", "1", "x", ","]);
     ([again.repeat(times).as_bytes(), last.as_bytes()].concat(), columns)

@@ -4,12 +4,13 @@
 //!     compare --seed S --inputs N --seconds T [--least M]      the same for T seconds at the most, or longer, until M were compared
 //!     compare --seed S --only K                                compares input K alone and prints it with both answers
 //!
-//! It ends with 0 if both sides agree on every input and every outcome that a call can have was seen, else with 1; with 2 if it is
-//! not called as above. An input that takes over half a minute ends it too. Should the library break off the whole program, then
-//! halving with --from and --inputs finds the input.
+//! It ends with 0 if both sides agree on every input, every outcome that a call can have was seen, and every sort of input was seen often
+//! enough, else with 1; with 2 if it is not called as above. An input that takes over half a minute ends it too. Should the library break
+//! off the whole program, then halving with --from and --inputs finds the input.
 
 mod calls;
 mod cards;
+mod declined;
 mod draw;
 mod faults;
 mod inputs;
@@ -17,6 +18,7 @@ mod limits;
 mod lines;
 mod outcomes;
 mod rules;
+mod sorts;
 mod tables;
 mod tokens;
 mod truths;
@@ -86,7 +88,7 @@ fn compare(order: &Order, number: u64, space: &mut Space, tally: &mut Tally) -> 
         let input = inputs::input(order.seed, number);
         match space.compare(&input) {
             Ok(outcome) => {
-                tally.count(input.call, outcome);
+                tally.count(input.call, outcome, &space.seen(&input, outcome));
                 Ok(())
             }
             Err(what) => Err(format!("difference: {what}\n{}\n{}\n{again}", calls::printed(&input), space.describe(&input))),
@@ -164,7 +166,7 @@ fn compare_many(order: &Order) -> bool {
     enough(order, &tally)
 }
 
-/// Whether as many inputs were compared as wanted, and every outcome was seen.
+/// Whether as many inputs were compared as wanted, every outcome was seen, and every sort of input often enough.
 fn enough(order: &Order, tally: &Tally) -> bool {
     let unseen = tally.unseen();
     let wanted = if order.seconds.is_some() { order.least.min(order.inputs) } else { order.inputs };
@@ -174,7 +176,7 @@ fn enough(order: &Order, tally: &Tally) -> bool {
     }
     if !unseen.is_empty() {
         println!(
-            "compare: {} inputs agree, but these outcomes were never seen: {} (seed {})",
+            "compare: {} inputs agree, but these outcomes or sorts of input were not seen, or too seldom: {} (seed {})",
             tally.total(),
             unseen.join(", "),
             order.seed

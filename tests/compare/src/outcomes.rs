@@ -1,9 +1,10 @@
 //! The outcomes that each call can have, and how often each was seen.
 
 use crate::inputs::{Call, CALLS};
+use crate::sorts::{Seen, Sorts};
 
 /// How a call came out: one of its sorts of answers, or a refusal.
-#[derive(Clone, Copy)]
+#[derive(Clone, Copy, PartialEq, Eq)]
 pub enum Outcome {
     Answer(usize),
     Refusal(u32),
@@ -50,20 +51,22 @@ pub fn possible(call: Call, outcome: Outcome) -> bool {
     }
 }
 
-/// Counts of outcomes, for each call by refusal and by sort of answer.
+/// Counts of outcomes, for each call by refusal and by sort of answer; and of sorts of input.
 #[derive(Default)]
 pub struct Tally {
     refused: [[u64; REFUSALS + 1]; CALLS.len()],
     answered: [[u64; SORTS]; CALLS.len()],
+    sorts: Sorts,
 }
 
 impl Tally {
-    /// Counts an outcome that is possible.
-    pub fn count(&mut self, call: Call, outcome: Outcome) {
+    /// Counts an input whose outcome is possible.
+    pub fn count(&mut self, call: Call, outcome: Outcome, seen: &Seen) {
         match outcome {
             Outcome::Answer(sort) => self.answered[call as usize][sort] += 1,
             Outcome::Refusal(number) => self.refused[call as usize][number as usize] += 1,
         }
+        self.sorts.count(seen);
     }
 
     pub fn add(&mut self, other: &Tally) {
@@ -71,6 +74,7 @@ impl Tally {
             (0..=REFUSALS).for_each(|number| self.refused[call][number] += other.refused[call][number]);
             (0..SORTS).for_each(|sort| self.answered[call][sort] += other.answered[call][sort]);
         }
+        self.sorts.add(&other.sorts);
     }
 
     /// The inputs of one call.
@@ -99,11 +103,13 @@ impl Tally {
         }
         let answered: u64 = self.answered.iter().flatten().sum();
         println!("answered in all: {:.1}%", 100.0 * answered as f64 / self.total().max(1) as f64);
+        self.sorts.print();
     }
 
-    /// The outcomes that were never seen, though their call can have them.
+    /// The outcomes that were never seen, though their call can have them, and the sorts of input that were seen too seldom.
     pub fn unseen(&self) -> Vec<String> {
         let missing = |call: &Call| self.lines(*call).into_iter().filter(|(_, count)| *count == 0);
-        CALLS.iter().flat_map(|call| missing(call).map(move |(name, _)| format!("{call:?} {name}"))).collect()
+        let outcomes = CALLS.iter().flat_map(|call| missing(call).map(move |(name, _)| format!("{call:?} {name}")));
+        outcomes.chain(self.sorts.scarce(self.total())).collect()
     }
 }

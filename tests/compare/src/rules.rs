@@ -177,14 +177,16 @@ impl Maker<'_> {
     /// A test without an inner condition.
     fn plain_test(&mut self) {
         self.value();
-        match self.draw.weighted(&[70, 15, 15]) {
+        match self.draw.weighted(&[64, 9, 9, 9, 9]) {
             0 => {
                 let sign = self.draw.pick(&SIGNS);
                 self.push(sign);
                 self.value();
             }
             1 => self.push_all(&["IS", "NULL"]),
-            _ => self.push_all(&["IS", "NOT", "NULL"]),
+            2 => self.push_all(&["IS", "NOT", "NULL"]),
+            3 => self.push_all(&["IS", "DECLINED"]),
+            _ => self.push_all(&["IS", "NOT", "DECLINED"]),
         }
     }
 

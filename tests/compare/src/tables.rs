@@ -3,6 +3,11 @@
 use crate::draw::Draw;
 use crate::limits::{MOST_CELLS, MOST_COLUMNS, MOST_ROWS, MOST_TABLES};
 
+/// The marks of a cell.
+const PRESENT: u8 = 0;
+const BLANK: u8 = 1;
+pub const DECLINED: u8 = 2;
+
 /// Values at the ends of a range: of 32 bits, of a byte, of two bytes.
 const EDGES: [i32; 10] = [i32::MIN, i32::MIN + 1, i32::MAX, i32::MAX - 1, 127, 255, 256, -256, 65536, -65536];
 
@@ -118,31 +123,50 @@ pub fn head(sizes: &[Size]) -> Vec<u8> {
 
 /// How the cells of one file are drawn.
 struct Filling {
-    /// Blank cells in a hundred.
+    /// Cells without a number in a hundred.
     blanks: usize,
+    /// Declined ones among these in a hundred.
+    declined: usize,
     /// What nearly all cells hold, if so: then an answer may hang on a single row, and often on the last.
-    even: Option<(i32, bool)>,
+    even: Option<(i32, u8)>,
     /// One in so many cells holds something else all the same.
     others: usize,
 }
 
-/// A cell's value and whether it is blank. What lies beneath a blank is either as likely a value as any, or anything.
-fn cell(draw: &mut Draw, filling: &Filling, last_row: bool) -> (i32, bool) {
+/// How many in a hundred of the cells without a number are declined ones, in one file: over all files about half.
+pub fn declined_share(draw: &mut Draw) -> usize {
+    draw.pick(&[0, 20, 50, 50, 80, 100])
+}
+
+/// A mark, where so many cells in a hundred have no number, and so many in a hundred of these are declined.
+fn mark(draw: &mut Draw, blanks: usize, declined: usize) -> u8 {
+    if !draw.percent(blanks) {
+        PRESENT
+    } else if draw.percent(declined) {
+        DECLINED
+    } else {
+        BLANK
+    }
+}
+
+/// A cell's value and mark. What lies beneath a blank or declined cell is either as likely a value as any, or anything.
+fn cell(draw: &mut Draw, filling: &Filling, last_row: bool) -> (i32, u8) {
     if let Some(same) = filling.even {
         if !(last_row && draw.percent(50)) && draw.below(filling.others) > 0 {
             return same;
         }
     }
-    let blank = draw.percent(filling.blanks);
-    let any = blank && draw.percent(30);
-    (if any { draw.word() as i32 } else { value(draw) }, blank)
+    let mark = mark(draw, filling.blanks, filling.declined);
+    let any = mark != PRESENT && draw.percent(30);
+    (if any { draw.word() as i32 } else { value(draw) }, mark)
 }
 
 /// A file of these sizes, which need not be allowed ones.
 pub fn file(draw: &mut Draw, sizes: &[Size]) -> Vec<u8> {
     let blanks = draw.pick(&[0, 25, 40, 50, 50, 60, 75, 100]);
-    let even = draw.percent(if is_tall(sizes) { 70 } else { 10 }).then(|| (value(draw), draw.percent(blanks)));
-    let filling = Filling { blanks, even, others: draw.pick(&[256, 4096]) };
+    let declined = declined_share(draw);
+    let even = draw.percent(if is_tall(sizes) { 70 } else { 10 }).then(|| (value(draw), mark(draw, blanks, declined)));
+    let filling = Filling { blanks, declined, even, others: draw.pick(&[256, 4096]) };
     let count = cells(sizes);
     let mut bytes = head(sizes);
     let mut value_at = bytes.len();
@@ -150,9 +174,9 @@ pub fn file(draw: &mut Draw, sizes: &[Size]) -> Vec<u8> {
     bytes.resize(mark_at + count, 0);
     for size in sizes {
         for place in 0..size.columns * size.rows {
-            let (held, blank) = cell(draw, &filling, place + size.columns >= size.columns * size.rows);
+            let (held, mark) = cell(draw, &filling, place + size.columns >= size.columns * size.rows);
             bytes[value_at..value_at + 4].copy_from_slice(&held.to_le_bytes());
-            bytes[mark_at] = u8::from(blank);
+            bytes[mark_at] = mark;
             value_at += 4;
             mark_at += 1;
         }
@@ -180,7 +204,7 @@ pub fn proved() -> (Vec<Size>, Vec<u8>) {
 pub fn damaged(draw: &mut Draw, sizes: &[Size]) -> Vec<u8> {
     match draw.weighted(&[10, 34, 10, 20, 10, 6, 4, 6]) {
         0 => byte_changed(draw, sizes),
-        1 => mark_above_one(draw, sizes),
+        1 => mark_too_high(draw, sizes),
         2 => length_wrong(draw, sizes),
         3 => beyond_a_limit(draw, sizes),
         4 => size_changed(draw, sizes),
@@ -188,8 +212,8 @@ pub fn damaged(draw: &mut Draw, sizes: &[Size]) -> Vec<u8> {
         6 => Vec::new(),
         _ => {
             // two faults at once: 1 comes before 2
-            let mut bytes = mark_above_one(draw, sizes);
-            bytes.push(draw.pick(&[0, 1, 2]));
+            let mut bytes = mark_too_high(draw, sizes);
+            bytes.push(draw.pick(&[0, 1, 2, 3]));
             bytes
         }
     }
@@ -203,8 +227,8 @@ fn byte_changed(draw: &mut Draw, sizes: &[Size]) -> Vec<u8> {
     bytes
 }
 
-/// One mark, often the first or the last, is above 1.
-fn mark_above_one(draw: &mut Draw, sizes: &[Size]) -> Vec<u8> {
+/// One mark, often the first or the last, is above 2: mostly just above.
+fn mark_too_high(draw: &mut Draw, sizes: &[Size]) -> Vec<u8> {
     let mut sizes = sizes.to_vec();
     if cells(&sizes) == 0 {
         sizes[0].rows = 1;
@@ -217,7 +241,11 @@ fn mark_above_one(draw: &mut Draw, sizes: &[Size]) -> Vec<u8> {
         _ => draw.below(count),
     };
     let marks_at = bytes.len() - count;
-    bytes[marks_at + cell] = draw.pick(&[2, 2, 2, 3, 128, 254, 255]);
+    bytes[marks_at + cell] = match draw.weighted(&[50, 25, 25]) {
+        0 => DECLINED + 1,
+        1 => draw.pick(&[4, 127, 128, 130, 254, 255]),
+        _ => draw.between(usize::from(DECLINED) + 1, 255) as u8,
+    };
     bytes
 }
 
@@ -225,7 +253,7 @@ fn mark_above_one(draw: &mut Draw, sizes: &[Size]) -> Vec<u8> {
 fn length_wrong(draw: &mut Draw, sizes: &[Size]) -> Vec<u8> {
     let mut bytes = file(draw, sizes);
     match draw.below(4) {
-        0 => bytes.push(draw.pick(&[0, 1, 2])),
+        0 => bytes.push(draw.pick(&[0, 1, 2, 3])),
         1 => bytes.truncate(bytes.len() - 1),
         2 => bytes.truncate(draw.below(bytes.len())),
         _ => bytes.truncate(draw.below(1 + 3 * sizes.len())),

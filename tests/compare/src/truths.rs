@@ -129,11 +129,11 @@ fn faulty(draw: &mut Draw, sizes: &[Size], bounds: Bounds) -> Vec<Token> {
         3 => [bracketed(inner), all(&["NOT", "IS", word])].concat(),
         4 => [bracketed(inner), all(&["IS", word, draw.pick(&WORDS)])].concat(),
         5 => [bracketed(inner), all(&["IS", draw.pick(&NO_WORDS)])].concat(),
-        6 => [bracketed(inner), all(&["IS", draw.pick(&["NULL", "1", "m", "(", "SOME"])])].concat(),
+        6 => [bracketed(inner), all(&["IS", draw.pick(&["NULL", "DECLINED", "1", "m", "(", "SOME"])])].concat(),
         7 => [bracketed(inner), all(&[word])].concat(),
         8 | 9 => [bracketed(inner), ending, self::ending(draw, &WORDS)].concat(),
         10 => [all(&["m", ".", "1", sign, "1"]), ending].concat(),
-        11 => [all(&["m", ".", "1", "IS", "NULL"]), ending].concat(),
+        11 => [all(&["m", ".", "1", "IS", draw.pick(&["NULL", "DECLINED"])]), ending].concat(),
         12 | 13 => [all(&["EXISTS", "(", "FROM", "1", "v", "WHERE"]), inner, all(&[")"]), ending].concat(),
         14 => {
             let list = ["m", ".", "1", sign, "SOME", "(", "SELECT", "v", ".", "1", "FROM", "1", "v", "WHERE"];
