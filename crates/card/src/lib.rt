@@ -1,4 +1,5 @@
 // What a card is. The definitions are in specs/; these are the numbers of its layout, for the functions that read and write cards.
+#![tactic(auto)]
 
 // Most row entries around one another.
 pub const MOST_ROW_ENTRIES: usize = 3;

@@ -61,6 +61,7 @@ or_true true = refl
 or_true false = refl
 
 passes : {A : Type 0} (p : A → Bool) (x : A) (xs : List A) → p x ≡ true → Memᴰ x xs → any p xs ≡ true
+passes {A = A} p x [] e x3 = elim x3 [ ]
 passes p x (y ∷ ys) e (Memᴰ.head h) = ap (λ (t : Bool). t || any p ys) (sym (ap p h) ∙ e)
 passes p x (y ∷ ys) e (Memᴰ.tail m) = ap (λ (t : Bool). p y || t) (passes p x ys e m) ∙ or_true (p y)
 

@@ -14,6 +14,7 @@ differ e = let z : ◌≡◌ {A = ℕ} 0 1 = cc in absurd (omega arith)
 
 -- where none is given, none applies
 none_of : (rs : List Refusal) → first_applying rs ≡ none → (n : ℕ) → ¬ AppliesIn n rs
+none_of [] e n x'' = elim x'' [ ]
 none_of (r ∷ rs) e n (Memᴰ.head h) = differ (ap (λ (x : Refusal). x.applies) h ∙ (none_first r.number r.applies rs e).0)
 none_of (r ∷ rs) e n (Memᴰ.tail m) = none_of rs (none_first r.number r.applies rs e).1 n m
 
@@ -57,10 +58,12 @@ rest_rises a [] c = IsChain.nil
 rest_rises a (b ∷ l) (IsChain.cons-cons h c) = c
 
 above_first : (a y : ℕ) (l : List ℕ) → IsChain ◌<◌ (a ∷ l) → Memᴰ y l → a < y
+above_first a y [] _ x3 = elim x3 [ ]
 above_first a y (b ∷ l) (IsChain.cons-cons h c) (Memᴰ.head e) = omega (arith, h, e)
 above_first a y (b ∷ l) (IsChain.cons-cons h c) (Memᴰ.tail m) = omega (arith, h, above_first b y l c m)
 
 number_in : (m : ℕ) (rs : List Refusal) → AppliesIn m rs → Memᴰ m (numbers rs)
+number_in m [] x' = elim x' [ ]
 number_in m (r ∷ rs) (Memᴰ.head e) = Memᴰ.head (ap (λ (x : Refusal). x.number) e)
 number_in m (r ∷ rs) (Memᴰ.tail p) = Memᴰ.tail (number_in m rs p)
 

@@ -20,6 +20,7 @@ record Among (p : ℕ → Bool) (n : ℕ) (f : ℕ → ℕ) (y : ℕ) : Type 0 w
 
 module _ (p : ℕ → Bool) where
   among : (n : ℕ) (f : ℕ → ℕ) (y : ℕ) → Memᴰ y (keep p (tabulate n f)) → Among p n f y
+  among zero f y m = elim m [ ]
   among (suc n) f y m = go (p (f 0)) refl (λ m'. among n (λ k. f (suc k)) y m') m
     where
       later : Among p n (λ k. f (suc k)) y → Among p (suc n) f y
