@@ -101,7 +101,7 @@ def labels_here(path, text):
     return made
 
 
-def turn(text, names, keep, camel_only_comments=True):
+def turn(text, names, keep, has_labels):
     lines = []
     for line in text.split("\n"):
         code, comment = parts(line)
@@ -113,7 +113,7 @@ def turn(text, names, keep, camel_only_comments=True):
                 return word
             before = code[: m.start()]
             head = re.search(r"([^\s(){};,@\"«»]*)\.$", before)
-            if head and head[1].split(".")[0] in HEADS and "-" in word:
+            if has_labels and head and head[1].split(".")[0] in HEADS and "-" in word:
                 return word
             return names[base]
 
@@ -156,7 +156,7 @@ def main(argv):
         return 0
     for p, text in texts.items():
         keep = imported(text, crates) | labels_here(p, text)
-        new = turn(text, names, keep)
+        new = turn(text, names, keep, in_function(p))
         if new != text:
             open(p, "w", encoding="utf-8").write(new)
     return 0

@@ -65,7 +65,7 @@ module _ (text file : List ℕ) (accepted : Accepted text file) where
   later =
       let w = accepted_named text file accepted in
       record {
-        no_refusal = first_none 1 _ _ (ap not w.tables-sized) (first_none 2 _ _ (ap not w.tables-marked) first_nil);
+        no_refusal = first_none 1 _ _ (ap not w.tables_sized) (first_none 2 _ _ (ap not w.tables_marked) first_nil);
         same_columns_lem = is_true _ (same_refl (columns_of file));
       }
 

@@ -50,8 +50,8 @@ leaf_written : {kinds records kinds' records' : List ℕ} {k : ℕ} {x : LeafNum
 unfolding entries kind_bytes records_from
 leaf_written {kinds} {records} {kinds'} {records'} {k} {x} y w p q = record {
   next = refl;
-  kinds_are = w.kinds-are ∙ ap (λ (n : ℕ). placed kinds k (n ∷ [])) p;
-  records_are = w.records-are ∙ ap (λ (l : List ℕ). placed records (record_size * k) (bytes16 (k + 1) ++ l)) q;
+  kinds_are = w.kinds_are ∙ ap (λ (n : ℕ). placed kinds k (n ∷ [])) p;
+  records_are = w.records_are ∙ ap (λ (l : List ℕ). placed records (record_size * k) (bytes16 (k + 1) ++ l)) q;
 }
 
 module _ {p : List ℕ} {s : ℕ} {kinds records : List ℕ} {k : ℕ} where

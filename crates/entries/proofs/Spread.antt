@@ -75,11 +75,11 @@ module _ {k kind table : ℕ} {kinds records kinds1 records1 : List ℕ} (low : 
       → Inner (kind_bytes c) (records_from i c) kinds2 records2
   first {c} {i} e w = record {
     kinds_are =
-        w.kinds-are
+        w.kinds_are
         ∙ ap (λ (l : List ℕ). placed l i (kind_bytes c)) x.kinds_are
         ∙ placed_next kinds k (kind ∷ []) i (kind_bytes c) low e;
     records_are =
-        w.records-are
+        w.records_are
         ∙ ap (λ (l : List ℕ). placed l (record_size * i) (records_from i c)) x.records_are
         ∙ placed_next records (record_size * k) (plain_record 0 table) (record_size * i) (records_from i c) long (omega arith);
   }
@@ -91,11 +91,11 @@ module _ {k kind table : ℕ} {kinds records kinds1 records1 : List ℕ} (low : 
       let size : length (plain_record 0 table ++ rs) ≡ record_size + length rs = length-append (plain_record 0 table) rs in
       record {
         kinds_are =
-            w.kinds-are
+            w.kinds_are
             ∙ ap (λ (l : List ℕ). placed l i (kind_bytes c)) h.kinds_are
             ∙ placed_next kinds k (kind ∷ ks) i (kind_bytes c) low (omega arith);
         records_are =
-            w.records-are
+            w.records_are
             ∙ ap (λ (l : List ℕ). placed l (record_size * i) (records_from i c)) h.records_are
             ∙ placed_next records (record_size * k) (plain_record 0 table ++ rs) (record_size * i) (records_from i c) long (omega arith)
             ∙ ap (placed records (record_size * k)) (append_assoc (plain_record 0 table) rs (records_from i c));

@@ -37,14 +37,14 @@ pub record Known (file : List ℕ) (rule : Rule) : Type 0 where
 pub known : (text file : List ℕ) (rule : Rule) → Accepted text file → rule_of text (columns_of file) ≡ some rule → Known file rule
 known text file rule a e =
     let w = parts_claim text file a in
-    let f = w.is-rule in
+    let f = w.is_rule in
     let same : w.rule ≡ rule = some_same w.rule rule (sym f ∙ e) in
     subst (Known file) same record {
       sized = sized_is file (accepted_named text file a).tables_sized;
       fits = w.fits;
-      few_parts = w.few-parts;
-      few_froms = w.few-froms;
-      few_entries = w.few-entries;
+      few_parts = w.few_parts;
+      few_froms = w.few_froms;
+      few_entries = w.few_entries;
     }
   where
     some_same : (x y : Rule) → some x ≡ some y → x ≡ y

@@ -74,8 +74,8 @@ module _ (text file : List ℕ) (list : List Part) (r : Reading) (e : read_answe
     accepts_with w = go (ltb (length list) (parts w.rule)) refl
       where
         go : (b : Bool) → ltb (length list) (parts w.rule) ≡ b → accepts r ≡ true
-        go true f = short_accepts r (answers _ (calls_claim.read_short text file list a w.rule w.is-rule (ltb-true _ _ f)))
-        go false f = given_accepts r _ (answers _ (calls_claim.read_given text file list a w.rule w.is-rule (ltb-false _ _ f)))
+        go true f = short_accepts r (answers _ (calls_claim.read_short text file list a w.rule w.is_rule (ltb-true _ _ f)))
+        go false f = given_accepts r _ (answers _ (calls_claim.read_given text file list a w.rule w.is_rule (ltb-false _ _ f)))
 
     accepts_always : accepts r ≡ true
     accepts_always = accepts_with (parts_claim text file a)
@@ -87,10 +87,10 @@ module _ (text file : List ℕ) (list : List Part) (r : Reading) (e : read_answe
   )
   accepted none f = (λ a. allowed f, λ w. accepts_always f)
 
-  given : (w : Allowed text file) → parts w.up-to-names.rule ≤ length list → r ≡ Parts (parts w.up-to-names.rule)
+  given : (w : Allowed text file) → parts w.up_to_names.rule ≤ length list → r ≡ Parts (parts w.up_to_names.rule)
   given w h =
       let a = (accepted_claim text file).1 w in
-      read_claim r (Parts (parts w.up-to-names.rule)) (answers _ (calls_claim.read_given text file list a w.up-to-names.rule (named_rule text file w.up-to-names) h))
+      read_claim r (Parts (parts w.up_to_names.rule)) (answers _ (calls_claim.read_given text file list a w.up_to_names.rule (named_rule text file w.up_to_names) h))
 
 pub acceptance_claim : AcceptanceClaim
 acceptance_claim = record {

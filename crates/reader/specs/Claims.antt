@@ -24,4 +24,4 @@ pub record AcceptanceClaim : Type 0 where
   pub accepted : (text file : List ℕ) (list : List Part) (r : Reading) → read_answer r ≡ (read_call text file list).result
       → (accepts r ≡ true) ↔ Allowed text file
   pub given : (text file : List ℕ) (list : List Part) (r : Reading) → read_answer r ≡ (read_call text file list).result
-      → (w : Allowed text file) → parts w.up-to-names.rule ≤ length list → r ≡ Parts (parts w.up-to-names.rule)
+      → (w : Allowed text file) → parts w.up_to_names.rule ≤ length list → r ≡ Parts (parts w.up_to_names.rule)

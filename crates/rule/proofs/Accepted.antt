@@ -113,21 +113,21 @@ named_unrefused : (text file : List ℕ) → UpToNames text file → Unrefused t
 unfolding condition_of
 named_unrefused text file w =
     let read : read_all w.tokens ≡ some w.condition = read_complete w.tokens w.condition w.reads in
-    let is : condition_of text ≡ some w.condition = ap (◌>>= read_all) w.are-tokens ∙ read in
+    let is : condition_of text ≡ some w.condition = ap (◌>>= read_all) w.are_tokens ∙ read in
     record {
-      no_1 = ap not w.tables-sized;
-      no_2 = ap not w.tables-marked;
+      no_1 = ap not w.tables_sized;
+      no_2 = ap not w.tables_marked;
       no_3 = le-ltb most_bytes (length text) w.short;
-      no_4 = ap is_missing w.are-tokens;
-      no_5 = rw (w.are-tokens, w.brackets);
-      no_6 = rw (w.are-tokens, read);
-      no_7 = rw (is, limits_of w.condition w.few-parts w.few-froms);
+      no_4 = ap is_missing w.are_tokens;
+      no_5 = rw (w.are_tokens, w.brackets);
+      no_6 = rw (w.are_tokens, read);
+      no_7 = rw (is, limits_of w.condition w.few_parts w.few_froms);
       no_8 = rw (is, w.names);
     }
 
 pub named_rule : (text file : List ℕ) (w : UpToNames text file) → rule_of text (columns_of file) ≡ some w.rule
 unfolding rule_of condition_of
-named_rule text file w = ap (◌>>= rule_in (columns_of file) outermost) (ap (◌>>= read_all) w.are-tokens ∙ read_complete w.tokens w.condition w.reads) ∙ w.names
+named_rule text file w = ap (◌>>= rule_in (columns_of file) outermost) (ap (◌>>= read_all) w.are_tokens ∙ read_complete w.tokens w.condition w.reads) ∙ w.names
 
 -- ---- and 13 goes by the sum
 
@@ -190,11 +190,11 @@ pub parts_claim : PartsClaim
 parts_claim text file e =
     let allowed = accepted_allowed text file e in
     let w = allowed.up_to_names in
-    let constants = reading_constants w.reads (tokens_fit text w.are-tokens) in
+    let constants = reading_constants w.reads (tokens_fit text w.are_tokens) in
     let resolved = names_fit (columns_of file) w.condition constants w.names in
     let scoped = fits_scoped (columns_of file) 1 judged_levels refl w.rule resolved.fits in
-    let few = w.few-parts in
-    let shallow = w.few-froms in
+    let few = w.few_parts in
+    let shallow = w.few_froms in
     let deep : froms_deep w.rule ≤ most_froms = omega arith in
     record {
       rule = w.rule;

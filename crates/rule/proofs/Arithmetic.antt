@@ -4,8 +4,8 @@ use mathlib.Core.List.{[], ◌∷◌}
 use Prim.Native.Nat.{ℕ, ◌≤◌}
 use native.Mathlib.Omega.{arith}
 use lib.ListN.{get_or}
-use Rattle.tables.specs.Values.{And, Or}
-use Rattle.rule.specs.Truth.{Truth, False, Unknown, True, truth_number}
+use Rattle.tables.specs.Values.{Connective, And, Or}
+use Rattle.rule.specs.Truth.{Truth, False, Unknown, True, truth_number, join3, deciding}
 use Rattle.rule.specs.Meaning.{meaning}
 use Rattle.rule.specs.Claims.{ArithmeticClaim, RuleArithmeticClaim}
 
@@ -15,14 +15,22 @@ each P f u t False = f
 each P f u t Unknown = u
 each P f u t True = t
 
+left_decides : (j : Connective) (b : Truth) → join3 j (deciding j) b ≡ deciding j
+left_decides And = each _ refl refl refl
+left_decides Or = each _ refl refl refl
+
+right_decides : (j : Connective) (a : Truth) → join3 j a (deciding j) ≡ deciding j
+right_decides And = each _ refl refl refl
+right_decides Or = each _ refl refl refl
+
 pub arithmetic_claim : ArithmeticClaim
 arithmetic_claim = record {
   numbers_are = refl;
   not_is = each _ refl refl refl;
   and_is = each _ (each _ refl refl refl) (each _ refl refl refl) (each _ refl refl refl);
   or_is = each _ (each _ refl refl refl) (each _ refl refl refl) (each _ refl refl refl);
-  left_decides = λ j. elim j [ And ↦ each _ refl refl refl | Or ↦ each _ refl refl refl ];
-  right_decides = λ j. elim j [ And ↦ each _ refl refl refl | Or ↦ each _ refl refl refl ];
+  left_decides = left_decides;
+  right_decides = right_decides;
 }
 
 pub rule_arithmetic_claim : RuleArithmeticClaim

@@ -108,7 +108,7 @@ module _ (columns : List ℕ) where
   rule_fits e p (Join j a b) f =
       every_bind (Resolved _ a) (Resolved _ (Join j a b)) _ (rule_fits e p a f.0) (λ x h.
       every_bind (Resolved _ b) (Resolved _ (Join j a b)) _ (rule_fits e p b f.1) (λ y g.
-      there (record { fits = (h.fits, g.fits); same_parts = ap₂ (λ m n. 1 + m + n) h.same_parts g.same_parts; same_depth = ap₂ max h.same_depth g.same-depth })))
+      there (record { fits = (h.fits, g.fits); same_parts = ap₂ (λ m n. 1 + m + n) h.same_parts g.same_parts; same_depth = ap₂ max h.same_depth g.same_depth })))
   rule_fits e p (Apply u a) f =
       every_bind (Resolved _ a) (Resolved _ (Apply u a)) _ (rule_fits e p a f) (λ x h. there (record { fits = h.fits; same_parts = ap (1 +◌) h.same_parts; same_depth = h.same_depth }))
   rule_fits {levels} {scope} e p (Exists f w) c =

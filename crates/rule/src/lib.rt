@@ -1,5 +1,6 @@
 // What a rule is, from its text to its value. The definitions are in specs/; this is the record of a part, as the definitions and the code have it, and the
 // numbers of its kinds.
+#![tactic(auto)]
 
 // The two structs are laid out as C lays out the same, for callers in C. A value: a tag, 255 for a constant, else the level of a column; and the constant, or the column's number.
 #[repr(C)]

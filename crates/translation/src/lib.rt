@@ -1,1 +1,2 @@
 // From a rule to its card, and what demand 3 says of the two. The definitions are in specs/.
+#![tactic(auto)]

@@ -44,7 +44,7 @@ module _ (text file out : List ℕ) where
     claim : CardClaim text file q.rule out
     claim =
         let w = demand_3_claim text file q.accepted in
-        subst (λ (x : Rule). CardClaim text file x out) (same_rule w.rule q.rule w.is-rule q.is_rule) (w.cards out)
+        subst (λ (x : Rule). CardClaim text file x out) (same_rule w.rule q.rule w.is_rule q.is_rule) (w.cards out)
 
     count : n ≡ entries (rule_card q.rule)
     count = q.sum ∙ sym (sum_claim q.rule)
