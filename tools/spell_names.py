@@ -156,7 +156,8 @@ def main(argv):
         return 0
     for p, text in texts.items():
         keep = imported(text, crates) | labels_here(p, text)
-        new = turn(text, names, keep, in_function(p))
+        mine = {n: new for n, new in names.items() if p.endswith(".antt") or spelled(n) != n}
+        new = turn(text, mine, keep, in_function(p))
         if new != text:
             open(p, "w", encoding="utf-8").write(new)
     return 0

@@ -1,4 +1,6 @@
 // The bytes of a tables file: which files are refused, their sizes, where their tables stand, and what is seen of a cell.
+#![tactic(auto)]
+
 ghost use Rattle.std.specs.Prelude.{◌≡◌, ◌+◌, ◌*◌, ◌<◌, ◌≤◌, length};
 ghost use Rattle.tables.specs.Lists.{placed};
 ghost use Rattle.tables.specs.Bytes.{byte_at, word16, word32};
@@ -151,7 +153,7 @@ pub fn table_rows(file: &[u8], j: usize) -> usize
 }
 
 // Whether its sizes are within the limits.
-fn size_fits_lem(file: &[u8], j: usize) -> bool
+fn size_fits(file: &[u8], j: usize) -> bool
     requires { 3 + 3 * j < length file.now }
     ensures { result ≡ size_fits (size_at file.now j) }
 {
@@ -185,7 +187,7 @@ fn sizes_fit(file: &[u8]) -> bool
     let mut cells: usize = 0;
     let mut j: usize = 0;
     while j < n {
-        let fits = size_fits_lem(file, j);
+        let fits = size_fits(file, j);
         if !fits {
             return false;
         }

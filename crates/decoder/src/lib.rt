@@ -114,7 +114,7 @@ fn zero_bytes(card: &[u8], r: usize, i: usize, j: usize) -> bool
 }
 
 // Whether the fields of the record at r are as its kind asks. The kind may be any byte of a card, so the last arm is reached: no record fits a byte that is no kind.
-fn fields_fit_lem(card: &[u8], r: usize, kind: usize) -> bool
+fn fields_fit(card: &[u8], r: usize, kind: usize) -> bool
     requires { RecordIn card.now r }
     ensures { result ≡ fields_fit kind (record_from card.now r) }
 {
@@ -149,7 +149,7 @@ fn known_kind(card: &[u8], r: usize, kind: usize) -> usize
     ensures is { result ≡ known_kind kind (record_from card.now r) }
     ensures small { result < 256 }
 {
-    let fits = fields_fit_lem(card, r, kind);
+    let fits = fields_fit(card, r, kind);
     if fits {
         return kind;
     }
