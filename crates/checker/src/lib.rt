@@ -78,7 +78,7 @@ fn check_leaf(
 
 // The entries from s up to e: whether they are one entry with its inner ones, which fits the card's tables and these levels. Other kinds come here too: 0 is
 // decoded for a record that is not as its kind asks.
-#[cycle(check_entry_check_pair_check_rows)]
+#[cycle(checking)]
 fn check_entry(
     card: &[u8],
     d: &[usize],
@@ -105,7 +105,7 @@ fn check_entry(
 }
 
 // The same where s has two inner entries.
-#[cycle(check_entry_check_pair_check_rows)]
+#[cycle(checking)]
 fn check_pair(
     card: &[u8],
     d: &[usize],
@@ -135,7 +135,7 @@ fn check_pair(
 }
 
 // The same where s ranges over the rows of a table.
-#[cycle(check_entry_check_pair_check_rows)]
+#[cycle(checking)]
 fn check_rows(
     card: &[u8],
     d: &[usize],

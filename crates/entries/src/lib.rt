@@ -157,7 +157,7 @@ fn under_truth(p: &[usize; PART_NUMBERS], s: usize, negate: bool) -> Under
 }
 
 // The entries of part s with its inner parts, from number k on; the number of the next entry.
-#[cycle(write_exists_write_list_write_pair_write_part_write_unknown)]
+#[cycle(writing)]
 pub fn write_part(
     p: &[usize; PART_NUMBERS],
     s: usize,
@@ -198,7 +198,7 @@ pub fn write_part(
 }
 
 // AND and OR.
-#[cycle(write_exists_write_list_write_pair_write_part_write_unknown)]
+#[cycle(writing)]
 fn write_pair(
     p: &[usize; PART_NUMBERS],
     s: usize,
@@ -222,7 +222,7 @@ fn write_pair(
 
 // IS UNKNOWN: and, the negated false-interpretation of the condition in it, its true-interpretation. IS NOT UNKNOWN is the negation of that; each of them,
 // negated, is the other.
-#[cycle(write_exists_write_list_write_pair_write_part_write_unknown)]
+#[cycle(writing)]
 fn write_unknown(
     p: &[usize; PART_NUMBERS],
     s: usize,
@@ -244,7 +244,7 @@ fn write_unknown(
 }
 
 // EXISTS: some row of its WHERE, which is false-interpreted; negated, every row of the negated one.
-#[cycle(write_exists_write_list_write_pair_write_part_write_unknown)]
+#[cycle(writing)]
 fn write_exists(
     p: &[usize; PART_NUMBERS],
     s: usize,
@@ -267,7 +267,7 @@ fn write_exists(
 
 // SOME: some row, and, WHERE, comparison. ALL: every row, or, negated WHERE, comparison. Negating swaps the two; the WHERE is false-interpreted
 // before any negating.
-#[cycle(write_exists_write_list_write_pair_write_part_write_unknown)]
+#[cycle(writing)]
 fn write_list(
     p: &[usize; PART_NUMBERS],
     s: usize,

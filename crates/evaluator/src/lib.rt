@@ -131,7 +131,7 @@ fn unary_value(kind: usize, inner: usize) -> usize
 }
 
 // The value of part s with its inner parts.
-#[cycle(evaluate_exists_evaluate_list_evaluate_pair_evaluate_part_evaluate_row_evaluate_where)]
+#[cycle(evaluating)]
 pub fn evaluate_part(
     p: &[usize; PART_NUMBERS],
     g: &[usize; PLACES],
@@ -175,7 +175,7 @@ pub fn evaluate_part(
 
 // AND and OR. decides is the value of one side that decides for both: false of AND, which takes the smaller, and true of OR, which takes the greater. Where
 // the left side has it, the right one is not evaluated: both together would give the same (left_decides of ArithmeticClaim).
-#[cycle(evaluate_exists_evaluate_list_evaluate_pair_evaluate_part_evaluate_row_evaluate_where)]
+#[cycle(evaluating)]
 fn evaluate_pair(
     p: &[usize; PART_NUMBERS],
     g: &[usize; PLACES],
@@ -201,7 +201,7 @@ fn evaluate_pair(
 }
 
 // The value of part s, the WHERE of EXISTS or of a list, at a row. Where it is a single test, no recursive call is made for each row.
-#[cycle(evaluate_exists_evaluate_list_evaluate_pair_evaluate_part_evaluate_row_evaluate_where)]
+#[cycle(evaluating)]
 fn evaluate_where(
     p: &[usize; PART_NUMBERS],
     g: &[usize; PLACES],
@@ -223,7 +223,7 @@ fn evaluate_where(
 }
 
 // EXISTS: true as soon as its WHERE is true on a row.
-#[cycle(evaluate_exists_evaluate_list_evaluate_pair_evaluate_part_evaluate_row_evaluate_where)]
+#[cycle(evaluating)]
 fn evaluate_exists(
     p: &[usize; PART_NUMBERS],
     g: &[usize; PLACES],
@@ -253,7 +253,7 @@ fn evaluate_exists(
 
 // The comparison of a list's left value x with the value selected at a row, v; a row that the WHERE does not retain counts as empty, the value over no
 // rows, which decides nothing.
-#[cycle(evaluate_exists_evaluate_list_evaluate_pair_evaluate_part_evaluate_row_evaluate_where)]
+#[cycle(evaluating)]
 fn evaluate_row(
     p: &[usize; PART_NUMBERS],
     g: &[usize; PLACES],
@@ -286,7 +286,7 @@ fn after(value: usize, row: usize) -> usize
 }
 
 // SOME and ALL. empty is the value over no rows: false of SOME, which a true comparison decides, and true of ALL, which a false one decides.
-#[cycle(evaluate_exists_evaluate_list_evaluate_pair_evaluate_part_evaluate_row_evaluate_where)]
+#[cycle(evaluating)]
 fn evaluate_list(
     p: &[usize; PART_NUMBERS],
     g: &[usize; PLACES],

@@ -104,7 +104,7 @@ fn join_part(or: bool) -> usize
 }
 
 // Conjunctions joined by OR.
-#[cycle(read_closed_read_condition_read_conjunction_read_factor_read_joined_read_operand_read_test)]
+#[cycle(reading)]
 fn read_condition(s: &[usize], at: usize, out: &mut [usize; NOTE_NUMBERS], w: usize) -> Step
     requires { Ready s.now at w out.old }
     ensures reads { ReadsTo condition s.now at w out.old out.new result }
@@ -114,7 +114,7 @@ fn read_condition(s: &[usize], at: usize, out: &mut [usize; NOTE_NUMBERS], w: us
 }
 
 // Factors joined by AND.
-#[cycle(read_closed_read_condition_read_conjunction_read_factor_read_joined_read_operand_read_test)]
+#[cycle(reading)]
 fn read_conjunction(s: &[usize], at: usize, out: &mut [usize; NOTE_NUMBERS], w: usize) -> Step
     requires { Ready s.now at w out.old }
     ensures reads { ReadsTo conjunction s.now at w out.old out.new result }
@@ -124,7 +124,7 @@ fn read_conjunction(s: &[usize], at: usize, out: &mut [usize; NOTE_NUMBERS], w: 
 }
 
 // What is joined: a conjunction by OR, a factor by AND.
-#[cycle(read_closed_read_condition_read_conjunction_read_factor_read_joined_read_operand_read_test)]
+#[cycle(reading)]
 fn read_operand(s: &[usize], at: usize, out: &mut [usize; NOTE_NUMBERS], w: usize, or: bool) -> Step
     requires { Ready s.now at w out.old }
     ensures reads { ReadsTo (operand (joined_by or)) s.now at w out.old out.new result }
@@ -153,7 +153,7 @@ fn note_join(out: &mut [usize; NOTE_NUMBERS], w: usize, or: bool, joins: bool) -
 
 // Operands joined by OR, or by AND. The call for an operand stands here once, so that it is compiled into the loop: with a call before the loop and one
 // inside it READ was slower.
-#[cycle(read_closed_read_condition_read_conjunction_read_factor_read_joined_read_operand_read_test)]
+#[cycle(reading)]
 fn read_joined(s: &[usize], at: usize, out: &mut [usize; NOTE_NUMBERS], w: usize, or: bool) -> Step
     requires { Ready s.now at w out.old }
     ensures reads { ReadsTo (chain (joined_by or)) s.now at w out.old out.new result }
@@ -214,7 +214,7 @@ fn note_nots(out: &mut [usize; NOTE_NUMBERS], w: usize, k: usize)
 }
 
 // NOT factor, or a test. The NOTs are counted, so that the depth of calls goes by brackets alone.
-#[cycle(read_closed_read_condition_read_conjunction_read_factor_read_joined_read_operand_read_test)]
+#[cycle(reading)]
 fn read_factor(s: &[usize], at: usize, out: &mut [usize; NOTE_NUMBERS], w: usize) -> Step
     requires { Ready s.now at w out.old }
     ensures reads { ReadsTo factor s.now at w out.old out.new result }
@@ -264,7 +264,7 @@ fn note_truth_test(s: &[usize], out: &mut [usize; NOTE_NUMBERS], step: Step) -> 
 
 // A test: nothing, or a condition and the bracket behind it, follows its start; and brackets alone may be followed by a truth test. A bracket is told before any
 // other start, so that a text of many brackets is read faster.
-#[cycle(read_closed_read_condition_read_conjunction_read_factor_read_joined_read_operand_read_test)]
+#[cycle(reading)]
 fn read_test(s: &[usize], at: usize, out: &mut [usize; NOTE_NUMBERS], w: usize) -> Step
     requires { Ready s.now at w out.old }
     ensures reads { ReadsTo test s.now at w out.old out.new result }
@@ -304,7 +304,7 @@ fn read_test(s: &[usize], at: usize, out: &mut [usize; NOTE_NUMBERS], w: usize) 
 }
 
 // A condition and the bracket that closes behind it.
-#[cycle(read_closed_read_condition_read_conjunction_read_factor_read_joined_read_operand_read_test)]
+#[cycle(reading)]
 fn read_closed(s: &[usize], at: usize, out: &mut [usize; NOTE_NUMBERS], w: usize) -> Step
     requires { Ready s.now at w out.old }
     ensures reads { ReadsClosed s.now at w out.old out.new result }

@@ -65,7 +65,7 @@ fn put_part(parts: &mut [usize; PART_NUMBERS], p: usize, part: Fields)
 
 // The parts of the condition whose notes are the last of the first h, up to number e: the note's own part stands before its inner parts, so these are
 // placed first, the right ones before the left ones.
-#[cycle(place_place_from_place_pair_place_unary)]
+#[cycle(placing)]
 fn place(
     file: &[u8],
     notes: &[usize],
@@ -103,7 +103,7 @@ fn place(
 }
 
 // AND and OR.
-#[cycle(place_place_from_place_pair_place_unary)]
+#[cycle(placing)]
 fn place_pair(
     file: &[u8],
     notes: &[usize],
@@ -131,7 +131,7 @@ fn place_pair(
 }
 
 // NOT and the truth tests: a part that says no more than its kind, before one inner condition.
-#[cycle(place_place_from_place_pair_place_unary)]
+#[cycle(placing)]
 fn place_unary(
     file: &[u8],
     notes: &[usize],
@@ -179,7 +179,7 @@ fn place_test(
 }
 
 // EXISTS, SOME and ALL: a letter is bound one level deeper, for the WHERE and the selected value.
-#[cycle(place_place_from_place_pair_place_unary)]
+#[cycle(placing)]
 fn place_from(
     file: &[u8],
     notes: &[usize],

@@ -143,7 +143,7 @@ fn run_leaf_rows(
 }
 
 // What the entry s, with the inner ones up to e, answers.
-#[cycle(run_entry_run_inner_run_pair_run_row_run_rows)]
+#[cycle(running)]
 pub fn run_entry(
     d: &[usize],
     g: &[usize; PLACES],
@@ -165,7 +165,7 @@ pub fn run_entry(
 
 // The same where s has inner entries. Entries with two are told from row entries first: with the four kinds in one `match` the compiler jumps through a table,
 // which takes longer.
-#[cycle(run_entry_run_inner_run_pair_run_row_run_rows)]
+#[cycle(running)]
 fn run_inner(
     d: &[usize],
     g: &[usize; PLACES],
@@ -202,7 +202,7 @@ fn run_inner(
 
 // The same where s is an and, which a no of its first inner entry decides, or an or, which a yes decides. It is compiled into each arm of `run_inner` that
 // calls it, where it is known which answer decides: one arm for both would keep that across the first call, in one more register that every call has to save.
-#[cycle(run_entry_run_inner_run_pair_run_row_run_rows)]
+#[cycle(running)]
 fn run_pair(
     d: &[usize],
     g: &[usize; PLACES],
@@ -226,7 +226,7 @@ fn run_pair(
 
 // The same as `run_entry`, asked of each row. Most rows are decided by the left test of an and or of an or: it is run here, with no recursive call.
 // All else goes to `run_entry`: `run_inner` is compiled into that function only while nothing else calls it.
-#[cycle(run_entry_run_inner_run_pair_run_row_run_rows)]
+#[cycle(running)]
 fn run_row(
     d: &[usize],
     g: &[usize; PLACES],
@@ -255,7 +255,7 @@ fn run_row(
 }
 
 // The same where s asks for some row of its table, or for every row.
-#[cycle(run_entry_run_inner_run_pair_run_row_run_rows)]
+#[cycle(running)]
 fn run_rows(
     d: &[usize],
     g: &[usize; PLACES],

@@ -13,19 +13,19 @@ use borrow.Fn.Kinds.{In}
 use borrow.Fn.PlainCycle.{Measures, is, falls, and}
 use Rattle.entries.proofs.write_exists.Reads as write-exists
 use Rattle.entries.proofs.write_exists.Kinds as write-exists-kinds
-use Rattle.entries.proofs.+write_exists_write_list_write_pair_write_part_write_unknown.Lts-write_exists as write-exists-lts
+use Rattle.entries.proofs.+writing.Lts-write_exists as write-exists-lts
 use Rattle.entries.proofs.write_list.Reads as write-list
 use Rattle.entries.proofs.write_list.Kinds as write-list-kinds
-use Rattle.entries.proofs.+write_exists_write_list_write_pair_write_part_write_unknown.Lts-write_list as write-list-lts
+use Rattle.entries.proofs.+writing.Lts-write_list as write-list-lts
 use Rattle.entries.proofs.write_pair.Reads as write-pair
 use Rattle.entries.proofs.write_pair.Kinds as write-pair-kinds
-use Rattle.entries.proofs.+write_exists_write_list_write_pair_write_part_write_unknown.Lts-write_pair as write-pair-lts
+use Rattle.entries.proofs.+writing.Lts-write_pair as write-pair-lts
 use Rattle.entries.proofs.write_part.Reads as write-part
 use Rattle.entries.proofs.write_part.Kinds as write-part-kinds
 use Rattle.entries.proofs.write_unknown.Reads as write-unknown
 use Rattle.entries.proofs.write_unknown.Kinds as write-unknown-kinds
-use Rattle.entries.proofs.+write_exists_write_list_write_pair_write_part_write_unknown.Lts-write_unknown as write-unknown-lts
-use Rattle.entries.proofs.+write_exists_write_list_write_pair_write_part_write_unknown.Lts-write_part as write-part-lts
+use Rattle.entries.proofs.+writing.Lts-write_unknown as write-unknown-lts
+use Rattle.entries.proofs.+writing.Lts-write_part as write-part-lts
 use Rattle.cells.proofs.never.Reads as never-reads
 use Rattle.records.proofs.pair_kind.Reads as pair-kind-reads
 use Rattle.storing.proofs.put16.Reads as put16-reads
@@ -36,8 +36,8 @@ use Rattle.entries.proofs.under_nots.Reads as under-nots-reads
 use Rattle.entries.proofs.under_truth.Reads as under-truth-reads
 use Rattle.entries.proofs.write_comparison.Reads as write-comparison-reads
 use Rattle.entries.proofs.write_mark.Reads as write-mark-reads
-use Rattle.entries.proofs.+write_exists_write_list_write_pair_write_part_write_unknown.{statement}
-use Rattle.entries.proofs.+write_exists_write_list_write_pair_write_part_write_unknown.Tie.{close}
+use Rattle.entries.proofs.+writing.{statement}
+use Rattle.entries.proofs.+writing.Tie.{close}
 
 abbrev μ-write-exists : Measures 3 write-exists-kinds.ps ℕ
 μ-write-exists κs a = 2 * (most_parts - a.1.0)

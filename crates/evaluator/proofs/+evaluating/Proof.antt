@@ -20,22 +20,22 @@ use borrow.Fn.Kinds.{ParamKind, In}
 use borrow.Fn.PlainCycle.{Measures, is, falls, and}
 use Rattle.evaluator.proofs.evaluate_exists.Reads as evaluate-exists
 use Rattle.evaluator.proofs.evaluate_exists.Kinds as evaluate-exists-kinds
-use Rattle.evaluator.proofs.+evaluate_exists_evaluate_list_evaluate_pair_evaluate_part_evaluate_row_evaluate_where.Lts-evaluate_exists as evaluate-exists-lts
+use Rattle.evaluator.proofs.+evaluating.Lts-evaluate_exists as evaluate-exists-lts
 use Rattle.evaluator.proofs.evaluate_list.Reads as evaluate-list
 use Rattle.evaluator.proofs.evaluate_list.Kinds as evaluate-list-kinds
-use Rattle.evaluator.proofs.+evaluate_exists_evaluate_list_evaluate_pair_evaluate_part_evaluate_row_evaluate_where.Lts-evaluate_list as evaluate-list-lts
+use Rattle.evaluator.proofs.+evaluating.Lts-evaluate_list as evaluate-list-lts
 use Rattle.evaluator.proofs.evaluate_pair.Reads as evaluate-pair
 use Rattle.evaluator.proofs.evaluate_pair.Kinds as evaluate-pair-kinds
-use Rattle.evaluator.proofs.+evaluate_exists_evaluate_list_evaluate_pair_evaluate_part_evaluate_row_evaluate_where.Lts-evaluate_pair as evaluate-pair-lts
+use Rattle.evaluator.proofs.+evaluating.Lts-evaluate_pair as evaluate-pair-lts
 use Rattle.evaluator.proofs.evaluate_part.Reads as evaluate-part
 use Rattle.evaluator.proofs.evaluate_part.Kinds as evaluate-part-kinds
-use Rattle.evaluator.proofs.+evaluate_exists_evaluate_list_evaluate_pair_evaluate_part_evaluate_row_evaluate_where.Lts-evaluate_part as evaluate-part-lts
+use Rattle.evaluator.proofs.+evaluating.Lts-evaluate_part as evaluate-part-lts
 use Rattle.evaluator.proofs.evaluate_row.Reads as evaluate-row
 use Rattle.evaluator.proofs.evaluate_row.Kinds as evaluate-row-kinds
-use Rattle.evaluator.proofs.+evaluate_exists_evaluate_list_evaluate_pair_evaluate_part_evaluate_row_evaluate_where.Lts-evaluate_row as evaluate-row-lts
+use Rattle.evaluator.proofs.+evaluating.Lts-evaluate_row as evaluate-row-lts
 use Rattle.evaluator.proofs.evaluate_where.Reads as evaluate-where
 use Rattle.evaluator.proofs.evaluate_where.Kinds as evaluate-where-kinds
-use Rattle.evaluator.proofs.+evaluate_exists_evaluate_list_evaluate_pair_evaluate_part_evaluate_row_evaluate_where.Lts-evaluate_where as evaluate-where-lts
+use Rattle.evaluator.proofs.+evaluating.Lts-evaluate_where as evaluate-where-lts
 use Rattle.cells.proofs.never.Reads as never-reads
 use Rattle.cells.proofs.table_place.Reads as table-place-reads
 use Rattle.evaluator.proofs.after.Reads as after-reads
@@ -46,10 +46,10 @@ use Rattle.evaluator.proofs.smaller.Reads as smaller-reads
 use Rattle.evaluator.proofs.unary_value.Reads as unary-value-reads
 use Rattle.parts.proofs.part_value.Reads as part-value-reads
 use Rattle.values.proofs.look.Reads as look-reads
-use Rattle.evaluator.proofs.+evaluate_exists_evaluate_list_evaluate_pair_evaluate_part_evaluate_row_evaluate_where.{
+use Rattle.evaluator.proofs.+evaluating.{
   statement,
 }
-use Rattle.evaluator.proofs.+evaluate_exists_evaluate_list_evaluate_pair_evaluate_part_evaluate_row_evaluate_where.Tie.{
+use Rattle.evaluator.proofs.+evaluating.Tie.{
   close,
 }
 

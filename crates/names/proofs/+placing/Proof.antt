@@ -11,16 +11,16 @@ use borrow.Fn.Kinds.{In}
 use borrow.Fn.PlainCycle.{Measures, is, falls, and}
 use Rattle.names.proofs.place.Reads as place
 use Rattle.names.proofs.place.Kinds as place-kinds
-use Rattle.names.proofs.+place_place_from_place_pair_place_unary.Lts-place as place-lts
+use Rattle.names.proofs.+placing.Lts-place as place-lts
 use Rattle.names.proofs.place_from.Reads as place-from
 use Rattle.names.proofs.place_from.Kinds as place-from-kinds
-use Rattle.names.proofs.+place_place_from_place_pair_place_unary.Lts-place_from as place-from-lts
+use Rattle.names.proofs.+placing.Lts-place_from as place-from-lts
 use Rattle.names.proofs.place_pair.Reads as place-pair
 use Rattle.names.proofs.place_pair.Kinds as place-pair-kinds
-use Rattle.names.proofs.+place_place_from_place_pair_place_unary.Lts-place_pair as place-pair-lts
+use Rattle.names.proofs.+placing.Lts-place_pair as place-pair-lts
 use Rattle.names.proofs.place_unary.Reads as place-unary
 use Rattle.names.proofs.place_unary.Kinds as place-unary-kinds
-use Rattle.names.proofs.+place_place_from_place_pair_place_unary.Lts-place_unary as place-unary-lts
+use Rattle.names.proofs.+placing.Lts-place_unary as place-unary-lts
 use Rattle.cells.proofs.byte.Reads as byte-Reads
 use Rattle.cells.proofs.never.Reads as never-reads
 use Rattle.scopes.proofs.from_part.Reads as from-part-reads
@@ -29,8 +29,8 @@ use Rattle.scopes.proofs.plain_part.Reads as plain-part-reads
 use Rattle.names.proofs.put_part.Reads as put-part-reads
 use Rattle.scopes.proofs.bind.Reads as bind-reads
 use Rattle.scopes.proofs.find_numbered.Reads as find-numbered-reads
-use Rattle.names.proofs.+place_place_from_place_pair_place_unary.{statement}
-use Rattle.names.proofs.+place_place_from_place_pair_place_unary.Tie.{close}
+use Rattle.names.proofs.+placing.{statement}
+use Rattle.names.proofs.+placing.Tie.{close}
 
 abbrev μ-place : Measures 4 place-kinds.ps ℕ
 μ-place κs a = 2 * a.1.1.0 + 1

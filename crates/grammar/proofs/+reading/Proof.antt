@@ -15,25 +15,25 @@ use Rattle.grammar.proofs.Chain.{Before, SoFar, begins, ready, turns, turns_not,
 use Rattle.grammar.proofs.Tests.{ready_at, step_fits, shallow, factor_not, factor_reads, closed_reads, closed_not, unread_not, test_not, whole_reads, bracket_reads, around_not, around_reads}
 use Rattle.grammar.proofs.read_closed.Reads as read-closed
 use Rattle.grammar.proofs.read_closed.Kinds as read-closed-kinds
-use Rattle.grammar.proofs.+read_closed_read_condition_read_conjunction_read_factor_read_joined_read_operand_read_test.Lts-read_closed as read-closed-lts
+use Rattle.grammar.proofs.+reading.Lts-read_closed as read-closed-lts
 use Rattle.grammar.proofs.read_condition.Reads as read-condition
 use Rattle.grammar.proofs.read_condition.Kinds as read-condition-kinds
-use Rattle.grammar.proofs.+read_closed_read_condition_read_conjunction_read_factor_read_joined_read_operand_read_test.Lts-read_condition as read-condition-lts
+use Rattle.grammar.proofs.+reading.Lts-read_condition as read-condition-lts
 use Rattle.grammar.proofs.read_conjunction.Reads as read-conjunction
 use Rattle.grammar.proofs.read_conjunction.Kinds as read-conjunction-kinds
-use Rattle.grammar.proofs.+read_closed_read_condition_read_conjunction_read_factor_read_joined_read_operand_read_test.Lts-read_conjunction as read-conjunction-lts
+use Rattle.grammar.proofs.+reading.Lts-read_conjunction as read-conjunction-lts
 use Rattle.grammar.proofs.read_factor.Reads as read-factor
 use Rattle.grammar.proofs.read_factor.Kinds as read-factor-kinds
-use Rattle.grammar.proofs.+read_closed_read_condition_read_conjunction_read_factor_read_joined_read_operand_read_test.Lts-read_factor as read-factor-lts
+use Rattle.grammar.proofs.+reading.Lts-read_factor as read-factor-lts
 use Rattle.grammar.proofs.read_joined.Reads as read-joined
 use Rattle.grammar.proofs.read_joined.Kinds as read-joined-kinds
-use Rattle.grammar.proofs.+read_closed_read_condition_read_conjunction_read_factor_read_joined_read_operand_read_test.Lts-read_joined as read-joined-lts
+use Rattle.grammar.proofs.+reading.Lts-read_joined as read-joined-lts
 use Rattle.grammar.proofs.read_operand.Reads as read-operand
 use Rattle.grammar.proofs.read_operand.Kinds as read-operand-kinds
-use Rattle.grammar.proofs.+read_closed_read_condition_read_conjunction_read_factor_read_joined_read_operand_read_test.Lts-read_operand as read-operand-lts
+use Rattle.grammar.proofs.+reading.Lts-read_operand as read-operand-lts
 use Rattle.grammar.proofs.read_test.Reads as read-test
 use Rattle.grammar.proofs.read_test.Kinds as read-test-kinds
-use Rattle.grammar.proofs.+read_closed_read_condition_read_conjunction_read_factor_read_joined_read_operand_read_test.Lts-read_test as read-test-lts
+use Rattle.grammar.proofs.+reading.Lts-read_test as read-test-lts
 use Rattle.grammar.proofs.after_nots.Reads as after-nots-reads
 use Rattle.grammar.proofs.join_word.Reads as join-word-reads
 use Rattle.grammar.proofs.larger.Reads as larger-reads
@@ -43,8 +43,8 @@ use Rattle.grammar.proofs.note_part.Reads as note-part-reads
 use Rattle.grammar.proofs.note_truth_test.Reads as note-truth-test-reads
 use Rattle.phrases.proofs.start_test.Reads as start-test-reads
 use Rattle.phrases.proofs.token.Reads as token-reads
-use Rattle.grammar.proofs.+read_closed_read_condition_read_conjunction_read_factor_read_joined_read_operand_read_test.{statement}
-use Rattle.grammar.proofs.+read_closed_read_condition_read_conjunction_read_factor_read_joined_read_operand_read_test.Tie.{close}
+use Rattle.grammar.proofs.+reading.{statement}
+use Rattle.grammar.proofs.+reading.Tie.{close}
 
 -- what falls from call to call: the tokens from a place on, and at one place the rank of a reader; there are nine ranks, since AND's operands and
 -- chains are below a conjunction, and OR's above it

@@ -7,27 +7,27 @@ use borrow.Fn.Kinds.{In}
 use borrow.Fn.PlainCycle.{Measures, is, falls, and}
 use Rattle.runner.proofs.run_entry.Reads as run-entry
 use Rattle.runner.proofs.run_entry.Kinds as run-entry-kinds
-use Rattle.runner.proofs.+run_entry_run_inner_run_pair_run_row_run_rows.Lts-run_entry as run-entry-lts
+use Rattle.runner.proofs.+running.Lts-run_entry as run-entry-lts
 use Rattle.runner.proofs.run_inner.Reads as run-inner
 use Rattle.runner.proofs.run_inner.Kinds as run-inner-kinds
-use Rattle.runner.proofs.+run_entry_run_inner_run_pair_run_row_run_rows.Lts-run_inner as run-inner-lts
+use Rattle.runner.proofs.+running.Lts-run_inner as run-inner-lts
 use Rattle.runner.proofs.run_pair.Reads as run-pair
 use Rattle.runner.proofs.run_pair.Kinds as run-pair-kinds
-use Rattle.runner.proofs.+run_entry_run_inner_run_pair_run_row_run_rows.Lts-run_pair as run-pair-lts
+use Rattle.runner.proofs.+running.Lts-run_pair as run-pair-lts
 use Rattle.runner.proofs.run_row.Reads as run_row
 use Rattle.runner.proofs.run_row.Kinds as run-row-kinds
-use Rattle.runner.proofs.+run_entry_run_inner_run_pair_run_row_run_rows.Lts-run_row as run-row-lts
+use Rattle.runner.proofs.+running.Lts-run_row as run-row-lts
 use Rattle.runner.proofs.run_rows.Reads as run-rows
 use Rattle.runner.proofs.run_rows.Kinds as run-rows-kinds
-use Rattle.runner.proofs.+run_entry_run_inner_run_pair_run_row_run_rows.Lts-run_rows as run-rows-lts
+use Rattle.runner.proofs.+running.Lts-run_rows as run-rows-lts
 use Rattle.cells.proofs.never.Reads as never-reads
 use Rattle.cells.proofs.table_place.Reads as table-place-reads
 use Rattle.runner.proofs.is_leaf.Reads as is-leaf-reads
 use Rattle.runner.proofs.is_pair.Reads as is-pair-reads
 use Rattle.runner.proofs.run_leaf.Reads as run-leaf-reads
 use Rattle.runner.proofs.run_leaf_rows.Reads as run-leaf-rows-reads
-use Rattle.runner.proofs.+run_entry_run_inner_run_pair_run_row_run_rows.{statement}
-use Rattle.runner.proofs.+run_entry_run_inner_run_pair_run_row_run_rows.Tie.{close}
+use Rattle.runner.proofs.+running.{statement}
+use Rattle.runner.proofs.+running.Tie.{close}
 
 abbrev μ-run-entry : Measures 4 run-entry-kinds.ps ℕ
 μ-run-entry κs a = 4 * (a.1.1.1.1.0 - a.1.1.1.0) + 2

@@ -9,17 +9,17 @@ use Rattle.decoder.proofs.Grouped.{pair_number, row_number, leaf_number}
 use Rattle.checker.proofs.Checking.{wrong_end, kind_before, kind_behind, checkable_within, checkable_deeper, pair_short, pair_left_no, pair_last, rows_no, rows_short, rows_last}
 use Rattle.checker.proofs.check_entry.Reads as check-entry
 use Rattle.checker.proofs.check_entry.Kinds as check-entry-kinds
-use Rattle.checker.proofs.+check_entry_check_pair_check_rows.Lts-check_entry as check-entry-lts
+use Rattle.checker.proofs.+checking.Lts-check_entry as check-entry-lts
 use Rattle.checker.proofs.check_pair.Reads as check-pair
 use Rattle.checker.proofs.check_pair.Kinds as check-pair-kinds
-use Rattle.checker.proofs.+check_entry_check_pair_check_rows.Lts-check_pair as check-pair-lts
+use Rattle.checker.proofs.+checking.Lts-check_pair as check-pair-lts
 use Rattle.checker.proofs.check_rows.Reads as check-rows
 use Rattle.checker.proofs.check_rows.Kinds as check-rows-kinds
-use Rattle.checker.proofs.+check_entry_check_pair_check_rows.Lts-check_rows as check-rows-lts
+use Rattle.checker.proofs.+checking.Lts-check_rows as check-rows-lts
 use Rattle.checker.proofs.check_leaf.Reads as check-leaf-reads
 use Rattle.cells.proofs.byte.Reads as byte-Reads
-use Rattle.checker.proofs.+check_entry_check_pair_check_rows.{statement}
-use Rattle.checker.proofs.+check_entry_check_pair_check_rows.Tie.{close}
+use Rattle.checker.proofs.+checking.{statement}
+use Rattle.checker.proofs.+checking.Tie.{close}
 
 abbrev μ-check-entry : Measures 3 check-entry-kinds.ps ℕ
 μ-check-entry κs a = 3 * (a.1.1.1.0 - a.1.1.0) + 2
