@@ -153,18 +153,18 @@ module _ (card d : List ℕ)
       rw (ph, q) (ap (λ (t : Bool). only t x) (eq-eqb (end_at card s) x.1 (sym (ends s l) ∙ e)))
 
   pub coded_entry : {s e : ℕ} {c : Card} → Coded d s e c → e ≤ entry_count card → (depth : ℕ) → e ≤ s + depth → entry_from card depth s ≡ some (c, e)
-  coded_entry c l zero m = absurd (omega (arith, coded_less c))
+  coded_entry {s} c l zero m = absurd (omega (arith, coded_less c))
   coded_entry {s} {e} (coded_leaf {x = x} h p q) l (suc depth) m =
       step s depth (LeafHead x) (LeafEntry x, e) (omega arith) h p (ap (λ (n : ℕ). some (LeafEntry x, n)) (sym q))
   coded_entry {s} {e} (coded_pair {m = n} {j = j} {a = a} {b = b} h p ca cb) l (suc depth) m =
       let la = coded_less ca in
       let lb = coded_less cb in
-      let pa = coded_entry ca (omega arith) depth (omega arith) in
-      let pb = coded_entry cb l depth (omega arith) in
+      let pa = coded_entry {s = s + 1} ca (omega arith) depth (omega arith) in
+      let pb = coded_entry {s = n} cb l depth (omega arith) in
       step s depth (PairHead j) (PairEntry j a b, e) (omega arith) h p (rw (pa, pb))
   coded_entry {s} {e} (coded_row {q = q} {t = t} {c = c} h p ci) l (suc depth) m =
       let li = coded_less ci in
-      let pi = coded_entry ci l depth (omega arith) in
+      let pi = coded_entry {s = s + 1} ci l depth (omega arith) in
       step s depth (RowHead q t) (RowEntry q t c, e) (omega arith) h p (rw pi)
 
   pub card_coded : {c : Card} → card_from card ≡ some c → Coded d 0 (entry_count card) c

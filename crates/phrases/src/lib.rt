@@ -2,7 +2,7 @@
 // Short names: s, the tokens; at, the place of one.
 ghost use Rattle.std.specs.Prelude.{◌≡◌, cond, ◌+◌, ◌<◌, ◌≤◌, length, get_or};
 ghost use Rattle.tables.specs.Lists.{placed};
-ghost use Rattle.rule.specs.Tokens.{EXISTS, IS, Open};
+ghost use Rattle.rule.specs.Tokens.{EXISTS as ExistsToken, IS as IsToken, Open};
 ghost use Rattle.lexer.specs.Code.{most_tokens, compares_code, letter_code, code_of};
 ghost use Rattle.phrases.specs.Code.{noted_size, noted_numbers, noted_at, unused_noted, note_numbers, left_numbers, ValueAt, FromAt, ListAt, ComparisonAt, FollowedAt, IsComparison, BehindAt, TestAt, TruthWordAt, TruthTestAt};
 
@@ -204,7 +204,7 @@ fn start_list(s: &[usize], at: usize, kind: usize, comparison: usize, left: Note
 fn start_mark(s: &[usize], at: usize, left: NotedValue) -> Start
     requires fact_1 { length s.now ≤ most_tokens }
     requires fact_2 { at < length s.now }
-    requires fact_3 { get_or s.now at 0 ≡ code_of IS }
+    requires fact_3 { get_or s.now at 0 ≡ code_of IsToken }
     ensures { FollowedAt s.now at left result }
 {
     let t = token(s, at + 1);
@@ -302,7 +302,7 @@ fn behind_comparison(s: &[usize], at: usize) -> Behind
 fn read_behind(s: &[usize], at: usize) -> Behind
     requires fact_1 { length s.now ≤ most_tokens }
     requires fact_2 { at ≤ length s.now }
-    requires fact_3 { (get_or s.now at 0 ≡ code_of IS → ⊥) }
+    requires fact_3 { (get_or s.now at 0 ≡ code_of IsToken → ⊥) }
     ensures { BehindAt s.now at result }
 {
     let t = token(s, at);
@@ -382,7 +382,7 @@ fn start_value(s: &[usize], at: usize, left: NotedValue) -> Start
 fn start_exists(s: &[usize], at: usize) -> Start
     requires fact_1 { length s.now ≤ most_tokens }
     requires fact_2 { at < length s.now }
-    requires fact_3 { get_or s.now at 0 ≡ code_of EXISTS }
+    requires fact_3 { get_or s.now at 0 ≡ code_of ExistsToken }
     ensures { TestAt s.now at result }
 {
     if token(s, at + 1) != OPEN {
