@@ -34,7 +34,7 @@ pub const PLACES: usize = 3 * MOST_TABLES + 3;
 pub const EXCESS: usize = 2147483648;
 
 // Why a call refuses, in the order of the published numbers. Which reason comes first in a call is another order, that of its refusals.
-#[derive(Drop)]
+#[derive(Clone, Copy)]
 pub enum Reason {
     Sizes,
     Mark,
@@ -228,7 +228,7 @@ fn marks_fit(file: &[u8]) -> bool
 }
 
 // Whether a tables file is valid.
-#[derive(Drop)]
+#[derive(Clone, Copy)]
 pub enum Validity {
     Valid,
     Invalid(Reason),
@@ -250,7 +250,7 @@ pub fn check_tables(file: &[u8]) -> Validity
 }
 
 // How many bytes a call has written into a lent buffer, or why none.
-#[derive(Drop)]
+#[derive(Clone, Copy)]
 pub enum Made {
     Bytes(usize),
     NotMade(Reason),
@@ -283,7 +283,7 @@ pub fn places(file: &[u8], g: &mut [usize; PLACES])
 
 // Where the cells of a table, or of a part of it, stand: where the file's values and marks start, the number of the first cell, and how many columns and
 // rows there are.
-#[derive(Drop)]
+#[derive(Clone, Copy)]
 pub struct Place {
     pub values: usize,
     pub marks: usize,
@@ -307,7 +307,7 @@ pub fn table_place(g: &[usize; PLACES], t: usize) -> Place
 }
 
 // What is seen of a cell: its mark, and its number plus 2 ^ 31.
-#[derive(Drop)]
+#[derive(Clone, Copy)]
 pub struct Seen {
     pub mark: u8,
     pub number: usize,

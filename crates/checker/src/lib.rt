@@ -182,7 +182,7 @@ pub fn is_sound(card: &[u8], d: &mut [usize]) -> bool
 }
 
 // Whether a card is sound, or why not.
-#[derive(Drop)]
+#[derive(Clone, Copy)]
 pub enum Checked {
     Good,
     Bad(Reason),

@@ -11,7 +11,7 @@ use cells::{EXCESS, byte};
 use numerals::MOST_DIGITS;
 
 // A run of bytes: the place after it, and the number that its bytes spell, unless it is too long.
-#[derive(Drop)]
+#[derive(Clone, Copy)]
 pub struct Run {
     pub end: usize,
     pub number: usize,
@@ -51,7 +51,7 @@ pub fn spell_run(
 }
 
 // A number that stands at a place of a text: the number plus 2 ^ 31, and the place after it.
-#[derive(Drop)]
+#[derive(Clone, Copy)]
 pub enum Found {
     Number { number: usize, end: usize },
     NoNumber,

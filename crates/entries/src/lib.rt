@@ -80,7 +80,7 @@ fn write_mark(
 }
 
 // A part, whether it is negated, and what unknown counts as in it.
-#[derive(Drop)]
+#[derive(Clone, Copy)]
 pub struct Under {
     pub part: usize,
     pub negate: bool,

@@ -33,7 +33,7 @@ fn fits_tables(card: &[u8], file: &[u8]) -> bool
 }
 
 // Whether a card and tables can be run, or why not.
-#[derive(Drop)]
+#[derive(Clone, Copy)]
 enum Prepared {
     Ready,
     NotReady(Reason),
@@ -63,7 +63,7 @@ fn prepare(card: &[u8], file: &[u8], d: &mut [usize], g: &mut [usize; PLACES]) -
 }
 
 // What the card says of a row, or why it was not run.
-#[derive(Drop)]
+#[derive(Clone, Copy)]
 pub enum Ran {
     Yes,
     No,
@@ -157,7 +157,7 @@ fn copy_rows(kept: &[u32; MOST_ROWS], k: usize, out: &mut [u32])
 }
 
 // How many rows stand in the list, or why LIST refuses.
-#[derive(Drop)]
+#[derive(Clone, Copy)]
 pub enum Listed {
     Rows(usize),
     NotListed(Reason),

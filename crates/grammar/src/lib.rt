@@ -37,7 +37,7 @@ pub const NOTE_FIELDS: usize = NOTE_RIGHT + NOTED_NUMBERS;
 pub const NOTE_NUMBERS: usize = NOTE_FIELDS * MOST_PARTS;
 
 // What a reader answers: the place after what it read, how many parts are noted now, and how many FROMs stand around one another in what it read.
-#[derive(Drop)]
+#[derive(Clone, Copy)]
 pub enum Step {
     Next {
         at: usize,

@@ -24,7 +24,7 @@ const VERY_SHORT: usize = 63;
 const SHORT: usize = 1023;
 
 // A field: the bits of its cell's value, the mark, and the place behind the field.
-#[derive(Drop)]
+#[derive(Clone, Copy)]
 struct Field {
     bits: usize,
     mark: u8,
@@ -71,7 +71,7 @@ fn field_at(text: &[u8], i: usize) -> Field
 }
 
 // The place behind what has to stand somewhere, or that something else stands there.
-#[derive(Drop)]
+#[derive(Clone, Copy)]
 enum After {
     Place(usize),
     Bad,
@@ -165,7 +165,7 @@ fn read_line(
 }
 
 // How many rows a text has, or that it has a bad field or a wrong field count.
-#[derive(Drop)]
+#[derive(Clone, Copy)]
 enum Rows {
     Read(usize),
     Unread,

@@ -11,7 +11,7 @@ use names::PART_NUMBERS;
 use parser::Parsed;
 
 // The value of the rule on the row, or why it was not judged.
-#[derive(Drop)]
+#[derive(Clone, Copy)]
 pub enum Judged {
     True,
     False,

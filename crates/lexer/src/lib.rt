@@ -67,7 +67,7 @@ pub const COMPARES: usize = 64;
 pub const NUMBER: usize = 256;
 
 // What comes first at a place of a text: a token, and the place after it.
-#[derive(Drop)]
+#[derive(Clone, Copy)]
 pub enum Lexeme {
     Token { code: usize, end: usize },
     NoToken,
@@ -290,7 +290,7 @@ fn first_token(text: &[u8], i: usize) -> Lexeme
 
 // The tokens of a text: how many, and whether there are never too many more ( than ) up to one of them, so that refusal 5 does not apply. Or
 // some byte begins none: refusal 4.
-#[derive(Drop)]
+#[derive(Clone, Copy)]
 pub enum Tokenized {
     Tokens(usize, bool),
     NoTokens,

@@ -39,7 +39,7 @@ pub const PART_FIELDS: usize = PART_RIGHT + HELD_NUMBERS;
 pub const PART_NUMBERS: usize = NOTE_NUMBERS;
 
 // The lowest number of the parts that were placed, or some name means nothing.
-#[derive(Drop)]
+#[derive(Clone, Copy)]
 pub enum Placed {
     At(usize),
     Unplaced,

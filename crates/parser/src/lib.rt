@@ -29,7 +29,7 @@ const FEW_PARTS: usize = 16;
 const FEW_NOTES: usize = NOTE_FIELDS * FEW_PARTS;
 
 // What reading gives: the number of a rule's parts and that of the entries of its card, or why there is no rule.
-#[derive(Drop)]
+#[derive(Clone, Copy)]
 pub enum Parsed {
     Rule(usize, usize),
     Refused(Reason),

@@ -22,7 +22,7 @@ const EQUAL: usize = 1;
 const NOT_EQUAL: usize = 2;
 
 // A value as it is written: the letter of a column, or 0 for a number alone, and the number plus 2 ^ 31.
-#[derive(Drop)]
+#[derive(Clone, Copy)]
 pub struct NotedValue {
     pub letter: usize,
     pub number: usize,
@@ -63,7 +63,7 @@ pub fn unused_noted() -> NotedValue
 
 // What a part says by itself, as it is written: its kind and comparison as published, the number plus 2 ^ 31 and the letter of its FROM, and its values.
 // What a kind does not use is 0.
-#[derive(Drop)]
+#[derive(Clone, Copy)]
 pub struct Note {
     pub kind: usize,
     pub comparison: usize,
@@ -74,21 +74,21 @@ pub struct Note {
 }
 
 // A value, and the place after it.
-#[derive(Drop)]
+#[derive(Clone, Copy)]
 pub enum ValueRead {
     Value(NotedValue, usize),
     NoValue,
 }
 
 // FROM number letter WHERE: the number, the letter, and the place after it.
-#[derive(Drop)]
+#[derive(Clone, Copy)]
 pub enum FromRead {
     From(usize, usize, usize),
     NoFrom,
 }
 
 // How a test begins: it is read to its end; or up to the condition that it holds; or there is no test.
-#[derive(Drop)]
+#[derive(Clone, Copy)]
 pub enum Start {
     Whole { note: Note, next: usize },
     Around { note: Note, next: usize },
@@ -96,7 +96,7 @@ pub enum Start {
 }
 
 // A truth test: the kind of its part, and the place after it.
-#[derive(Drop)]
+#[derive(Clone, Copy)]
 pub enum TruthRead {
     Truth(usize, usize),
     NoTruth,
@@ -255,7 +255,7 @@ pub fn left_note(kind: usize, left: NotedValue) -> Note
 
 // What stands behind a value and compares it, with the number of the comparison: a list, whose bracket stands at this place, and the kind of the part that they make;
 // another value, at this place; or nothing that does.
-#[derive(Drop)]
+#[derive(Clone, Copy)]
 pub enum Behind {
     List {
         kind: usize,

@@ -18,7 +18,7 @@ use rule::{Part, TaggedValue};
 use values::{CONSTANT, HeldValue, held_at};
 
 // How many parts stand in the list, or why there are none.
-#[derive(Drop)]
+#[derive(Clone, Copy)]
 pub enum Reading {
     Parts(usize),
     NotRead(Reason),

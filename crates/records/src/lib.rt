@@ -33,7 +33,7 @@ fn put_value(bytes: &mut [u8], i: usize, v: HeldValue)
 }
 
 // What an entry says besides its end and its table, as numbers: where it has inner entries, its kind alone.
-#[derive(Drop)]
+#[derive(Clone, Copy)]
 pub struct LeafNumbers {
     pub kind: usize,
     pub comparison: usize,

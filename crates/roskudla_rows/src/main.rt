@@ -7,7 +7,7 @@ use admission::{OUTPUT, READ_OF_TABLES, READ_OF_TEXT};
 use libc::STDOUT_FILENO;
 
 // What one read came to: so many bytes, 0 at the file's end.
-#[derive(Drop)]
+#[derive(Clone, Copy)]
 enum Got {
     Bytes(usize),
     Failed,

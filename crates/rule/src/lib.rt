@@ -4,7 +4,7 @@
 
 // The two structs are laid out as C lays out the same, for callers in C. A value: a tag, 255 for a constant, else the level of a column; and the constant, or the column's number.
 #[repr(C)]
-#[derive(Drop)]
+#[derive(Clone, Copy)]
 pub struct TaggedValue {
     pub tag: u8,
     pub number: i32,
@@ -13,7 +13,7 @@ pub struct TaggedValue {
 // A part of a rule: its kind, 1 to 17; its comparison, 1 to 6; the number of its table; the number of the first part after it and its inner parts; its
 // values. What the numbers mean is in specs/Parts.antt; fields that a kind does not use are 0.
 #[repr(C)]
-#[derive(Drop)]
+#[derive(Clone, Copy)]
 pub struct Part {
     pub kind: u8,
     pub comparison: u8,

@@ -29,14 +29,14 @@ const JUDGED_LETTER: usize = 109;
 const JUDGED_TABLE: usize = 1;
 
 // What a value stands for.
-#[derive(Drop)]
+#[derive(Clone, Copy)]
 pub enum Resolved {
     Value(HeldValue),
     Unresolved,
 }
 
 // The fields of a part as numbers.
-#[derive(Drop)]
+#[derive(Clone, Copy)]
 pub struct Fields {
     pub kind: usize,
     pub comparison: usize,
@@ -47,7 +47,7 @@ pub struct Fields {
 }
 
 // A part by its fields, or one of its values means nothing.
-#[derive(Drop)]
+#[derive(Clone, Copy)]
 pub enum Compared {
     Part(Fields),
     NoValues,

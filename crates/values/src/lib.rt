@@ -15,7 +15,7 @@ pub const LEVELS: usize = 4;
 pub const CONSTANT: usize = 255;
 
 // A value as it is held: its tag as published, and its number, a constant plus 2 ^ 31 or a column.
-#[derive(Drop)]
+#[derive(Clone, Copy)]
 pub struct HeldValue {
     pub tag: usize,
     pub number: usize,

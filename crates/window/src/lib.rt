@@ -6,7 +6,7 @@ ghost use Rattle.window.specs.Window.{cell_number, mark_at, value_at, window_of,
 
 use cells::{Place, Seen, read_excess};
 
-#[derive(Drop)]
+#[derive(Clone, Copy)]
 pub struct Window<'a> {
     pub tables: &'a [u8],
     pub values: usize,
