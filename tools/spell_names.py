@@ -17,6 +17,7 @@ import sys
 
 MODIFIERS = r"(?:(?:pub|abbrev|unfoldable|data|record|mutual) )*"
 DECLARED = re.compile(rf"^( *){MODIFIERS}([^\s(){{}}.;,@\"«»:λ→]+)((?: \([^()]*(?:\([^()]*\)[^()]*)*\)| \{{[^{{}}\n]*\}})*) :(?:\s|$)(.*)")
+SEVERAL = re.compile(r"^ +([a-z][\w'-]*(?: [a-z][\w'-]*)+) :(?:\s|$)")
 TOKEN = re.compile(r"[^\s(){}.;,@\"«»]+")
 HEADS = {"c", "goal", "tie", "w", "l", "g", "args", "branch"}
 USE = re.compile(r"^(?:pub )?(?:ghost )?use ([^\s;{]+?)(?:\.\{([^}]*)\})?(?: as ([^\s;]+))?;?$")
@@ -48,6 +49,10 @@ def declared_names(paths):
     names = {}
     for path in paths:
         for line in open(path, encoding="utf-8"):
+            several = None if in_function(path) else SEVERAL.match(parts(line.rstrip("\n"))[0])
+            for name in several[1].split() if several else []:
+                if name.isascii() and spelled(name) != name and name not in MODIFIERS:
+                    names.setdefault(name, set()).add(path)
             m = DECLARED.match(parts(line.rstrip("\n"))[0])
             if not m:
                 continue

@@ -1,6 +1,8 @@
 // Whether a decoded card is sound; CHECK.
 // Short names: d, the decoded entries; s and e, an entry and the number after its inner ones; w, the table of each level, and depth, how many levels
 // there are.
+#![tactic(auto)]
+
 ghost use Rattle.std.specs.Prelude.{◌≡◌, true, take};
 ghost use Rattle.tables.specs.Values.{value_fits};
 ghost use Rattle.card.specs.Layout.{columns_in};

@@ -1,5 +1,7 @@
 // Numbers as texts, in slices of any length: reading a number at a place, and writing one without spare zeros. A number is kept plus 2 ^ 31. Beside them the run
 // of bytes of one class, and what it spells, for words too.
+#![tactic(auto)]
+
 ghost use Rattle.std.specs.Prelude.{◌≡◌, ◌+◌, ◌-◌, ◌<◌, ◌≤◌, pos, length, drop};
 ghost use Rattle.tables.specs.Lists.{placed};
 ghost use Rattle.numerals.specs.Texts.{take_while};

@@ -22,7 +22,6 @@ use Rattle.rule.specs.Names.{most_parts, within, ValueFits, Fits}
 use Rattle.rule.specs.Parts.{join_kind, unary_kind, compare_kind, exists_kind, list_kind, tagged_of}
 use Rattle.rule.specs.Groups.{JoinNumber, UnaryNumber, MarkNumber, ListNumber, UnknownNumber}
 use Rattle.rule.proofs.Fits.{within_length}
-use Rattle.rule.proofs.Groups.{mark_number, list_number}
 use Rattle.names.specs.Code.{part_size, part_table, part_end}
 use Rattle.translation.proofs.Demand3.{some_entries}
 use Rattle.values.specs.declared.HeldValue.{HeldValue}
@@ -71,17 +70,6 @@ same_flag true = refl
 other_flag : (negate : Bool) → not (beq (eqb (unary_kind (IsNot Unknown)) (unary_kind (IsNot Unknown))) negate) ≡ not negate
 other_flag false = refl
 other_flag true = refl
-
--- no kind that has an arm to itself
-abbrev Others : ℕ → Type 0
-Others n = ((Unit {0} × (n ≡ unary_kind Not → ⊥)) × (n ≡ compare_kind → ⊥)) × (n ≡ exists_kind → ⊥)
-
--- so a test by the mark, or a list, by where it stands
-pub mark_left : (n : ℕ) → Others n → join_kind Or < n → n ≤ exists_kind → MarkNumber n
-mark_left n (((_, not), compare), exists) low high = mark_number n (omega arith) (omega arith)
-
-pub list_left : (n : ℕ) → Others n → exists_kind ≤ n → n ≤ list_kind All → ListNumber n
-list_left n (others, exists) low high = list_number n (omega arith) high
 
 -- IS UNKNOWN or IS NOT UNKNOWN
 pub unknown_left : (n : ℕ) → unary_kind (Is Unknown) ≤ n → n ≤ unary_kind (IsNot Unknown) → UnknownNumber n

@@ -2,6 +2,8 @@
 // A rule is false- or true-interpreted, and negated or not; both flags go down to its parts, so that the card has no negation.
 // Short names: p, the parts as numbers; s, the number of a part; k, the number of an entry; unknown, what unknown counts as: no (false-interpreted) or yes;
 // negate, whether the part is negated; u, what stands under a part that has no entry.
+#![tactic(auto)]
+
 ghost use Rattle.std.specs.Prelude.{◌≡◌, Bool, ◌+◌, ◌*◌, ◌<◌, ◌≤◌, length, get_or};
 ghost use Rattle.rule.specs.Truth.{False, True};
 ghost use Rattle.rule.specs.Condition.{Is, IsNot};

@@ -1,5 +1,7 @@
 // EXPORT: table 1 of a tables file as comma lines.
 // Each cell is read through the window on table 1, from its place. Nothing is written before the whole answer is known to fit.
+#![tactic(auto)]
+
 ghost use Rattle.std.specs.Prelude.{◌≡◌, ◌+◌, ◌<◌, ◌≤◌, leb, length};
 ghost use Rattle.std.proofs.Math.Option.{none};
 ghost use Rattle.tables.specs.Lists.{placed};

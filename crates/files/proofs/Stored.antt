@@ -95,8 +95,8 @@ module _ {old new : List ℕ} {ss : List Size} {cs : List RawCell} {k : ℕ} (st
       placed_length old (values_start ss) (values ++ more) (omega (arith, length-append values more)) in
       let w : length (placed new (v + 4 * k) more) ≡ length old = placed_length new (v + 4 * k) more (omega arith) ∙ long in
       let run : take k cs ++ ds ≡ take (k + m) cs = ap (λ (x : List RawCell). take k cs ++ x) e ∙ sym (take-add k m cs) in
-      let all-values : values ++ more ≡ flat_map value_bytes (take (k + m) cs) = sym (pieces_append value_bytes (take k cs) ds) ∙ ap (flat_map value_bytes) run in
-      let all-marks : marks ++ more' ≡ flat_map mark_bytes (take (k + m) cs) = sym (pieces_append mark_bytes (take k cs) ds) ∙ ap (flat_map mark_bytes) run in
+      let all_values : values ++ more ≡ flat_map value_bytes (take (k + m) cs) = sym (pieces_append value_bytes (take k cs) ds) ∙ ap (flat_map value_bytes) run in
+      let all_marks : marks ++ more' ≡ flat_map mark_bytes (take (k + m) cs) = sym (pieces_append mark_bytes (take k cs) ds) ∙ ap (flat_map mark_bytes) run in
       record {
         long = ap length p ∙ placed_length (placed new (v + 4 * k) more) (t + k) more' (omega arith) ∙ w;
         room = room;
@@ -108,7 +108,7 @@ module _ {old new : List ℕ} {ss : List Size} {cs : List RawCell} {k : ℕ} (st
             (sym (placed_apart (placed old (values_start ss) values) (v + 4 * k) more (marks_start ss cs) marks (omega arith) (omega arith))
             ∙ ap (λ (x : List ℕ). placed x (marks_start ss cs) marks) (placed_next old (values_start ss) values (v + 4 * k) more (omega arith) (omega arith)))
             ∙ placed_next (placed old (values_start ss) (values ++ more)) (marks_start ss cs) marks (t + k) more' (omega arith) (omega arith)
-            ∙ ap₂ (λ (a b : List ℕ). placed (placed old (values_start ss) a) (marks_start ss cs) b) all-values all-marks;
+            ∙ ap₂ (λ (a b : List ℕ). placed (placed old (values_start ss) a) (marks_start ss cs) b) all_values all_marks;
       }
 
   -- one cell more

@@ -1,5 +1,7 @@
 // The grammar: the tokens of a text read as a condition, whose parts are noted as they end, a part after its inner parts.
 // Short names: s, the tokens; at, the place of one; w, how many parts are noted before; out, the noted parts.
+#![tactic(auto)]
+
 ghost use Rattle.std.specs.Prelude.{◌≡◌, ◌++◌, max, ◌+◌, ◌*◌, ◌<◌, ◌≤◌, length, take};
 ghost use Rattle.rule.specs.Names.{most_parts};
 ghost use Rattle.rule.specs.Parts.{join_kind};

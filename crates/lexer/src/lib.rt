@@ -1,4 +1,6 @@
 // The tokens of a rule text, each as one number; refusals 4 and 5.
+#![tactic(auto)]
+
 ghost use Rattle.std.specs.Prelude.{◌≡◌, ℕ, ◌+◌, ◌<◌, ◌≤◌, length, drop};
 ghost use Rattle.std.proofs.Math.Option.{map};
 ghost use Rattle.tables.specs.Bytes.{byte_at};

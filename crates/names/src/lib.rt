@@ -2,6 +2,8 @@
 // Short names: notes, the parts as they are written, each after its inner parts, of which the first h are looked at, the last of them from element b on; parts,
 // the parts of the rule, which are written from the last to the first, e being the number of the one that was written before; levels, how many letters are
 // bound.
+#![tactic(auto)]
+
 ghost use Rattle.std.specs.Prelude.{◌≡◌, ◌++◌, ◌+◌, ◌*◌, ◌<◌, length, drop};
 ghost use Rattle.rule.specs.Names.{most_parts};
 ghost use Rattle.rule.specs.Groups.{JoinNumber, UnaryNumber, TestNumber, FromNumber};

@@ -1,5 +1,7 @@
 // The parts of a rule as numbers in an array: the values of a part, and how many entries the rule's card has.
 // Short names: p, the parts as numbers; s, the number of the first part, and n, of the first one behind the last.
+#![tactic(auto)]
+
 ghost use Rattle.std.specs.Prelude.{◌≡◌, ℕ, ◌+◌, ◌*◌, ◌<◌, ◌≤◌, length};
 ghost use Rattle.tables.specs.Values.{most_entries};
 ghost use Rattle.values.specs.Code.{held_size, held_at};

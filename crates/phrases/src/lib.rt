@@ -1,5 +1,7 @@
 // The phrases of the grammar that hold no condition: a value, a FROM, how a test begins, and the truth test that may follow a bracketed condition.
 // Short names: s, the tokens; at, the place of one.
+#![tactic(auto)]
+
 ghost use Rattle.std.specs.Prelude.{◌≡◌, cond, ◌+◌, ◌<◌, ◌≤◌, length, get_or};
 ghost use Rattle.tables.specs.Lists.{placed};
 ghost use Rattle.rule.specs.Tokens.{EXISTS as ExistsToken, IS as IsToken, Open};

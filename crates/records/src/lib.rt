@@ -1,5 +1,7 @@
 // The bytes of a card's entries, and their kinds: numbers, values and records in their places, and what negating makes of a kind and of a comparison.
 // Short names: k, the number of an entry; r, where its record starts.
+#![tactic(auto)]
+
 ghost use Rattle.std.specs.Prelude.{◌≡◌, cond, ◌∷◌, [], ◌+◌, ◌*◌, ◌<◌, ◌≤◌, length};
 ghost use Rattle.tables.specs.Lists.{placed};
 ghost use Rattle.tables.specs.Values.{most_entries};

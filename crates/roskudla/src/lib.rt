@@ -1,6 +1,8 @@
 // The eight calls for C. Each returns 0, or the number of the refusal; a refusal leaves what the pointers point to as it was.
 // A slice is a pointer and then a length, in elements; what is written through one argument must not be reachable through another.
 // CHECK, RUN and LIST are the gate's, under the names that they have in the archive of the gate alone.
+#![tactic(auto)]
+
 ghost use Rattle.std.specs.Prelude.{◌≡◌};
 ghost use Rattle.card.specs.Calls.{check_call, run_call, list_call};
 ghost use Rattle.rule.specs.Calls.{read_call, judge_call};

@@ -1,5 +1,7 @@
-// The gate's calls for C: CHECK, RUN and LIST. Each returns 0, or the number of the refusal; a refusal leaves what the pointers point to as it was.
-// A slice is a pointer and then a length, in elements; what is written through one argument must not be reachable through another.
+// The gate's calls for C: CHECK, RUN and LIST. Each returns 0, or the number of the refusal; a refusal leaves what it is lent as it was.
+// They are exported by roskudla_gate_c, and by roskudla among all eight.
+#![tactic(auto)]
+
 ghost use Rattle.std.specs.Prelude.{◌≡◌};
 ghost use Rattle.card.specs.Calls.{check_call, run_call, list_call};
 ghost use Rattle.tables.specs.Exports.{status_of, yes_no, number_after};
@@ -9,8 +11,7 @@ use checker::Checked;
 use gate::{Listed, Ran};
 
 // CHECK: a card alone.
-#[unsafe(no_mangle)]
-pub extern "C" fn roskudla_check(card: &[u8]) -> u32
+pub fn roskudla_check(card: &[u8]) -> u32
     ensures { result ≡ status_of (check_call card.now) }
 {
     let checked = checker::check(card);
@@ -21,8 +22,7 @@ pub extern "C" fn roskudla_check(card: &[u8]) -> u32
 }
 
 // RUN: answer becomes 1 for yes, 0 for no.
-#[unsafe(no_mangle)]
-pub extern "C" fn roskudla_run(card: &[u8], tables: &[u8], row: usize, answer: &mut u8) -> u32
+pub fn roskudla_run(card: &[u8], tables: &[u8], row: usize, answer: &mut u8) -> u32
     ensures status { result ≡ status_of (run_call card.now tables.now row) }
     ensures answered { answer.new ≡ number_after yes_no (run_call card.now tables.now row) answer.old }
 {
@@ -55,8 +55,7 @@ fn give_count(listed: Listed, count: &mut usize) -> u32
 }
 
 // LIST: the admitted rows from the start of rows on; count becomes how many they are.
-#[unsafe(no_mangle)]
-pub extern "C" fn roskudla_list(
+pub fn roskudla_list(
     card: &[u8],
     tables: &[u8],
     rows: &mut [u32],

@@ -14,7 +14,7 @@ use Rattle.tables.specs.Values.{Comparison, Eq, Ne, And, Or, Quantifier, Some, A
 use Rattle.rule.specs.Tokens.{Fixed, Compares, Letter, Number, AND, OR, NOT, EXISTS, FROM, WHERE, Open, Close}
 use Rattle.rule.specs.Condition.{Unary, Not, From, Join, Apply, WrittenValue, Source, WrittenCondition}
 use Rattle.rule.specs.Grammar.{Tokens, IsValue, number, column, IsFrom, single, IsTruthTest, is_truth, is_not_truth, IsCondition, one_conjunction, joined_by_or, IsConjunction, one_factor, joined_by_and, IsFactor, not_factor, one_test, IsTest, bracketed, truth_tested_lem, exists, is_null, is_not_null, is_declined, is_not_declined, compared, some_of, all_of, is_in, not_in, IsList, list, Reads}
-use Rattle.rule.specs.Reader.{expect, read_value, Opening, Bracket, OfExists, OfList, closed, Start, Whole, Around, start_list, start, Goal, condition, conjunction, factor, test, more-or, more-and, Found, branch, started, ended, closing, read, depth_for, reading, at_end, read_all}
+use Rattle.rule.specs.Reader.{expect, read_value, Opening, Bracket, OfExists, OfList, closed, Start, Whole, Around, start_list, start, Goal, condition, conjunction, factor, test, more_or, more_and, Found, branch, started, ended, closing, read, depth_for, reading, at_end, read_all}
 use Rattle.rule.specs.Claims.{ReadingClaim}
 use Rattle.rule.proofs.Found.{bind_ind, expect_at, branch_at, TestFound, no_test, a_test, Promised, nothing, whole, around, start_promised, AfterCondition, end_after, close_after, or_after, AfterTest, condition_ends, and_after, no_and, untested, tested_found, null_found, not_null_found, declined_found, not_declined_found, compared_found, from_found, list_found, some_found, all_found, in_found, not_in_found}
 
@@ -25,8 +25,8 @@ Means condition ts a rest = IsCondition ts a rest
 Means conjunction ts a rest = IsConjunction ts a rest
 Means factor ts a rest = IsFactor ts a rest
 Means test ts a rest = IsTest ts a rest
-Means (more-or b) ts a rest = (before : Tokens) → IsCondition before b ts → IsCondition before a rest
-Means (more-and b) ts a rest = (before : Tokens) → IsConjunction before b ts → IsConjunction before a rest
+Means (more_or b) ts a rest = (before : Tokens) → IsCondition before b ts → IsCondition before a rest
+Means (more_and b) ts a rest = (before : Tokens) → IsConjunction before b ts → IsConjunction before a rest
 
 data Right (goal : Goal) (ts : Tokens) : Found → Type 0 where
   none_found : Right goal ts none
@@ -60,19 +60,19 @@ unfolding read
 sound zero g ts = none_found
 sound (suc d) condition ts =
     bind_ind (Right condition ts) (read d conjunction ts) _ none_found
-    (λ x e. carry condition (more-or x.0) ts x.1 (λ a rest m. m ts (one_conjunction (met conjunction ts x e (sound d conjunction ts)))) (sound d (more-or x.0) x.1))
-sound (suc d) (more-or b) ts =
-    branch_at (Right (more-or b)) 2 _ (λ us. some (b, us))
-    (λ us. bind_ind (Right (more-or b) (OR ∷ us)) (read d conjunction us) _ none_found
-    (λ x e. carry (more-or b) (more-or (Join Or b x.0)) (OR ∷ us) x.1 (λ a rest m before c. m before (joined_by_or c (met conjunction us x e (sound d conjunction us)))) (sound d (more-or (Join Or b x.0)) x.1)))
+    (λ x e. carry condition (more_or x.0) ts x.1 (λ a rest m. m ts (one_conjunction (met conjunction ts x e (sound d conjunction ts)))) (sound d (more_or x.0) x.1))
+sound (suc d) (more_or b) ts =
+    branch_at (Right (more_or b)) 2 _ (λ us. some (b, us))
+    (λ us. bind_ind (Right (more_or b) (OR ∷ us)) (read d conjunction us) _ none_found
+    (λ x e. carry (more_or b) (more_or (Join Or b x.0)) (OR ∷ us) x.1 (λ a rest m before c. m before (joined_by_or c (met conjunction us x e (sound d conjunction us)))) (sound d (more_or (Join Or b x.0)) x.1)))
     (λ us. found (λ before c. c)) ts
 sound (suc d) conjunction ts =
     bind_ind (Right conjunction ts) (read d factor ts) _ none_found
-    (λ x e. carry conjunction (more-and x.0) ts x.1 (λ a rest m. m ts (one_factor (met factor ts x e (sound d factor ts)))) (sound d (more-and x.0) x.1))
-sound (suc d) (more-and b) ts =
-    branch_at (Right (more-and b)) 1 _ (λ us. some (b, us))
-    (λ us. bind_ind (Right (more-and b) (AND ∷ us)) (read d factor us) _ none_found
-    (λ x e. carry (more-and b) (more-and (Join And b x.0)) (AND ∷ us) x.1 (λ a rest m before c. m before (joined_by_and c (met factor us x e (sound d factor us)))) (sound d (more-and (Join And b x.0)) x.1)))
+    (λ x e. carry conjunction (more_and x.0) ts x.1 (λ a rest m. m ts (one_factor (met factor ts x e (sound d factor ts)))) (sound d (more_and x.0) x.1))
+sound (suc d) (more_and b) ts =
+    branch_at (Right (more_and b)) 1 _ (λ us. some (b, us))
+    (λ us. bind_ind (Right (more_and b) (AND ∷ us)) (read d factor us) _ none_found
+    (λ x e. carry (more_and b) (more_and (Join And b x.0)) (AND ∷ us) x.1 (λ a rest m before c. m before (joined_by_and c (met factor us x e (sound d factor us)))) (sound d (more_and (Join And b x.0)) x.1)))
     (λ us. found (λ before c. c)) ts
 sound (suc d) factor ts =
     branch_at (Right factor) 3 _ (λ us. read d test us)
@@ -138,40 +138,40 @@ record Goes (d : ℕ) (g : Goal) (ts : Tokens) (more : Goal) (rest : Tokens) : T
   same : read d g ts ≡ read depth more rest
 
 -- no OR, or no AND, follows: the chain ends
-or_ends : {d : ℕ} {ts rest : Tokens} {a : WrittenCondition} → expect OR rest ≡ none → Goes d condition ts (more-or a) rest → read d condition ts ≡ some (a, rest)
+or_ends : {d : ℕ} {ts rest : Tokens} {a : WrittenCondition} → expect OR rest ≡ none → Goes d condition ts (more_or a) rest → read d condition ts ≡ some (a, rest)
 unfolding read
 or_ends {d} {ts} {rest} {a} n r = r.same ∙ go r.depth r.deep
   where
-    go : (e : ℕ) → depth_for (more-or a) rest ≤ e → read e (more-or a) rest ≡ some (a, rest)
+    go : (e : ℕ) → depth_for (more_or a) rest ≤ e → read e (more_or a) rest ≡ some (a, rest)
     go zero h = absurd (omega arith)
-    go (suc e) h = ap (λ (o : Option Tokens). branch o (λ us. read e conjunction us >>= (λ b. read e (more-or (Join Or a b.0)) b.1)) (λ _. some (a, rest))) n
+    go (suc e) h = ap (λ (o : Option Tokens). branch o (λ us. read e conjunction us >>= (λ b. read e (more_or (Join Or a b.0)) b.1)) (λ _. some (a, rest))) n
 
-and_ends : {d : ℕ} {ts rest : Tokens} {a : WrittenCondition} → expect AND rest ≡ none → Goes d conjunction ts (more-and a) rest → read d conjunction ts ≡ some (a, rest)
+and_ends : {d : ℕ} {ts rest : Tokens} {a : WrittenCondition} → expect AND rest ≡ none → Goes d conjunction ts (more_and a) rest → read d conjunction ts ≡ some (a, rest)
 unfolding read
 and_ends {d} {ts} {rest} {a} n r = r.same ∙ go r.depth r.deep
   where
-    go : (e : ℕ) → depth_for (more-and a) rest ≤ e → read e (more-and a) rest ≡ some (a, rest)
+    go : (e : ℕ) → depth_for (more_and a) rest ≤ e → read e (more_and a) rest ≡ some (a, rest)
     go zero h = absurd (omega arith)
-    go (suc e) h = ap (λ (o : Option Tokens). branch o (λ us. read e factor us >>= (λ b. read e (more-and (Join And a b.0)) b.1)) (λ _. some (a, rest))) n
+    go (suc e) h = ap (λ (o : Option Tokens). branch o (λ us. read e factor us >>= (λ b. read e (more_and (Join And a b.0)) b.1)) (λ _. some (a, rest))) n
 
 -- one more OR, and the conjunction behind it
-or_goes : {d : ℕ} {ts us rest : Tokens} {a b : WrittenCondition} → length rest ≤ length us → Goes d condition ts (more-or a) (OR ∷ us)
-    → ((e : ℕ) → depth_for conjunction us ≤ e → read e conjunction us ≡ some (b, rest)) → Goes d condition ts (more-or (Join Or a b)) rest
+or_goes : {d : ℕ} {ts us rest : Tokens} {a b : WrittenCondition} → length rest ≤ length us → Goes d condition ts (more_or a) (OR ∷ us)
+    → ((e : ℕ) → depth_for conjunction us ≤ e → read e conjunction us ≡ some (b, rest)) → Goes d condition ts (more_or (Join Or a b)) rest
 unfolding read expect
 or_goes {d} {ts} {us} {rest} {a} {b} l r q = go r.depth r.deep r.same
   where
-    go : (e : ℕ) → depth_for (more-or a) (OR ∷ us) ≤ e → read d condition ts ≡ read e (more-or a) (OR ∷ us) → Goes d condition ts (more-or (Join Or a b)) rest
+    go : (e : ℕ) → depth_for (more_or a) (OR ∷ us) ≤ e → read d condition ts ≡ read e (more_or a) (OR ∷ us) → Goes d condition ts (more_or (Join Or a b)) rest
     go zero h s = absurd (omega arith)
-    go (suc e) h s = record { depth = e; deep = omega arith; same = s ∙ ap (◌>>= (λ x. read e (more-or (Join Or a x.0)) x.1)) (q e (omega arith)) }
+    go (suc e) h s = record { depth = e; deep = omega arith; same = s ∙ ap (◌>>= (λ x. read e (more_or (Join Or a x.0)) x.1)) (q e (omega arith)) }
 
-and_goes : {d : ℕ} {ts us rest : Tokens} {a b : WrittenCondition} → length rest ≤ length us → Goes d conjunction ts (more-and a) (AND ∷ us)
-    → ((e : ℕ) → depth_for factor us ≤ e → read e factor us ≡ some (b, rest)) → Goes d conjunction ts (more-and (Join And a b)) rest
+and_goes : {d : ℕ} {ts us rest : Tokens} {a b : WrittenCondition} → length rest ≤ length us → Goes d conjunction ts (more_and a) (AND ∷ us)
+    → ((e : ℕ) → depth_for factor us ≤ e → read e factor us ≡ some (b, rest)) → Goes d conjunction ts (more_and (Join And a b)) rest
 unfolding read expect
 and_goes {d} {ts} {us} {rest} {a} {b} l r q = go r.depth r.deep r.same
   where
-    go : (e : ℕ) → depth_for (more-and a) (AND ∷ us) ≤ e → read d conjunction ts ≡ read e (more-and a) (AND ∷ us) → Goes d conjunction ts (more-and (Join And a b)) rest
+    go : (e : ℕ) → depth_for (more_and a) (AND ∷ us) ≤ e → read d conjunction ts ≡ read e (more_and a) (AND ∷ us) → Goes d conjunction ts (more_and (Join And a b)) rest
     go zero h s = absurd (omega arith)
-    go (suc e) h s = record { depth = e; deep = omega arith; same = s ∙ ap (◌>>= (λ x. read e (more-and (Join And a x.0)) x.1)) (q e (omega arith)) }
+    go (suc e) h s = record { depth = e; deep = omega arith; same = s ∙ ap (◌>>= (λ x. read e (more_and (Join And a x.0)) x.1)) (q e (omega arith)) }
 
 -- a test begins with no NOT
 no_not : {ts rest : Tokens} {a : WrittenCondition} → IsTest ts a rest → expect NOT ts ≡ none
@@ -201,16 +201,16 @@ no_not (not_in column r) = refl
 -- one step of the function, at a depth that is enough; `r` reads what it calls for
 module _ {a : WrittenCondition} {rest : Tokens} where
   condition_step : (d : ℕ) (ts : Tokens) → depth_for condition ts ≤ d → length rest ≤ length ts
-      → ((e : ℕ) → depth_for conjunction ts ≤ e → read e conjunction ts ≡ some (a, rest)) → Goes d condition ts (more-or a) rest
+      → ((e : ℕ) → depth_for conjunction ts ≤ e → read e conjunction ts ≡ some (a, rest)) → Goes d condition ts (more_or a) rest
   unfolding read
   condition_step zero ts h l r = absurd (omega arith)
-  condition_step (suc e) ts h l r = record { depth = e; deep = omega arith; same = ap (◌>>= (λ x. read e (more-or x.0) x.1)) (r e (omega arith)) }
+  condition_step (suc e) ts h l r = record { depth = e; deep = omega arith; same = ap (◌>>= (λ x. read e (more_or x.0) x.1)) (r e (omega arith)) }
 
   conjunction_step : (d : ℕ) (ts : Tokens) → depth_for conjunction ts ≤ d → length rest ≤ length ts
-      → ((e : ℕ) → depth_for factor ts ≤ e → read e factor ts ≡ some (a, rest)) → Goes d conjunction ts (more-and a) rest
+      → ((e : ℕ) → depth_for factor ts ≤ e → read e factor ts ≡ some (a, rest)) → Goes d conjunction ts (more_and a) rest
   unfolding read
   conjunction_step zero ts h l r = absurd (omega arith)
-  conjunction_step (suc e) ts h l r = record { depth = e; deep = omega arith; same = ap (◌>>= (λ x. read e (more-and x.0) x.1)) (r e (omega arith)) }
+  conjunction_step (suc e) ts h l r = record { depth = e; deep = omega arith; same = ap (◌>>= (λ x. read e (more_and x.0) x.1)) (r e (omega arith)) }
 
   not_step : (d : ℕ) (ts : Tokens) → depth_for factor (NOT ∷ ts) ≤ d
       → ((e : ℕ) → depth_for factor ts ≤ e → read e factor ts ≡ some (a, rest)) → read d factor (NOT ∷ ts) ≡ some (Apply Not a, rest)
@@ -246,7 +246,7 @@ record ListRead (ts : Tokens) (s : WrittenValue) (f : From Source) (w : WrittenC
   begins : (q : Quantifier) (op : Comparison) (l : WrittenValue) → start_list q op l ts ≡ some (Around (OfList q op l s f) inner)
   reads : (e : ℕ) → depth_for condition inner ≤ e → read e condition inner ≡ some (w, Close ∷ rest)
 
-closes : {d : ℕ} {ts rest : Tokens} {a : WrittenCondition} → Goes d condition ts (more-or a) (Close ∷ rest) → read d condition ts ≡ some (a, Close ∷ rest)
+closes : {d : ℕ} {ts rest : Tokens} {a : WrittenCondition} → Goes d condition ts (more_or a) (Close ∷ rest) → read d condition ts ≡ some (a, Close ∷ rest)
 unfolding expect
 closes g = or_ends refl g
 
@@ -259,11 +259,11 @@ unfolding start expect read_value
 exists_start is = ap (λ o. (o >>= (λ f. some (Around (OfExists f.0) f.1))) <|> none) (from_found is)
 
 mutual
-  condition_goes : {ts rest : Tokens} {a : WrittenCondition} → IsCondition ts a rest → (d : ℕ) → depth_for condition ts ≤ d → AfterCondition rest → Goes d condition ts (more-or a) rest
+  condition_goes : {ts rest : Tokens} {a : WrittenCondition} → IsCondition ts a rest → (d : ℕ) → depth_for condition ts ≤ d → AfterCondition rest → Goes d condition ts (more_or a) rest
   condition_goes {ts} (one_conjunction r) d h k = condition_step d ts h (conjunction_inside r) (λ e g. and_ends (no_and k) (conjunction_goes r e g (condition_ends k)))
   condition_goes (joined_by_or r q) d h k = or_goes (conjunction_inside q) (condition_goes r d h or_after) (λ e g. and_ends (no_and k) (conjunction_goes q e g (condition_ends k)))
 
-  conjunction_goes : {ts rest : Tokens} {a : WrittenCondition} → IsConjunction ts a rest → (d : ℕ) → depth_for conjunction ts ≤ d → AfterTest rest → Goes d conjunction ts (more-and a) rest
+  conjunction_goes : {ts rest : Tokens} {a : WrittenCondition} → IsConjunction ts a rest → (d : ℕ) → depth_for conjunction ts ≤ d → AfterTest rest → Goes d conjunction ts (more_and a) rest
   conjunction_goes {ts} (one_factor r) d h k = conjunction_step d ts h (factor_inside r) (λ e g. factor_read r e g k)
   conjunction_goes (joined_by_and r q) d h k = and_goes (factor_inside q) (conjunction_goes r d h and_after) (λ e g. factor_read q e g k)
 

@@ -12,7 +12,7 @@ use Rattle.tables.specs.Values.{Comparison, Eq, Ne, Connective, And, Or, Quantif
 use Rattle.rule.specs.Tokens.{Token, is_fixed, Fixed, Compares, Letter, Number, AND, OR, NOT, EXISTS, IN, SOME, ALL, IS, NULL, DECLINED, SELECT, FROM, WHERE, Open, Point}
 use Rattle.rule.specs.Condition.{Not, Join, Apply, WrittenValue, WrittenCondition}
 use Rattle.rule.specs.Grammar.{Tokens}
-use Rattle.rule.specs.Reader.{expect, read_number, read_letter, read_comparison, read_value, read_from, Opening, Start, Whole, Around, start_list, start_value, start, Goal, condition, conjunction, factor, test, more-or, more-and, chain, operand, more, join_word, Found, branch, started, closing, read, depth_for, reading, at_end, read_all}
+use Rattle.rule.specs.Reader.{expect, read_number, read_letter, read_comparison, read_value, read_from, Opening, Start, Whole, Around, start_list, start_value, start, Goal, condition, conjunction, factor, test, more_or, more_and, chain, operand, more, join_word, Found, branch, started, closing, read, depth_for, reading, at_end, read_all}
 use Rattle.rule.proofs.Found.{bind_ind, or_ind}
 use Rattle.rule.proofs.Reading.{conjunction_left, factor_left}
 
@@ -153,8 +153,8 @@ some_depth condition ts = omega arith
 some_depth conjunction ts = omega arith
 some_depth factor ts = omega arith
 some_depth test ts = omega arith
-some_depth (more-or a) ts = omega arith
-some_depth (more-and a) ts = omega arith
+some_depth (more_or a) ts = omega arith
+some_depth (more_and a) ts = omega arith
 
 same : (d e : ℕ) (g : Goal) (ts : Tokens) → depth_for g ts ≤ d → depth_for g ts ≤ e → read d g ts ≡ read e g ts
 unfolding read
@@ -162,19 +162,19 @@ same zero e g ts p q = absurd (omega (arith, some_depth g ts))
 same (suc d) zero g ts p q = absurd (omega (arith, some_depth g ts))
 same (suc d) (suc e) condition ts p q =
     bind_same _ _ (same d e conjunction ts (omega arith) (omega arith))
-    (λ x i. let l : length x.1 ≤ length ts = conjunction_left d ts x i in same d e (more-or x.0) x.1 (omega arith) (omega arith))
-same (suc d) (suc e) (more-or a) ts p q =
+    (λ x i. let l : length x.1 ≤ length ts = conjunction_left d ts x i in same d e (more_or x.0) x.1 (omega arith) (omega arith))
+same (suc d) (suc e) (more_or a) ts p q =
     branch_same (expect OR ts) _ _ _ _
     (λ us i. let k : length us < length ts = expect_under OR ts us i in bind_same _ _ (same d e conjunction us (omega arith) (omega arith))
-    (λ x f. let l : length x.1 ≤ length us = conjunction_left d us x f in same d e (more-or (Join Or a x.0)) x.1 (omega arith) (omega arith)))
+    (λ x f. let l : length x.1 ≤ length us = conjunction_left d us x f in same d e (more_or (Join Or a x.0)) x.1 (omega arith) (omega arith)))
     refl
 same (suc d) (suc e) conjunction ts p q =
     bind_same _ _ (same d e factor ts (omega arith) (omega arith))
-    (λ x i. let l : length x.1 ≤ length ts = factor_left d ts x i in same d e (more-and x.0) x.1 (omega arith) (omega arith))
-same (suc d) (suc e) (more-and a) ts p q =
+    (λ x i. let l : length x.1 ≤ length ts = factor_left d ts x i in same d e (more_and x.0) x.1 (omega arith) (omega arith))
+same (suc d) (suc e) (more_and a) ts p q =
     branch_same (expect AND ts) _ _ _ _
     (λ us i. let k : length us < length ts = expect_under AND ts us i in bind_same _ _ (same d e factor us (omega arith) (omega arith))
-    (λ x f. let l : length x.1 ≤ length us = factor_left d us x f in same d e (more-and (Join And a x.0)) x.1 (omega arith) (omega arith)))
+    (λ x f. let l : length x.1 ≤ length us = factor_left d us x f in same d e (more_and (Join And a x.0)) x.1 (omega arith) (omega arith)))
     refl
 same (suc d) (suc e) factor ts p q =
     branch_same (expect NOT ts) _ _ _ _
@@ -190,42 +190,42 @@ at_depth d g ts p = same d (depth_for g ts) g ts p (le_refl (depth_for g ts))
 
 -- ---- the equations of `reading`
 
-reading_condition : (ts : Tokens) → reading condition ts ≡ (reading conjunction ts >>= (λ a. reading (more-or a.0) a.1))
+reading_condition : (ts : Tokens) → reading condition ts ≡ (reading conjunction ts >>= (λ a. reading (more_or a.0) a.1))
 unfolding read
 reading_condition ts =
     let d : ℕ = depth_for condition ts in
     sym (at_depth (suc d) condition ts (omega arith))
     ∙ bind_same _ _ (at_depth d conjunction ts (omega arith))
-    (λ x i. let l : length x.1 ≤ length ts = conjunction_left d ts x i in at_depth d (more-or x.0) x.1 (omega arith))
+    (λ x i. let l : length x.1 ≤ length ts = conjunction_left d ts x i in at_depth d (more_or x.0) x.1 (omega arith))
 
 reading_more_or : (a : WrittenCondition) (ts : Tokens)
-    → reading (more-or a) ts ≡ branch (expect OR ts) (λ us. reading conjunction us >>= (λ b. reading (more-or (Join Or a b.0)) b.1)) (λ _. some (a, ts))
+    → reading (more_or a) ts ≡ branch (expect OR ts) (λ us. reading conjunction us >>= (λ b. reading (more_or (Join Or a b.0)) b.1)) (λ _. some (a, ts))
 unfolding read
 reading_more_or a ts =
-    let d : ℕ = depth_for (more-or a) ts in
-    sym (at_depth (suc d) (more-or a) ts (omega arith))
+    let d : ℕ = depth_for (more_or a) ts in
+    sym (at_depth (suc d) (more_or a) ts (omega arith))
     ∙ branch_same (expect OR ts) _ _ _ _
     (λ us i. let k : length us < length ts = expect_under OR ts us i in bind_same _ _ (at_depth d conjunction us (omega arith))
-    (λ x f. let l : length x.1 ≤ length us = conjunction_left d us x f in at_depth d (more-or (Join Or a x.0)) x.1 (omega arith)))
+    (λ x f. let l : length x.1 ≤ length us = conjunction_left d us x f in at_depth d (more_or (Join Or a x.0)) x.1 (omega arith)))
     refl
 
-reading_conjunction : (ts : Tokens) → reading conjunction ts ≡ (reading factor ts >>= (λ a. reading (more-and a.0) a.1))
+reading_conjunction : (ts : Tokens) → reading conjunction ts ≡ (reading factor ts >>= (λ a. reading (more_and a.0) a.1))
 unfolding read
 reading_conjunction ts =
     let d : ℕ = depth_for conjunction ts in
     sym (at_depth (suc d) conjunction ts (omega arith))
     ∙ bind_same _ _ (at_depth d factor ts (omega arith))
-    (λ x i. let l : length x.1 ≤ length ts = factor_left d ts x i in at_depth d (more-and x.0) x.1 (omega arith))
+    (λ x i. let l : length x.1 ≤ length ts = factor_left d ts x i in at_depth d (more_and x.0) x.1 (omega arith))
 
 reading_more_and : (a : WrittenCondition) (ts : Tokens)
-    → reading (more-and a) ts ≡ branch (expect AND ts) (λ us. reading factor us >>= (λ b. reading (more-and (Join And a b.0)) b.1)) (λ _. some (a, ts))
+    → reading (more_and a) ts ≡ branch (expect AND ts) (λ us. reading factor us >>= (λ b. reading (more_and (Join And a b.0)) b.1)) (λ _. some (a, ts))
 unfolding read
 reading_more_and a ts =
-    let d : ℕ = depth_for (more-and a) ts in
-    sym (at_depth (suc d) (more-and a) ts (omega arith))
+    let d : ℕ = depth_for (more_and a) ts in
+    sym (at_depth (suc d) (more_and a) ts (omega arith))
     ∙ branch_same (expect AND ts) _ _ _ _
     (λ us i. let k : length us < length ts = expect_under AND ts us i in bind_same _ _ (at_depth d factor us (omega arith))
-    (λ x f. let l : length x.1 ≤ length us = factor_left d us x f in at_depth d (more-and (Join And a x.0)) x.1 (omega arith)))
+    (λ x f. let l : length x.1 ≤ length us = factor_left d us x f in at_depth d (more_and (Join And a x.0)) x.1 (omega arith)))
     refl
 
 pub reading_factor : (ts : Tokens) → reading factor ts ≡ branch (expect NOT ts) (λ us. reading factor us >>= (λ a. some (Apply Not a.0, a.1))) (λ _. reading test ts)

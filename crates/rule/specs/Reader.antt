@@ -96,10 +96,10 @@ start ts =
 
 -- ---- conditions
 
--- what is asked for; more-or a: the rest of a condition of which a is read; more-and a: the rest of a conjunction
+-- what is asked for; more_or a: the rest of a condition of which a is read; more_and a: the rest of a conjunction
 pub data Goal : Type 0 where
   condition conjunction factor test : Goal
-  more-or more-and : WrittenCondition → Goal
+  more_or more_and : WrittenCondition → Goal
 
 -- the same over the connective: conjunctions joined by OR are a condition, factors joined by AND a conjunction
 abbrev pub chain : Connective → Goal
@@ -111,8 +111,8 @@ operand Or = conjunction
 operand And = factor
 
 abbrev pub more : Connective → WrittenCondition → Goal
-more Or a = more-or a
-more And a = more-and a
+more Or a = more_or a
+more And a = more_and a
 
 -- the number of the word, AND or OR
 abbrev pub join_word : Connective → ℕ
@@ -163,12 +163,12 @@ closing o w = expect Close w.1 >>= (λ rest. ended o (closed o w.0) rest)
 -- proofs speaks of depths
 unfoldable pub read : ℕ → Goal → Tokens → Found
 read zero goal ts = none
-read (suc depth) condition ts = read depth conjunction ts >>= (λ a. read depth (more-or a.0) a.1)
-read (suc depth) (more-or a) ts =
-    branch (expect OR ts) (λ us. read depth conjunction us >>= (λ b. read depth (more-or (Join Or a b.0)) b.1)) (λ _. some (a, ts))
-read (suc depth) conjunction ts = read depth factor ts >>= (λ a. read depth (more-and a.0) a.1)
-read (suc depth) (more-and a) ts =
-    branch (expect AND ts) (λ us. read depth factor us >>= (λ b. read depth (more-and (Join And a b.0)) b.1)) (λ _. some (a, ts))
+read (suc depth) condition ts = read depth conjunction ts >>= (λ a. read depth (more_or a.0) a.1)
+read (suc depth) (more_or a) ts =
+    branch (expect OR ts) (λ us. read depth conjunction us >>= (λ b. read depth (more_or (Join Or a b.0)) b.1)) (λ _. some (a, ts))
+read (suc depth) conjunction ts = read depth factor ts >>= (λ a. read depth (more_and a.0) a.1)
+read (suc depth) (more_and a) ts =
+    branch (expect AND ts) (λ us. read depth factor us >>= (λ b. read depth (more_and (Join And a b.0)) b.1)) (λ _. some (a, ts))
 read (suc depth) factor ts = branch (expect NOT ts) (λ us. read depth factor us >>= (λ a. some (Apply Not a.0, a.1))) (λ _. read depth test ts)
 read (suc depth) test ts = started (start ts) (λ o us. read depth condition us >>= closing o)
 
@@ -178,8 +178,8 @@ depth_for condition ts = 8 * length ts + 5
 depth_for conjunction ts = 8 * length ts + 4
 depth_for factor ts = 8 * length ts + 3
 depth_for test ts = 8 * length ts + 2
-depth_for (more-or a) ts = 8 * length ts + 1
-depth_for (more-and a) ts = 8 * length ts + 1
+depth_for (more_or a) ts = 8 * length ts + 1
+depth_for (more_and a) ts = 8 * length ts + 1
 
 -- a reading, at a depth that is always enough (ReadingClaim)
 unfoldable pub reading : Goal → Tokens → Found

@@ -1,4 +1,6 @@
 // Stores a tables file in a lent buffer: numbers, a table's sizes, one cell, and a run of cells from another file, each at its place.
+#![tactic(auto)]
+
 ghost use Rattle.std.specs.Prelude.{◌≡◌, ◌∷◌, [], ◌+◌, ◌*◌, ◌<◌, ◌≤◌, length, take, drop};
 ghost use Rattle.tables.specs.Lists.{placed};
 ghost use Rattle.tables.specs.Bytes.{bytes16, bytes32};

@@ -1,5 +1,7 @@
 // Values: as parts and entries hold them, the cell or the constant that one stands for, and whether two numbers compare. Rules and cards are judged over these.
 // Short names: g, where the tables stand; w, for each level the number of its row's first cell; v, a value.
+#![tactic(auto)]
+
 ghost use Rattle.std.specs.Prelude.{◌≡◌, ◌+◌, ◌≤◌, length};
 ghost use Rattle.tables.specs.Lists.{placed};
 ghost use Rattle.tables.specs.Values.{comparison_of, holds};

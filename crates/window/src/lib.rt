@@ -1,6 +1,8 @@
 // A window on one table, or on a part of it: it holds the bytes of a tables file, lent, where values and marks start in them, and its first cell, columns and
 // rows, so that it shows these rows and columns without copying them, and no other cell: who asks for one must know that it is in the window. Rows and
 // columns count from 0 here. The functions that take or make a window are thin; `mark_at` and `value_at` do the work.
+#![tactic(auto)]
+
 ghost use Rattle.std.specs.Prelude.{◌≡◌, ◌+◌, ◌*◌, ◌<◌, length};
 ghost use Rattle.window.specs.Window.{cell_number, mark_at, value_at, window_of, window_place, Inside, seen_of, seen_at};
 
