@@ -1,5 +1,7 @@
 // A card's layout, and its entries as numbers, for whoever checks or runs it.
 // Short names: d, the decoded entries; r, where a record starts.
+#![tactic(auto)]
+
 ghost use Rattle.std.specs.Prelude.{◌≡◌, ◌+◌, ◌<◌, ◌≤◌, length};
 ghost use Rattle.tables.specs.Lists.{all};
 ghost use Rattle.tables.specs.Bytes.{between};

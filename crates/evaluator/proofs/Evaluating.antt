@@ -8,7 +8,7 @@ use native.Mathlib.Omega.{arith}
 use lib.ListN.{length, get_or, set}
 use Rattle.tables.specs.Lists.{tabulate}
 use Rattle.tables.specs.Tables.{most_tables, most_cells, Row, columns_of, tables_of, rows_of}
-use Rattle.tables.specs.Values.{most_levels, comparison_of, Connective, And, Or, Quantifier, Some, All, NotNull, Env, ◌▸◌, cell_of}
+use Rattle.tables.specs.Values.{most_levels, comparison_of, Connective, Quantifier, Some, Env, ◌▸◌, cell_of}
 use Rattle.tables.proofs.Values.{comparison_back}
 use Rattle.tables.proofs.Tabulated.{tabulate_map}
 use Rattle.cells.specs.Code.{seen_cell, place_in}
@@ -17,18 +17,17 @@ use Rattle.cells.specs.declared.Place.{Place}
 use Rattle.values.specs.Code.{held_at, row_from, Readable, ValueReady, Sees}
 use Rattle.values.proofs.Rows.{TableAt}
 use Rattle.values.proofs.Ranging.{NextRow, next_none, next_more, table_bounds, table_here_lem, row_deep, row_room as room_at, row_readable}
-use Rattle.rule.specs.Condition.{Not, IsNot, From, Single, Atom, Join, Apply, Exists, Listed, Rule, parts, froms_deep}
+use Rattle.rule.specs.Condition.{From, Single, Atom, Join, Apply, Exists, Listed, Rule, parts, froms_deep}
 use Rattle.rule.specs.Names.{most_parts, within, ValueFits, TestFits, FromFits, Fits}
-use Rattle.rule.specs.Truth.{Truth, False, Unknown, True, truth, is_true, truth_number}
+use Rattle.rule.specs.Truth.{Truth, False, True, truth, is_true, truth_number}
 use Rattle.rule.specs.Meaning.{compare3, over3, meaning}
-use Rattle.rule.specs.Parts.{join_kind, unary_kind, mark_kind, exists_kind, list_kind, table_of}
+use Rattle.rule.specs.Parts.{join_kind, exists_kind, table_of}
 use Rattle.rule.specs.Groups.{UnaryNumber, TestNumber}
 use Rattle.names.specs.Code.{part_size, part_comparison, part_table, part_end, part_left, part_right}
 use Rattle.parts.specs.Parts.{Stands}
 use Rattle.rule.proofs.Parts.{from_back}
-use Rattle.rule.proofs.Groups.{truth_number_lem, test_number}
 use Rattle.rule.proofs.Arithmetic.{number_high}
-use Rattle.parts.proofs.Parts.{parts_low, kind_low, part_comparison_lem, part_table_lem, part_left_lem, part_right_lem, IsTest, IsJoin, IsUnary, IsExists, IsListed, is_test, is_join, is_unary, is_exists, is_listed}
+use Rattle.parts.proofs.Parts.{parts_low, part_comparison_lem, part_table_lem, part_left_lem, part_right_lem, IsTest, IsJoin, IsUnary, IsExists, IsListed, is_test, is_join, is_unary, is_exists, is_listed}
 use Rattle.evaluator.specs.Code.{decided_by, Decides, UnaryValued, unless_unknown, empty_truth, empty_over, OverNone, TestReady, TestEvaluated, Evaluable, Evaluates, RowReady, RowEvaluated}
 use Rattle.evaluator.proofs.Truths.{taken, taken_meant, left_stop, is_kept, not_kept, over_rows, over_none, over_more, over_stop, over_on, none_open, more_open, quantifier_of, kind_is, none_is, none_decides}
 use Rattle.evaluator.proofs.Rows.{exists_rows, listed_rows}
@@ -144,18 +143,6 @@ module _ {p g file w : List ℕ} {s depth : ℕ} (h : Evaluable p g file w s dep
       }
 
   -- ---- a test
-
-  -- no kind that has an arm to itself
-  abbrev Others : Type 0
-  Others =
-      (((((Unit {0} × NotKind (join_kind And)) × NotKind (join_kind Or)) × NotKind (unary_kind Not)) × NotKind exists_kind) × NotKind (list_kind Some)) × NotKind (list_kind All)
-
-  -- of those that are left, the lowest ones are tests, the next ones truth tests, and the last two tests again
-  pub test_left : Others → kind_here ≤ mark_kind NotNull → TestNumber kind_here
-  test_left ((((((_, and), or), not), exists), some), all) l = test_number _ (omega (arith, kind_low p s h.rule h.stands)) l
-
-  pub truth_left : Others → mark_kind NotNull < kind_here → kind_here ≤ unary_kind (IsNot Unknown) → UnaryNumber kind_here
-  truth_left ((((((_, and), or), not), exists), some), all) l m = truth_number_lem _ (omega arith) m
 
   module _ (k : TestNumber kind_here) where
     test_here : IsTest p s h.rule

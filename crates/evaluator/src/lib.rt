@@ -3,6 +3,8 @@
 // two, and 2 minus the value (ArithmeticClaim of the crate rule); a truth test compares.
 // Short names: p, the parts as numbers; g, where the tables stand; s, the number of a part; w, for each level the number of its row's first cell, and
 // depth, how many levels there are; v, the same with one level more.
+#![tactic(auto)]
+
 ghost use Rattle.std.specs.Prelude.{◌≡◌, ◌*◌, ◌-◌, ◌≤◌, min, max, get_or};
 ghost use Rattle.tables.specs.Values.{comparison_of};
 ghost use Rattle.cells.specs.Code.{seen_cell};

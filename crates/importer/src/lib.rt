@@ -1,6 +1,8 @@
 // IMPORT: comma lines to the bytes of a tables file with one table.
 // The text is read once, from the left. How many cells it has, and that neither 14 nor 15 refuses it, is known at its end; till then its cells are kept in two
 // arrays, values and marks, and they are copied to the lent buffer when they are known to fit it.
+#![tactic(auto)]
+
 ghost use Rattle.std.specs.Prelude.{◌≡◌, ◌∷◌, [], ◌++◌, ◌+◌, ◌*◌, ◌<◌, ◌≤◌, length, take, drop};
 ghost use Rattle.std.proofs.Math.Option.{none};
 ghost use Rattle.tables.specs.Lists.{placed};

@@ -1,5 +1,7 @@
 // The rule of a text: its parts as numbers, or the first refusal of reading that applies. READ, JUDGE and CARD go on from here.
 // Notes: what the grammar keeps of each part as it is written, as numbers too, before its letters are looked up.
+#![tactic(auto)]
+
 ghost use Rattle.std.specs.Prelude.{◌≡◌, true, ◌≤◌, pos, length, take};
 ghost use Rattle.cells.specs.Code.{Sized};
 ghost use Rattle.rule.specs.Tokens.{opens_fit};

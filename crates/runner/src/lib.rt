@@ -1,6 +1,8 @@
 // What a sound card says at a row: its entries, decoded, are run over the cells of the tables.
 // Short names: d, the decoded entries; g, where the tables stand; s and e, an entry and the number after its inner ones; w, for each level the number
 // of its row's first cell, and depth, how many levels there are; q, what row entries answer where no row decides.
+#![tactic(auto)]
+
 ghost use Rattle.std.specs.Prelude.{◌≡◌, ◌+◌};
 ghost use Rattle.tables.specs.Values.{comparison_of, holds, by_numbers};
 ghost use Rattle.cells.specs.Code.{seen_cell};

@@ -1,5 +1,7 @@
 // The letters that are bound around a part; what a noted value, a table or a column stands for there, and so a part's fields.
 // Short names: scope, the bound letters, the outermost first; levels, how many of them there are; notes, the parts as they are written; e, a part's end.
+#![tactic(auto)]
+
 ghost use Rattle.std.specs.Prelude.{◌≡◌, ◌+◌, ◌<◌, ◌≤◌, length, get_or};
 ghost use Rattle.std.proofs.Math.Option.{map};
 ghost use Rattle.tables.specs.Tables.{columns_of};

@@ -1,0 +1,13 @@
+use mathlib.Core.Path.{refl, ◌∙◌}
+use native.Mathlib.Omega.{arith}
+use Rattle.tables.proofs.Placed.{copied_none, copied_more, copied_same}
+use Rattle.parser.proofs.copy_few.Goals as goal
+
+pub loop-k-init : goal.loop-k-init
+loop-k-init c = (omega arith, copied_none _ _ _)
+
+pub loop-k-preserved : goal.loop-k-preserved
+loop-k-preserved c = (omega arith, copied_more c.loop-k.invariant.1 0 _ refl (omega arith) (omega arith) (omega arith))
+
+pub returns : goal.returns
+returns c = record { copied = copied_same c.loop-k.invariant.1 c.args.n (omega arith) (omega arith); size = c.loop-k.invariant.1.long ∙ c.requires.fact_3 }
