@@ -11,7 +11,7 @@ fresh() {
   mkdir -p "$work/repo/crates/small/src" "$work/repo/.ci" "$work/repo/tests"
   cp "$here/.ci/run" "$work/repo/.ci/run"
   echo 'small:' > "$work/repo/crates.txt"
-  echo 'pub fn one() -> u8 { 1 }' > "$work/repo/crates/small/src/lib.rt"
+  printf '#![tactic(auto)]\n\npub fn one() -> u8 {\n    1\n}\n' > "$work/repo/crates/small/src/lib.rt"
   printf 'exit 0\n' > "$work/repo/tests/passes.sh"
 }
 
@@ -34,11 +34,11 @@ expect 'nothing wrong' 0 '^2 passed, 0 failed$'
 
 fresh
 mkdir -p "$work/repo/crates/other/src"
-echo 'pub fn two() -> u8 { 2 }' > "$work/repo/crates/other/src/lib.rt"
+printf '#![tactic(auto)]\n\npub fn two() -> u8 {\n    2\n}\n' > "$work/repo/crates/other/src/lib.rt"
 expect 'a crate folder that is not listed' 1 "$some_failed"
 
 fresh
-echo 'pub fn three() -> u8 { 3 }' > "$work/repo/stray.rt"
+printf 'pub fn three() -> u8 {\n    3\n}\n' > "$work/repo/stray.rt"
 expect 'a file of Rattle outside a crate' 1 "$some_failed"
 
 fresh
@@ -47,13 +47,18 @@ echo '-- nothing' > "$work/repo/notes/Stray.antt"
 expect 'a file of antt outside a crate' 1 "$some_failed"
 
 fresh
-echo 'pub fn next(x: u8) -> u8 { x + 1 }' > "$work/repo/crates/small/src/lib.rt"
+printf '#![tactic(auto)]\n\npub fn next(x: u8) -> u8 {\n    x + 1\n}\n' > "$work/repo/crates/small/src/lib.rt"
 expect 'a function that is not proved' 1 "$some_failed"
 
 fresh
 mkdir -p "$work/repo/crates/small/must-fail"
-printf 'file: src/lib.rt\nold: 1 }\nnew: 2 }\n' > "$work/repo/crates/small/must-fail/harmless.edit"
+printf 'file: src/lib.rt\nold:     1\nnew:     2\n' > "$work/repo/crates/small/must-fail/harmless.edit"
 expect 'a must-fail edit that is not refused' 1 "$some_failed"
+
+fresh
+mkdir -p "$work/repo/crates/small/must-fail"
+printf 'file: src/lib.rt\nold:     3\nnew:     2\n' > "$work/repo/crates/small/must-fail/lost.edit"
+expect 'a must-fail edit that does not fit the text' 1 "$some_failed"
 
 fresh
 printf 'exit 1\n' > "$work/repo/tests/fails.sh"
@@ -77,37 +82,35 @@ edited() {
   cp "$here/tests/edits.sh" "$work/repo/tests/edits.sh"
   echo 'pub mod Code' > "$crate/specs/Lib.antt"
   cat > "$crate/specs/Code.antt" << 'ANTT'
-use Prim.Native.Nat.{ℕ}
+use Rattle.std.specs.Prelude.{ℕ}
 
 abbrev pub most : ℕ
 most = 5
 ANTT
   cat > "$crate/src/lib.rt" << 'RATTLE'
-ghost use Prim.Native.Nat.{_≤_};
-ghost use Rattle·small·specs.specs.Code.{most};
+#![tactic(auto)]
+
+ghost use Rattle.std.specs.Prelude.{◌≤◌};
+ghost use Rattle.small.specs.Code.{most};
 
 pub fn part(x: u8) -> u8
-    ensures { λ r. ⌜ r ≤ most ⌝ }
+    ensures { result ≤ most }
 {
-    if 5 < x {
+    if x > 5 {
         return 5;
     }
     x
 }
 RATTLE
-  cat > "$crate/proofs/part/Proof.antt" << 'ANTT'
-use native.Mathlib.Omega.{arith}
-use Rattle·small·proofs.proofs.part.Statement.{statement}
-use Rattle·small·proofs.proofs.part.Tie as tie
+  cat > "$crate/proofs/part/Answers.antt" << 'ANTT'
+use Rattle.std.proofs.Common.{arith}
+use Rattle.small.proofs.part.Goals as goal
 
-returns : tie.Need-returns
-returns c = omega arith
+pub returns-then-x-gt5 : goal.returns-then-x-gt5
+returns-then-x-gt5 c = omega arith
 
-returns-2 : tie.Need-returns-2
-returns-2 c = omega (arith, c .if1 .left)
-
-pub part-spec : {M : Type 1} → statement M
-part-spec = tie.close (tie.spec returns returns-2)
+pub returns : goal.returns
+returns c = omega (arith, c.if-x-gt5.false)
 ANTT
   printf 'file: %s\nold: %s\nnew: %s\n' "$1" "$2" "$3" > "$crate/must-fail/small.edit"
 }
@@ -116,13 +119,13 @@ edited specs/Code.antt 'most = 5' 'most = 4'
 expect 'an edit after which a fact no longer holds' 0 '^4 passed, 0 failed$'
 
 edited specs/Code.antt 'most = 5' 'most = few'
-expect 'an edit that is not well formed' 1 '^3 passed, 1 failed$'
+expect 'an edit that is not well formed' 1 "$some_failed"
 
-edited src/lib.rt 'if 5 < x {' '{'
-expect 'an edit after which a need is not there' 1 '^3 passed, 1 failed$'
+edited src/lib.rt 'if x > 5 {' 'if x > 6 {'
+expect 'an edit after which a goal is not there' 1 "$some_failed"
 
-edited src/lib.rt 'if 5 < x {' 'if 9 < x { return 5; } if 5 < x {'
-expect 'an edit after which a field is not there' 1 '^3 passed, 1 failed$'
+edited src/lib.rt 'if x > 5 {' '{'
+expect 'an edit after which a condition is not there' 1 "$some_failed"
 
 edited specs/Code.antt 'most = 5' 'most = 4'
 rm -r "$work/repo/crates/small/must-fail"

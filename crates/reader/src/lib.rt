@@ -1,6 +1,7 @@
 // READ: text and tables to the parts of a rule in a lent list, or the first refusal that applies.
-// A lent list of structs is written by `write_parts` alone. What touches that list is kept thin, since it is proved by hand: what is written, and whether it
-// fits, is known before.
+// A lent list of structs is written by `write_parts` alone. What touches that list is kept thin: what is written, and whether it fits, is known before.
+#![tactic(auto)]
+
 ghost use Rattle.std.specs.Prelude.{◌≡◌, ◌++◌, ◌+◌, ◌*◌, ◌<◌, ◌≤◌, length, drop, get_or};
 ghost use Rattle.rule.specs.Calls.{read_call};
 ghost use Rattle.names.specs.Code.{part_size, parts_size};
