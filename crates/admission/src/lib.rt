@@ -1,4 +1,6 @@
 // What the program does with the bytes of its two files: the admitted rows, and the text that it prints.
+#![tactic(auto)]
+
 ghost use Rattle.std.specs.Prelude.{◌≡◌, ◌++◌, ◌+◌, ◌*◌, ◌<◌, ◌≤◌, pos, length, take, drop};
 ghost use Rattle.tables.specs.Lists.{placed};
 ghost use Rattle.tables.specs.Tables.{most_rows};

@@ -1,4 +1,6 @@
 // The gate: RUN and LIST. It knows cards and tables, and no text.
+#![tactic(auto)]
+
 ghost use Rattle.std.specs.Prelude.{◌≡◌, true, false, ◌++◌, ◌+◌, ◌*◌, ◌<◌, ◌≤◌, length, take, drop};
 ghost use Rattle.tables.specs.Tables.{most_rows};
 ghost use Rattle.cells.specs.Code.{Sized, places_size};

@@ -1,5 +1,7 @@
 // JUDGE: the rule is read, the row is found, and the answer is the value of the rule there.
 // Short names: p, the parts of the rule as numbers; g, where the tables stand; w, for each level the number of its row's first cell.
+#![tactic(auto)]
+
 ghost use Rattle.std.specs.Prelude.{◌≡◌};
 ghost use Rattle.rule.specs.Calls.{judge_call};
 ghost use Rattle.judge.specs.Answers.{judged_answer};
