@@ -53,12 +53,6 @@ pub enum Reason {
     TooMany,
 }
 
-// For an arm that no input reaches: whoever calls this has proved so.
-pub fn never()
-    requires { ⊥ }
-    ensures { ⊥ }
-{}
-
 // The published number of a reason.
 pub fn refusal_number(x: Reason) -> u32
     ensures { result ≡ reason_number x }

@@ -71,10 +71,7 @@ fn check_leaf(
             value_fits(card, w, depth, held_at(d, FIELDS * s + RIGHT))
         }
         BLANK | NOT_BLANK | DECLINED | NOT_DECLINED => true,
-        _ => {
-            cells::never();
-            false
-        }
+        _ => unreachable!(),
     }
 }
 

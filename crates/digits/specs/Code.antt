@@ -17,15 +17,15 @@ power base zero = 1
 power base (suc k) = base * power base k
 
 -- the bytes from low to high are digits of the base, and so many of them make up at most a number of 64 bits
-pub record Spellable (low high base zero' most : ℕ) : Type 0 where
-  pub digits_low : zero' ≤ low
-  pub digits_high : high < base + zero'
+pub record Spellable (low high base zero_byte most : ℕ) : Type 0 where
+  pub digits_low : zero_byte ≤ low
+  pub digits_high : high < base + zero_byte
   pub fits : power base most ≤ 18446744073709551616
 
 -- the run of these bytes that starts at place i: the place after it, and what it spells, unless it is too long
-pub record RunAt (text : List ℕ) (i low high base zero' most : ℕ) (r : Run) : Type 0 where
+pub record RunAt (text : List ℕ) (i low high base zero_byte most : ℕ) (r : Run) : Type 0 where
   pub ends : r.end ≡ i + length (take_while (between low high) (drop i text))
-  pub spells : r.end - i ≤ most → r.number ≡ in_base base zero' 0 (take_while (between low high) (drop i text))
+  pub spells : r.end - i ≤ most → r.number ≡ in_base base zero_byte 0 (take_while (between low high) (drop i text))
 
 -- ---- numbers
 

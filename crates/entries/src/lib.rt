@@ -147,14 +147,7 @@ fn under_truth(p: &[usize; PART_NUMBERS], s: usize, negate: bool) -> Under
             negate: negate,
             unknown: true,
         },
-        _ => {
-            cells::never();
-            Under {
-                part: s,
-                negate: negate,
-                unknown: false,
-            }
-        }
+        _ => unreachable!(),
     }
 }
 
@@ -192,10 +185,7 @@ pub fn write_part(
             write_unknown(p, s, negate, unknown, kinds, records, k)
         }
         DECLINED_PART | NOT_DECLINED_PART => write_mark(p, s, negate, kinds, records, k),
-        _ => {
-            cells::never();
-            k
-        }
+        _ => unreachable!(),
     }
 }
 

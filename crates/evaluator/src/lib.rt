@@ -104,10 +104,7 @@ fn evaluate_test(
         DECLINED_PART | NOT_DECLINED_PART => {
             truth_of((DECLINED_MARK <= x.mark) == (kind == DECLINED_PART))
         }
-        _ => {
-            cells::never();
-            FALSE
-        }
+        _ => unreachable!(),
     }
 }
 
@@ -125,10 +122,7 @@ fn unary_value(kind: usize, inner: usize) -> usize
         IS_NOT_FALSE_PART => truth_of(inner != FALSE),
         IS_UNKNOWN_PART => truth_of(inner == UNKNOWN),
         IS_NOT_UNKNOWN_PART => truth_of(inner != UNKNOWN),
-        _ => {
-            cells::never();
-            FALSE
-        }
+        _ => unreachable!(),
     }
 }
 
@@ -168,10 +162,7 @@ pub fn evaluate_part(
             let inner = evaluate_part(p, g, file, s + 1, w, depth);
             unary_value(kind, inner)
         }
-        _ => {
-            cells::never();
-            FALSE
-        }
+        _ => unreachable!(),
     }
 }
 

@@ -97,10 +97,7 @@ fn place(
         | IS_NOT_FALSE_PART
         | IS_UNKNOWN_PART
         | IS_NOT_UNKNOWN_PART => place_unary(file, notes, h, parts, e, scope, levels),
-        _ => {
-            cells::never();
-            Placed::Unplaced
-        }
+        _ => unreachable!(),
     }
 }
 

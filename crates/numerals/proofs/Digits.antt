@@ -13,9 +13,9 @@ use Rattle.numerals.specs.Numerals.{digit, is_digit, most_digits, in_base, spell
 
 -- ---- digits behind others
 
-pub in_base_append : (base zero' n : ℕ) (a b : List ℕ) → in_base base zero' n (a ++ b) ≡ in_base base zero' (in_base base zero' n a) b
-in_base_append base zero' n [] b = refl
-in_base_append base zero' n (x ∷ a) b = in_base_append base zero' (base * n + (x - zero')) a b
+pub in_base_append : (base zero_byte n : ℕ) (a b : List ℕ) → in_base base zero_byte n (a ++ b) ≡ in_base base zero_byte (in_base base zero_byte n a) b
+in_base_append base zero_byte n [] b = refl
+in_base_append base zero_byte n (x ∷ a) b = in_base_append base zero_byte (base * n + (x - zero_byte)) a b
 
 all_more : (p : ℕ → Bool) (ds : List ℕ) (d : ℕ) → all p ds ≡ true → p d ≡ true → all p (ds ++ (d ∷ [])) ≡ true
 all_more p [] d a b = rw b

@@ -24,10 +24,10 @@ minus = 45
 abbrev pub most_digits : ℕ
 most_digits = 10
 
--- the number that bytes spell as digits of a base, where n is spelled before them; zero' is the byte of the digit 0
+-- the number that bytes spell as digits of a base, where n is spelled before them; zero_byte is the byte of the digit 0
 abbrev pub in_base : ℕ → ℕ → ℕ → List ℕ → ℕ
-in_base base zero' n [] = n
-in_base base zero' n (b ∷ bs) = in_base base zero' (base * n + (b - zero')) bs
+in_base base zero_byte n [] = n
+in_base base zero_byte n (b ∷ bs) = in_base base zero_byte (base * n + (b - zero_byte)) bs
 
 -- the number that decimal digits spell
 abbrev pub spelled : List ℕ → ℕ

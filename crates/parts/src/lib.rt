@@ -54,10 +54,7 @@ fn own_entries(kind: usize) -> usize
         IS_NOT_FALSE_PART => 0,
         DECLINED_PART => 1,
         NOT_DECLINED_PART => 1,
-        _ => {
-            cells::never();
-            0
-        }
+        _ => unreachable!(),
     }
 }
 

@@ -115,10 +115,7 @@ pub fn comparison_as(op: usize, negate: bool) -> usize
         4 => 5,
         5 => 4,
         6 => 3,
-        _ => {
-            cells::never();
-            op
-        }
+        _ => unreachable!(),
     }
 }
 
@@ -140,10 +137,7 @@ pub fn pair_kind(kind: usize, negate: bool) -> usize
     match kind {
         AND_PART => either(negate, OR_ENTRY, AND_ENTRY),
         OR_PART => either(negate, AND_ENTRY, OR_ENTRY),
-        _ => {
-            cells::never();
-            AND_ENTRY
-        }
+        _ => unreachable!(),
     }
 }
 
@@ -171,9 +165,6 @@ pub fn mark_kind(kind: usize, negate: bool) -> usize
         NOT_NULL_PART => either(negate, BLANK, NOT_BLANK),
         DECLINED_PART => either(negate, NOT_DECLINED, DECLINED),
         NOT_DECLINED_PART => either(negate, DECLINED, NOT_DECLINED),
-        _ => {
-            cells::never();
-            BLANK
-        }
+        _ => unreachable!(),
     }
 }

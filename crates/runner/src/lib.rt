@@ -47,10 +47,7 @@ fn unknown_says(kind: usize) -> bool
     match kind {
         COMPARISON_OR_NO => false,
         COMPARISON_OR_YES => true,
-        _ => {
-            cells::never();
-            false
-        }
+        _ => unreachable!(),
     }
 }
 
@@ -75,10 +72,7 @@ fn asks_marked(kind: usize) -> bool
         NOT_BLANK => false,
         DECLINED => true,
         NOT_DECLINED => false,
-        _ => {
-            cells::never();
-            false
-        }
+        _ => unreachable!(),
     }
 }
 
@@ -186,19 +180,13 @@ fn run_inner(
         return match k {
             AND_ENTRY => run_pair(d, g, file, s, e, w, depth, false),
             OR_ENTRY => run_pair(d, g, file, s, e, w, depth, true),
-            _ => {
-                cells::never();
-                false
-            }
+            _ => unreachable!(),
         };
     }
     match k {
         SOME_ROW => run_rows(d, g, file, s, e, w, depth, false),
         EVERY_ROW => run_rows(d, g, file, s, e, w, depth, true),
-        _ => {
-            cells::never();
-            false
-        }
+        _ => unreachable!(),
     }
 }
 

@@ -241,10 +241,7 @@ pub fn test_part(
         NULL_PART | NOT_NULL_PART | DECLINED_PART | NOT_DECLINED_PART => {
             mark_part(file, notes, b, scope, levels, e)
         }
-        _ => {
-            cells::never();
-            Compared::NoValues
-        }
+        _ => unreachable!(),
     }
 }
 
@@ -282,10 +279,7 @@ pub fn from_part(
         SOME_PART | ALL_PART => {
             compared_part(file, notes, b, scope, left_levels, right_levels, table, e)
         }
-        _ => {
-            cells::never();
-            Compared::NoValues
-        }
+        _ => unreachable!(),
     }
 }
 

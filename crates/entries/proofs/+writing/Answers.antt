@@ -112,8 +112,8 @@ write_part-write_part-requires-in-10 t c =
 pub write_part-write_mark-requires-in-16 : goal.write_part-write_mark-requires-in-16
 write_part-write_mark-requires-in-16 t c = mark_ready c.requires (declined_number _ (omega arith) (omega arith))
 
-pub write_part-never-requires : goal.write_part-never-requires
-write_part-never-requires t c =
+pub write_part-unreachable-requires : goal.write_part-unreachable-requires
+write_part-unreachable-requires t c =
     let low = kind_low _ _ c.requires.rule c.requires.stands in
     let high = kind_high _ _ c.requires.rule c.requires.stands in
     elim c.in_default.branch [

@@ -142,8 +142,8 @@ evaluate_part-evaluate_test-requires t c =
     in
     test_ready c.requires k
 
-pub evaluate_part-never-requires : goal.evaluate_part-never-requires
-evaluate_part-never-requires t c =
+pub evaluate_part-unreachable-requires : goal.evaluate_part-unreachable-requires
+evaluate_part-unreachable-requires t c =
     elim c.in_default.branch [
       | evaluate_part-in_default-via-then-kind-lt1 w ↦ omega (arith, kind_low _ _ c.requires.rule c.requires.stands)
       | evaluate_part-in_default-via-else-kind-lt1+else-kind-lt7+else-kind-lt16+else-kind-lt18 w ↦ omega (arith, kind_high _ _ c.requires.rule c.requires.stands)

@@ -17,8 +17,8 @@ look-x-requires c = rw c.part_value.ensures (left_ready c.requires)
 pub look-y-requires : goal.look-y-requires
 look-y-requires c = rw c.part_value-in-4.ensures (right_ready c.requires c.in-4.is)
 
-pub never-requires : goal.never-requires
-never-requires c =
+pub unreachable-requires : goal.unreachable-requires
+unreachable-requires c =
     elim c.in_default.branch [
       | in_default-via-then-kind-lt4 w ↦
           ⊎_elim (λ e. omega arith) (no_mark {kind = get_or c.args.p.now (part_size * c.args.s) 0} (inl (omega arith))) (test_number c.requires)

@@ -33,8 +33,8 @@ place-place_test-requires-clause-fact_2 t c =
       | place-else-kind-lt7+else-kind-lt10+else-kind-lt16+then-kind-lt18 w ↦ inr (declined_number _ (omega arith) (omega arith))
     ]
 
-pub place-never-requires : goal.place-never-requires
-place-never-requires t c =
+pub place-unreachable-requires : goal.place-unreachable-requires
+place-unreachable-requires t c =
     elim c.in_default.branch [
       | place-in_default-via-then-kind-lt1 w ↦ omega (arith, kind_low c.requires)
       | place-in_default-via-else-kind-lt1+else-kind-lt3+else-kind-lt7+else-kind-lt10+else-kind-lt16+else-kind-lt18 w ↦ omega (arith, kind_high c.requires)

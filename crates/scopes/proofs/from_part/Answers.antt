@@ -8,8 +8,8 @@ use Rattle.scopes.proofs.Owning.{own_exists, own_list}
 use Rattle.scopes.proofs.from_part.Goals.{in_default-via-then-kind-lt7, in_default-via-else-kind-lt7+else-kind-lt10}
 use Rattle.scopes.proofs.from_part.Goals as goal
 
-pub never-requires : goal.never-requires
-never-requires c =
+pub unreachable-requires : goal.unreachable-requires
+unreachable-requires c =
     let bounds = from_bounds _ c.requires.fact_5 in
     elim c.in_default.branch [ in_default-via-then-kind-lt7 w ↦ omega arith | in_default-via-else-kind-lt7+else-kind-lt10 w ↦ omega arith ]
 

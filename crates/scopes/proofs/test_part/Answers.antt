@@ -8,8 +8,8 @@ use Rattle.scopes.proofs.Owning.{own_compare, own_mark}
 use Rattle.scopes.proofs.test_part.Goals.{in_default-via-then-kind-lt4, in_default-via-else-kind-lt4+else-kind-lt7+then-kind-lt16, in_default-via-else-kind-lt4+else-kind-lt7+else-kind-lt16+else-kind-lt18}
 use Rattle.scopes.proofs.test_part.Goals as goal
 
-pub never-requires : goal.never-requires
-never-requires c =
+pub unreachable-requires : goal.unreachable-requires
+unreachable-requires c =
     elim c.in_default.branch [
       | in_default-via-then-kind-lt4 w ↦ some_test c.requires.fact_4 (λ b. omega arith) (λ b. omega arith)
       | in_default-via-else-kind-lt4+else-kind-lt7+then-kind-lt16 w ↦ some_test c.requires.fact_4 (λ b. omega arith) (λ b. omega arith)
