@@ -55,12 +55,7 @@ fn give_count(listed: Listed, count: &mut usize) -> u32
 }
 
 // LIST: the admitted rows from the start of rows on; count becomes how many they are.
-pub fn roskudla_list(
-    card: &[u8],
-    tables: &[u8],
-    rows: &mut [u32],
-    count: &mut usize,
-) -> u32
+pub fn roskudla_list(card: &[u8], tables: &[u8], rows: &mut [u32], count: &mut usize) -> u32
     ensures status { result ≡ status_of (list_call card.now tables.now rows.old).result }
     ensures written { rows.new ≡ (list_call card.now tables.now rows.old).buffer }
     ensures counted { count.new ≡ number_after (λ n. n) (list_call card.now tables.now rows.old).result count.old }

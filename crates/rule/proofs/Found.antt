@@ -10,11 +10,11 @@ use lib.IntN.{ℤ}
 use borrow.Author.Tests.{eqb-true}
 use Rattle.tables.specs.Lists.{only, ◌>>=◌, ◌<|>◌}
 use Rattle.tables.specs.Values.{Comparison, Eq, Ne, Quantifier, Some, All, Null, NotNull, IsDeclined, NotDeclined}
-use Rattle.rule.specs.Tokens.{Token, Fixed, Compares, Letter, Number, AND, OR, NOT, EXISTS, IN, SOME, ALL, IS, NULL, SELECT, FROM, WHERE, Open, Close, Point, TRUE, FALSE, UNKNOWN, DECLINED}
-use Rattle.rule.specs.Truth.{Truth, False, Unknown, True}
+use Rattle.rule.specs.Tokens.{Token, Fixed, Compares, Letter, Number, AND, OR, NOT, EXISTS, IN, SOME, ALL, IS, NULL, SELECT, FROM, WHERE, Open, Close, Point, DECLINED}
+use Rattle.rule.specs.Truth.{Truth}
 use Rattle.rule.specs.Condition.{Compare, Mark, Unary, Is, IsNot, From, Single, Atom, Apply, Listed, WrittenValue, Plain, Named, Source, Over, WrittenCondition}
 use Rattle.rule.specs.Grammar.{Tokens, IsValue, number, column, IsFrom, single, IsTruth, is_true, is_false, is_unknown, IsTruthTest, is_truth, is_not_truth, IsCondition, IsTest, bracketed, truth_tested_lem, exists, is_null, is_not_null, is_declined, is_not_declined, compared, some_of, all_of, is_in, not_in, IsList, list}
-use Rattle.rule.specs.Reader.{expect, read_number, read_letter, read_comparison, read_value, read_from, Opening, Bracket, OfList, closed, Start, Whole, Around, start_list, start_value, start, Found, branch, read_truth, read_truth_test, truth_tested, ended}
+use Rattle.rule.specs.Reader.{expect, read_number, read_letter, read_comparison, read_value, read_from, Opening, OfList, closed, Start, Whole, Around, start_list, start_value, start, Found, branch, read_truth, read_truth_test, truth_tested, ended}
 
 module _ {A : Type 0} where
   pub bind_ind : {B : Type 0} (P : Option B → Type 0) (o : Option A) (f : A → Option B) → P none → ((x : A) → o ≡ some x → P (f x)) → P (o >>= f)

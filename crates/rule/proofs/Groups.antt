@@ -10,7 +10,7 @@ use Rattle.tables.specs.Values.{Connective, And, Or, Some, All, MarkTest, Null, 
 use Rattle.rule.specs.Truth.{False, Unknown, True}
 use Rattle.rule.specs.Condition.{Unary, Not, Is, IsNot}
 use Rattle.rule.specs.Parts.{Kind, JoinKind, UnaryKind, CompareKind, MarkKind, ExistsKind, ListKind, join_kind, unary_kind, compare_kind, mark_kind, exists_kind, list_kind, kind_number, kinds}
-use Rattle.rule.specs.Groups.{KindNumber, last_kind, JoinNumber, UnaryNumber, UnknownNumber, MarkNumber, TestNumber, ListNumber, FromNumber}
+use Rattle.rule.specs.Groups.{last_kind, JoinNumber, UnaryNumber, UnknownNumber, MarkNumber, TestNumber, ListNumber, FromNumber}
 use Rattle.rule.proofs.Parts.{kind_back}
 
 pub same_kind : (k l : Kind) → kind_number k ≡ kind_number l → k ≡ l

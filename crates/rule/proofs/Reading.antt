@@ -1,17 +1,14 @@
 -- Reading is decidable and unique: `read_all` finds a reading exactly when the grammar has one, and no tokens have two.
 use mathlib.Core.Path.{◌≡◌, refl, ap, subst, ◌∙◌}
-use mathlib.Core.Bool.{Bool, true, false}
 use mathlib.Core.List.{[], ◌∷◌}
 use mathlib.Core.Option.{Option, none, some}
 use Prim.Native.Nat.{ℕ, zero, suc, ◌≤◌, ◌<◌}
 use native.Mathlib.Nat.{le_refl}
 use native.Mathlib.Omega.{arith}
-use borrow.Author.Tests.{eqb-true}
-use lib.Dec.{eqb}
 use lib.ListN.{length}
-use Rattle.tables.specs.Lists.{only, ◌>>=◌, ◌<|>◌}
+use Rattle.tables.specs.Lists.{◌>>=◌, ◌<|>◌}
 use Rattle.tables.specs.Values.{Comparison, Eq, Ne, And, Or, Quantifier, Some, All}
-use Rattle.rule.specs.Tokens.{Fixed, Compares, Letter, Number, AND, OR, NOT, EXISTS, FROM, WHERE, Open, Close}
+use Rattle.rule.specs.Tokens.{AND, OR, NOT, EXISTS, FROM, WHERE, Open, Close}
 use Rattle.rule.specs.Condition.{Unary, Not, From, Join, Apply, WrittenValue, Source, WrittenCondition}
 use Rattle.rule.specs.Grammar.{Tokens, IsValue, number, column, IsFrom, single, IsTruthTest, is_truth, is_not_truth, IsCondition, one_conjunction, joined_by_or, IsConjunction, one_factor, joined_by_and, IsFactor, not_factor, one_test, IsTest, bracketed, truth_tested_lem, exists, is_null, is_not_null, is_declined, is_not_declined, compared, some_of, all_of, is_in, not_in, IsList, list, Reads}
 use Rattle.rule.specs.Reader.{expect, read_value, Opening, Bracket, OfExists, OfList, closed, Start, Whole, Around, start_list, start, Goal, condition, conjunction, factor, test, more_or, more_and, Found, branch, started, ended, closing, read, depth_for, reading, at_end, read_all}

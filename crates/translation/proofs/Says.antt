@@ -16,7 +16,7 @@ use Rattle.tables.specs.Values.{Value, Constant, Column, Comparison, Eq, Ne, Lt,
 use Rattle.card.specs.Card.{Interpretation, AsNo, AsYes, unknown_says, Leaf, CompareLeaf, MarkLeaf, Card, LeafEntry, PairEntry, RowEntry, compares, leaf_says, over_rows, answer}
 use Rattle.rule.specs.Condition.{Test, Compare, Mark, Unary, Not, Is, IsNot, From, Single, Atom, Join, Apply, Exists, Listed, Rule, letters}
 use Rattle.rule.specs.Names.{ValueScoped, Scoped}
-use Rattle.rule.specs.Truth.{Truth, False, Unknown, True, is_true, is_false, is_unknown}
+use Rattle.rule.specs.Truth.{Truth, False, Unknown, True, is_true, is_unknown}
 use Rattle.rule.specs.Meaning.{unary3, compare3, test3, ranged, meaning}
 use Rattle.translation.specs.Translation.{other, other_comparison, other_mark, other_leaf, negated, leaf_of, rows_card, unary_card, card_of}
 use Rattle.translation.specs.Claims.{TranslationClaim}

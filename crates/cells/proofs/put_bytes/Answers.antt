@@ -1,5 +1,4 @@
 use mathlib.Core.Path.{refl}
-use Prim.Native.Nat.{◌-◌}
 use native.Mathlib.Omega.{arith}
 use Rattle.tables.proofs.Placed.{copied_none, copied_more, copied_all}
 use Rattle.cells.proofs.put_bytes.Goals as goal
