@@ -49,8 +49,9 @@ class Program:
     """The program as built."""
 
     def __init__(self):
-        subprocess.run(["rt", "check", "roskudla_rows"], cwd=library.ROOT, check=True, stdout=subprocess.DEVNULL)
-        self.path = library.ROOT / "target" / "bin" / "roskudla_rows"
+        crate = library.ROOT / "crates" / "roskudla_rows"
+        subprocess.run(["rt", "run"], cwd=crate, check=True, stdin=subprocess.DEVNULL, stdout=subprocess.DEVNULL)
+        self.path = crate / "out" / "roskudla_rows"
 
     def run(self, folder):
         """The exit status, the output and the errors of a run in a folder."""

@@ -63,5 +63,8 @@ fn main(rt: HostRuntime) -> io::Result<()> {
     let text_length = read_file(&rt, "rule.txt", &mut text);
     let tables_length = read_file(&rt, "tables.bin", &mut tables);
     let n = admission::print_files(&text, text_length, &tables, tables_length, &mut out);
-    rt.stdout().write_all(&out[..n])
+    if let Err(error) = rt.stdout().write_all(&out[..n]) {
+        eprintln!(rt; "standard output: {error}")?;
+    }
+    Ok(())
 }
