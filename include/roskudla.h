@@ -16,8 +16,8 @@
  * FROMs stand around one another, and for roskudla_list with the rows of table 1 besides; docs/BENCHMARK.md has how long three FROMs over
  * the largest tables take.
  *
- * libroskudla.a (rt staticlib roskudla) has all eight calls. libroskudla_gate.a (rt staticlib roskudla_gate) has roskudla_check, roskudla_run
- * and roskudla_list alone, for a gate that runs cards and reads no rules. Link one of the two. They are for x86-64.
+ * libroskudla.a (of the crate roskudla) has all eight calls. libroskudla_gate.a (of the crate roskudla_gate_c) has roskudla_check, roskudla_run
+ * and roskudla_list alone, for a gate that runs cards and reads no rules. bindings/build makes both. Link one of the two. They are for x86-64.
  */
 #ifndef ROSKUDLA_H
 #define ROSKUDLA_H

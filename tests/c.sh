@@ -58,7 +58,7 @@ told_apart 'a number without a sign' 's/int32_t number;/uint32_t number;/'
 crates_in() { nm "target/staticlib/lib$1.a" | sed -nE 's/.* [a-zA-Z] ([a-z_]+)::.*/\1/p' | sort -u; }
 exported_by() { nm -g --defined-only "target/staticlib/lib$1.a" | awk 'NF == 3 { print $3 }' | sort | tr '\n' ' '; }
 asked_by() { nm -u "target/staticlib/lib$1.a" | awk '$1 == "U" { print $2 }' | sort | tr '\n' ' '; }
-of_the_gate="^($(sed -n 's/^gate: //p' crates.txt | tr ' ' '|')|gate|roskudla_gate)\$" # the gate's crate and all that it is made of
+of_the_gate="^($(sed -n 's/^gate: //p' crates.txt | tr ' ' '|')|gate|roskudla_gate|roskudla_gate_c)\$" # the gate's crates and all that they are made of
 
 [ "$(exported_by roskudla_gate)" = 'roskudla_check roskudla_list roskudla_run ' ] || complain "libroskudla_gate.a gives: $(exported_by roskudla_gate)"
 all_calls='roskudla_card roskudla_check roskudla_export roskudla_import roskudla_judge roskudla_list roskudla_read roskudla_run '

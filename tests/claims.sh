@@ -8,7 +8,7 @@ for file in crates/*/specs/Claims.antt; do
   crate=${file%/specs/Claims.antt}
   for claim in $(sed -nE 's/^(pub record|abbrev pub) ([A-Za-z0-9]*Claim) .*/\2/p' "$file"); do
     found=$((found + 1))
-    if ! grep -rqE "^pub [a-z0-9-]+ : $claim\$" "$crate/proofs"; then
+    if ! grep -rqE "^pub [a-z0-9_'-]+ : $claim\$" "$crate/proofs"; then
       echo "claims: $crate states $claim and proves it nowhere"
       bad=1
     fi

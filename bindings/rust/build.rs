@@ -1,4 +1,4 @@
-//! Links the archive that `rt staticlib roskudla` writes; ROSKUDLA_LIB_DIR names its folder where it is another one than this repository's.
+//! Links the archive that `bindings/build` puts into target/staticlib; ROSKUDLA_LIB_DIR names its folder where it is another one than this repository's.
 use std::env;
 use std::path::PathBuf;
 

@@ -1,4 +1,4 @@
-"""The calls as they are built: the archives of the crates roskudla and roskudla_gate, each linked into a shared object (bindings/build) and called by ctypes.
+"""The calls as they are built: the archives of the crates roskudla and roskudla_gate_c, each linked into a shared object (bindings/build) and called by ctypes.
 
 Texts, cards, comma lines, tables files, lent lists and what a call writes its answer to end where a page ends that may not be touched, so that a read or a
 write past them ends the program. What stands before them is a pattern of at least a page: a call that changes any of it is an error, and so is one that
@@ -22,10 +22,10 @@ class OutsideWritten(Exception):
     """A call changed what it was not lent."""
 
 
-def load(crate):
-    """The library of a crate's calls."""
+def load(name):
+    """A library of the calls: roskudla has all of them, roskudla_gate the gate's."""
     subprocess.run([str(ROOT / "bindings" / "build")], check=True)
-    return ctypes.CDLL(str(ROOT / "target" / "shared" / f"lib{crate}.so"))
+    return ctypes.CDLL(str(ROOT / "target" / "shared" / f"lib{name}.so"))
 
 
 class EndOfPage:

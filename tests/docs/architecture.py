@@ -7,7 +7,6 @@ import sys
 
 ROOT = pathlib.Path(__file__).resolve().parents[2]
 TEXT = (ROOT / "docs" / "ARCHITECTURE.md").read_text()
-KIT = {"io", "os", "libc"}
 INDEX = "## Where the sentences of document 01 stand"
 EDITS = "### Wrong programs that the contracts rule out"
 faults = []
@@ -34,12 +33,12 @@ def quoted(cell):
 
 
 def listed_crates():
-    """The crates of crates.txt, each with the crates of this repository that it uses."""
+    """The crates of crates.txt, a static library by its name alone, each with the crates that it uses."""
     uses = {}
     for line in (ROOT / "crates.txt").read_text().splitlines():
         if line.strip() and not line.startswith("#"):
             name, _, names = line.partition(":")
-            uses[name] = set(names.split())
+            uses[name.removesuffix(" staticlib").strip()] = set(names.split())
     return uses
 
 
@@ -80,8 +79,8 @@ def check_contracts():
 def is_defined(name, text):
     """Whether a definition, function, type, constant, constructor or field has this name."""
     word = re.escape(name)
-    return (re.search(rf"\b(?:pub (?:record|data)|pub|fn|struct|enum|const) {word}(?![\w-])", text)
-            or re.search(rf"^ +(?:pub )?(?:[\w′-]+ )*{word}(?: [\w′-]+)* :", text, re.M))
+    return (re.search(rf"\b(?:pub (?:record|data)|pub|fn|struct|enum|const) {word}(?![\w'-])", text)
+            or re.search(rf"^ +(?:pub )?(?:[\w'-]+ )*{word}(?: [\w'-]+)* :", text, re.M))
 
 
 def check_index():

@@ -1640,7 +1640,7 @@ def published_orders():
     """The order of each call's refusals in the definitions, where it may begin with an order that several calls share; that the calls follow it is proved."""
     found = {}
     for path in (ROOT / "crates").glob("*/specs/Calls.antt"):
-        for name, shared, numbers in re.findall(r"^(\w+)Order = (?:(\w+)Order \+\+ )?\(?((?:\d+ ∷ )+)\[\]\)?$", path.read_text(), flags=re.MULTILINE):
+        for name, shared, numbers in re.findall(r"^(\w+)_order = (?:(\w+)_order \+\+ )?\(?((?:\d+ ∷ )+)\[\]\)?$", path.read_text(), flags=re.MULTILINE):
             found[name] = shared, tuple(int(number) for number in re.findall(r"\d+", numbers))
     shared_orders = {shared for shared, _ in found.values()}
 

@@ -1,10 +1,10 @@
 """Compares the definitions of crates/ with the reference model.
 
 Each case becomes one fact, `call arguments ≡ answer of the model`, closed by computing it (refl). The facts are a crate
-`vectors` in a temporary copy of the repository, and `rt check` has to prove it. A second crate `wrong` has facts with answers
+`vectors` beside a temporary copy of the crates that it is about, and `rt check` has to prove it. A second crate `wrong` has facts with answers
 that are changed in one place, beside the right ones; exactly the changed ones have to be refused there.
 
-Exit status 0 when all agree. What `rt ci` or `rt check` left in target/ is used, so that no other crate is proved again.
+Exit status 0 when all agree. What `rt ci` or `rt check` left in crates/NAME/out is used, so that no other crate is proved again.
 """
 import collections
 import dataclasses
@@ -51,24 +51,20 @@ GIVEN = {
 }
 
 HEAD = """\
-use mathlib.Core.Path.{_≡_, refl}
-use mathlib.Core.Bool.{true, false}
-use mathlib.Core.List.{List, [], _∷_, _++_}
-use Prim.Native.Nat.{ℕ}
-use lib.IntN.{ℤ, pos, negsuc}
-use lib.ListN.{replicate}
-use Rattle·tables.specs.Refusals.{Answer, Refused, Given, Lent}
-use Rattle·card.specs.Calls.{checkCall, runCall, listCall}
-use Rattle·card.proofs.Opened.{opened as card-opened}
-use Rattle·rule.specs.declared.TaggedValue.{TaggedValue}
-use Rattle·rule.specs.declared.Part.{Part}
-use Rattle·rule.specs.Truth.{Truth, True, False, Unknown}
-use Rattle·rule.specs.Calls.{readCall, judgeCall}
-use Rattle·rule.proofs.Opened.{opened as rule-opened}
-use Rattle·translation.specs.Translation.{negated, cardOf}
-use Rattle·translation.specs.Calls.{ruleBytes, cardCall}
-use Rattle·lines.specs.Calls.{importCall, exportCall}
-use Rattle·lines.proofs.Opened.{opened as lines-opened}
+use Rattle.std.specs.Prelude.{◌≡◌, true, false, List, [], ◌∷◌, ◌++◌, ℕ, ℤ, pos, negsuc, replicate}
+use mathlib.Core.Path.{refl}
+use Rattle.tables.specs.Refusals.{Answer, Refused, Given, Lent}
+use Rattle.card.specs.Calls.{check_call, run_call, list_call}
+use Rattle.card.proofs.Opened.{opened as card-opened}
+use Rattle.rule.specs.declared.TaggedValue.{TaggedValue}
+use Rattle.rule.specs.declared.Part.{Part}
+use Rattle.rule.specs.Truth.{Truth, True, False, Unknown}
+use Rattle.rule.specs.Calls.{read_call, judge_call}
+use Rattle.rule.proofs.Opened.{opened as rule-opened}
+use Rattle.translation.specs.Translation.{negated, card_of}
+use Rattle.translation.specs.Calls.{rule_bytes, card_call}
+use Rattle.lines.specs.Calls.{import_call, export_call}
+use Rattle.lines.proofs.Opened.{opened as lines-opened}
 
 abbrev part : ℕ → ℕ → ℕ → ℕ → ℕ → ℤ → ℕ → ℤ → Part
 part k c t e lt ln rt rn = record { kind = k; comparison = c; table = t; end = e; left = record { tag = lt; number = ln }; right = record { tag = rt; number = rn } }
@@ -77,7 +73,7 @@ abbrev lent : {A : Type 0} → Answer ℕ → List A → Lent A
 lent r b = record { result = r; buffer = b }
 
 """
-OPENED = "card-opened rule-opened negated cardOf ruleBytes cardCall"
+OPENED = "card-opened rule-opened negated card_of rule_bytes card_call"
 OPENED_FOR_LINES = "lines-opened"
 
 
@@ -132,14 +128,14 @@ def call_source(case):
     source = list_source(case.source)
     file = list_source(case.file)
     if case.call == "IMPORT":
-        return f"importCall {source} {case.columns} {list_source(case.buffer)}"
+        return f"import_call {source} {case.columns} {list_source(case.buffer)}"
     if case.call == "EXPORT":
-        return f"exportCall {file} {list_source(case.buffer)}"
+        return f"export_call {file} {list_source(case.buffer)}"
     if case.call == "CHECK":
-        return f"checkCall {source}"
+        return f"check_call {source}"
     if case.call in ("JUDGE", "RUN"):
-        return f"{case.call.lower()}Call {source} {file} {case.row}"
-    return f"{case.call.lower()}Call {source} {file} {list_source(case.buffer)}"
+        return f"{case.call.lower()}_call {source} {file} {case.row}"
+    return f"{case.call.lower()}_call {source} {file} {list_source(case.buffer)}"
 
 
 def answer_source(call, stated):
@@ -339,13 +335,26 @@ def report_outcomes(counts):
 
 # ---- running rt
 
+def used_crates():
+    """The crates that the facts are about, with all that they are made of: their lines in crates.txt, by name."""
+    lines = [line for line in (REPOSITORY / "crates.txt").read_text().splitlines() if line.strip() and not line.startswith("#")]
+    listed = {line.partition(":")[0].split()[0]: line for line in lines}
+    used = {}
+    wanted = DEPENDENCIES.split()
+    while wanted:
+        name = wanted.pop()
+        if name not in used:
+            used[name] = listed[name]
+            wanted += listed[name].partition(":")[2].split()
+    return used
+
+
 def copy_repository(folder):
-    """The crates, their list and what is proved of them already; no must-fail edits, and nothing that cargo built."""
-    without = shutil.ignore_patterns("must-fail", "cargo*")
-    shutil.copytree(REPOSITORY / "crates", folder / "crates", ignore=without)
-    if (REPOSITORY / "target").exists():
-        shutil.copytree(REPOSITORY / "target", folder / "target", ignore=without)
-    shutil.copy(REPOSITORY / "crates.txt", folder / "crates.txt")
+    """These crates, their list and what is proved of them already; no must-fail edits."""
+    used = used_crates()
+    for name in used:
+        shutil.copytree(REPOSITORY / "crates" / name, folder / "crates" / name, ignore=shutil.ignore_patterns("must-fail"))
+    (folder / "crates.txt").write_text("".join(f"{line}\n" for line in used.values()))
 
 
 def write_crate(folder, crate, facts):
@@ -354,7 +363,7 @@ def write_crate(folder, crate, facts):
     sources = folder / "crates" / crate / "src"
     specs.mkdir(parents=True)
     sources.mkdir()
-    (sources / "lib.rt").write_text("// No functions: the facts are in specs/.\n")
+    (sources / "lib.rt").write_text("// No functions: the facts are in specs/.\n#![tactic(auto)]\n")
     modules = []
     for start in range(0, len(facts), FACTS_OF_A_MODULE):
         modules.append(f"V{len(modules) + 1}")
@@ -376,7 +385,7 @@ def reason_in(message):
 
 def check_crate(folder, crate):
     """Runs rt check: its exit status, what it printed, and the reason for each fact that it refused."""
-    done = subprocess.run(["rt", "check", crate], cwd=folder, stdout=subprocess.PIPE, stderr=subprocess.STDOUT, text=True)
+    done = subprocess.run(["rt", "check"], cwd=folder / "crates" / crate, stdout=subprocess.PIPE, stderr=subprocess.STDOUT, text=True)
     place = r"/V\d+\.antt:\d+:\d+: error: "
     refused = {}
     for message in re.split(place, done.stdout)[1:]:
@@ -387,11 +396,9 @@ def check_crate(folder, crate):
 
 
 def verdict_of(output, crate):
-    """What rt says of a crate."""
-    for line in output.splitlines():
-        if line.startswith(f"rt: {crate} "):
-            return line
-    return ""
+    """What rt says of a crate, behind the line that it was checked; verdicts of the crates below stand before that."""
+    _, checked, behind = output.rpartition(f"\ncrate {crate}: ")
+    return next((line for line in behind.splitlines() if line.startswith("logic=")), "") if checked else ""
 
 
 def shown(fact):
@@ -410,8 +417,8 @@ def check_right(folder, facts):
         print(f"  rt: {refused[number][:LONGEST_SHOWN]}")
     if refused:
         raise Failure(f"{len(refused)} of {len(facts)} facts are refused")
-    if status != 0 or not verdict_of(output, "vectors").startswith("rt: vectors proved"):
-        raise Failure(f"rt check vectors: exit {status}\n{output[-4 * LONGEST_SHOWN:]}")
+    if status != 0 or not verdict_of(output, "vectors").startswith("logic=proved"):
+        raise Failure(f"rt check of vectors: exit {status}\n{output[-4 * LONGEST_SHOWN:]}")
 
 
 def check_wrong(folder, mixed):
@@ -424,8 +431,8 @@ def check_wrong(folder, mixed):
             raise Failure(f"a wrong fact is not refused\n{shown(fact)}\n{output[-LONGEST_SHOWN:]}")
         if not is_wrong and number in refused:
             raise Failure(f"a right fact is refused\n{shown(fact)}\n  rt: {refused[number][:LONGEST_SHOWN]}")
-    if status != 1 or not verdict_of(output, "wrong").startswith("rt: wrong NOT PROVED"):
-        raise Failure(f"rt check wrong: exit {status}\n{output[-4 * LONGEST_SHOWN:]}")
+    if status != 1 or verdict_of(output, "wrong") != "logic=not-proved":
+        raise Failure(f"rt check of wrong: exit {status}\n{output[-4 * LONGEST_SHOWN:]}")
 
 
 def run():
