@@ -77,15 +77,15 @@ pub whole_files_claim : WholeFilesClaim
 whole_files_claim text file = whole_text text (take read_of_tables file) ∙ whole_tables text file
 
 -- what is written for what was read, for whole files
-module _ (readText read_tables text file : List ℕ) (e : readText ≡ take read_of_text text) (f : read_tables ≡ take read_of_tables file) where
-  same_output : output readText read_tables ≡ output text file
+module _ (read_text read_tables text file : List ℕ) (e : read_text ≡ take read_of_text text) (f : read_tables ≡ take read_of_tables file) where
+  same_output : output read_text read_tables ≡ output text file
   same_output = ap₂ output e f ∙ whole_files_claim text file
 
-pub written_for : (readText read_tables before after : List ℕ) (n : ℕ)
-    → after ≡ output readText read_tables ++ drop (length (output readText read_tables)) before → n ≡ length (output readText read_tables)
-    → WrittenFor readText read_tables before after n
-written_for readText read_tables before after n bytes count =
+pub written_for : (read_text read_tables before after : List ℕ) (n : ℕ)
+    → after ≡ output read_text read_tables ++ drop (length (output read_text read_tables)) before → n ≡ length (output read_text read_tables)
+    → WrittenFor read_text read_tables before after n
+written_for read_text read_tables before after n bytes count =
     record {
-      bytes_are = λ text file e f. bytes ∙ ap (λ (o : List ℕ). o ++ drop (length o) before) (same_output readText read_tables text file e f);
-      count_is = λ text file e f. count ∙ ap length (same_output readText read_tables text file e f);
+      bytes_are = λ text file e f. bytes ∙ ap (λ (o : List ℕ). o ++ drop (length o) before) (same_output read_text read_tables text file e f);
+      count_is = λ text file e f. count ∙ ap length (same_output read_text read_tables text file e f);
     }

@@ -46,7 +46,7 @@ read_of_tables = 1 + 3 * most_tables + 5 * most_cells + 1
 
 -- what is written for what was read: where that is as much of two files as the program reads, it is the output for these files, from the start of a lent
 -- buffer on, and how many bytes it has; the buffer past it is as it was
-pub record WrittenFor (readText read_tables before after : List ℕ) (n : ℕ) : Type 0 where
-  pub bytes_are : (text file : List ℕ) → readText ≡ take read_of_text text → read_tables ≡ take read_of_tables file
+pub record WrittenFor (read_text read_tables before after : List ℕ) (n : ℕ) : Type 0 where
+  pub bytes_are : (text file : List ℕ) → read_text ≡ take read_of_text text → read_tables ≡ take read_of_tables file
       → after ≡ output text file ++ drop (length (output text file)) before
-  pub count_is : (text file : List ℕ) → readText ≡ take read_of_text text → read_tables ≡ take read_of_tables file → n ≡ length (output text file)
+  pub count_is : (text file : List ℕ) → read_text ≡ take read_of_text text → read_tables ≡ take read_of_tables file → n ≡ length (output text file)

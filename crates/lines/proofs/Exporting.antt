@@ -11,7 +11,7 @@ use lib.ListN.{length, take, drop, length-drop, length-map}
 use lib.Seq.{length-take-le, take-add}
 use Rattle.tables.specs.Lists.{tabulate, all, is_there_one, same}
 use Rattle.tables.specs.Bytes.{between}
-use Rattle.tables.specs.Tables.{most_tables, most_columns, most_rows, most_cells, highest_mark, Size, table_count, size_at, sizes, cells_in, size_fits as tableFits, Cell, Blank, Declined, Present, cell_from, Row, Table, Tables, tables_of, rows_of}
+use Rattle.tables.specs.Tables.{most_tables, most_columns, most_rows, most_cells, highest_mark, Size, table_count, size_at, sizes, cells_in, size_fits as table_fits, Cell, Blank, Declined, Present, cell_from, Row, Table, Tables, tables_of, rows_of}
 use Rattle.tables.specs.Refusals.{Refusal, first_applying, Given, tables_refusals, lend}
 use Rattle.tables.proofs.Tests.{is_true, is_so, bounds, between_yes}
 use Rattle.tables.proofs.Bytes.{in_range_lem}
@@ -183,12 +183,12 @@ map_take f (suc n) (x ∷ xs) = ap (λ l. f x ∷ l) (map_take f n xs)
 
 -- the first of some sizes within the limits
 first_allowed : (s : Size) (ss : List Size) → sizes_allowed (s ∷ ss) ≡ true
-    → (tableFits s ≡ true) × (cells_in s ≤ cells_asked (s ∷ ss)) × (cells_asked (s ∷ ss) ≤ most_cells)
+    → (table_fits s ≡ true) × (cells_in s ≤ cells_asked (s ∷ ss)) × (cells_asked (s ∷ ss) ≤ most_cells)
 unfolding cells_asked
 first_allowed s ss e =
     let few = leb (cells_asked (s ∷ ss)) most_cells in
-    let (every, least) = and_parts (all tableFits (s ∷ ss)) few (and_parts (between 1 most_tables (length (s ∷ ss))) (all tableFits (s ∷ ss) && few) e).1 in
-    ((and_parts (tableFits s) (all tableFits ss) every).0, omega arith, leb-true (cells_asked (s ∷ ss)) most_cells least)
+    let (every, least) = and_parts (all table_fits (s ∷ ss)) few (and_parts (between 1 most_tables (length (s ∷ ss))) (all table_fits (s ∷ ss) && few) e).1 in
+    ((and_parts (table_fits s) (all table_fits ss) every).0, omega arith, leb-true (cells_asked (s ∷ ss)) most_cells least)
 
 -- its columns, rows and cells are within the limits, and its cells are there
 pub record FirstFits (file : List ℕ) : Type 0 where

@@ -11,7 +11,7 @@ use lib.Dec.{leb, ltb, eqb}
 use lib.ListN.{length, get_or}
 use Rattle.tables.specs.Lists.{all}
 use Rattle.tables.specs.Bytes.{between}
-use Rattle.tables.specs.Tables.{most_columns, most_rows, most_cells, Size, sizes, size_fits as tableFits, Cell, Blank, Row, Table, tables_of, cell_in}
+use Rattle.tables.specs.Tables.{most_columns, most_rows, most_cells, Size, sizes, size_fits as table_fits, Cell, Blank, Row, Table, tables_of, cell_in}
 use Rattle.tables.specs.Refusals.{◌if◌, first_applying, Refused, Lent, filled_with, lend}
 use Rattle.tables.proofs.Tests.{is_so, bounds}
 use Rattle.tables.proofs.Tabulated.{and_yes, and_parts, all_at}
@@ -98,8 +98,8 @@ module _ (columns : ℕ) (rows : Table) (allowed : columns_allowed columns ≡ t
     small = (back_claim sized cells table_storable).byte_small;
     accepted =
         valid_file sized cells table_storable
-        (and_yes (all tableFits sized) (leb (cells_asked sized) most_cells)
-        (and_yes (tableFits (size_of columns (length rows))) true (and_yes (between 1 most_columns columns) (leb (length rows) most_rows) allowed rows_allowed) refl)
+        (and_yes (all table_fits sized) (leb (cells_asked sized) most_cells)
+        (and_yes (table_fits (size_of columns (length rows))) true (and_yes (between 1 most_columns columns) (leb (length rows) most_rows) allowed rows_allowed) refl)
         (ap (λ (n : ℕ). leb n most_cells) asked ∙ cells_allowed))
         (marks_low rows fits);
   }

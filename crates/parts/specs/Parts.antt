@@ -1,4 +1,4 @@
--- The parts of a rule in an array, as `parse` leaves them, `partSize` numbers for each: for READ, JUDGE and CARD. The contract of a public
+-- The parts of a rule in an array, as `parse` leaves them, `part_size` numbers for each: for READ, JUDGE and CARD. The contract of a public
 -- call cites nothing of this file.
 use Rattle.std.specs.Prelude.{◌≡◌, cond, List, [], ◌∷◌, ◌++◌, ℕ, zero, suc, ◌+◌, ◌*◌, ◌<◌, eqb, ℤ, pos, get_or}
 use Rattle.tables.specs.Values.{constant_tag}

@@ -6,7 +6,7 @@ use native.Mathlib.Omega.{arith}
 use Rattle.tables.specs.Values.{Comparison, Eq, Ne, Lt, Le, Gt, Ge, comparison_number, comparison_of, Connective, MarkTest, Null, NotNull, IsDeclined, NotDeclined}
 use Rattle.card.specs.Card.{AsNo, AsYes}
 use Rattle.card.specs.Layout.{pair_kind, comparison_kind, mark_kind}
-use Rattle.rule.specs.Parts.{join_kind, mark_kind as partMark}
+use Rattle.rule.specs.Parts.{join_kind, mark_kind as part_mark}
 use Rattle.tables.proofs.Values.{comparison_back}
 use Rattle.rule.proofs.Groups.{same_join, same_mark}
 use Rattle.records.specs.Code.{ComparisonCode, comparison_as, ComparedAs, connective_as, JoinedAs, mark_as, MarkedAs, row_kind_as, compare_kind_as}
@@ -49,8 +49,8 @@ joined = told join_kind same_join (λ t j. pair_kind (connective_as t j))
 
 -- ---- tests by the mark
 
-pub marked : (negate : Bool) {n r : ℕ} (m : MarkTest) → n ≡ partMark m → r ≡ cond negate (mark_kind (mark_as true m)) (mark_kind (mark_as false m)) → MarkedAs negate n r
-marked = told partMark same_mark (λ t m. mark_kind (mark_as t m))
+pub marked : (negate : Bool) {n r : ℕ} (m : MarkTest) → n ≡ part_mark m → r ≡ cond negate (mark_kind (mark_as true m)) (mark_kind (mark_as false m)) → MarkedAs negate n r
+marked = told part_mark same_mark (λ t m. mark_kind (mark_as t m))
 
 -- ---- comparisons by what unknown counts as
 

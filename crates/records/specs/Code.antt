@@ -9,7 +9,7 @@ use Rattle.values.specs.Code.{FitsBytes}
 use Rattle.values.specs.declared.HeldValue.{HeldValue}
 use Rattle.card.specs.Card.{AsNo, AsYes}
 use Rattle.card.specs.Layout.{record_size, pair_kind, row_kind, comparison_kind, mark_kind, value_bytes}
-use Rattle.rule.specs.Parts.{join_kind, mark_kind as partMark}
+use Rattle.rule.specs.Parts.{join_kind, mark_kind as part_mark}
 use Rattle.translation.specs.Translation.{other_comparison, other_connective, other_mark}
 use Rattle.records.specs.declared.LeafNumbers.{LeafNumbers}
 
@@ -70,7 +70,7 @@ abbrev pub mark_as : Bool → MarkTest → MarkTest
 mark_as negate m = cond negate (other_mark m) m
 
 abbrev pub MarkedAs : Bool → ℕ → ℕ → Type 0
-MarkedAs negate n r = (m : MarkTest) → n ≡ partMark m → r ≡ mark_kind (mark_as negate m)
+MarkedAs negate n r = (m : MarkTest) → n ≡ part_mark m → r ≡ mark_kind (mark_as negate m)
 
 abbrev pub row_kind_as : Bool → ℕ
 row_kind_as every = cond every (row_kind All) (row_kind Some)

@@ -64,7 +64,7 @@ fn main(rt: HostRuntime) -> io::Result<()> {
     let tables_length = read_file(&rt, "tables.bin", &mut tables);
     let n = admission::print_files(&text, text_length, &tables, tables_length, &mut out);
     if let Err(error) = rt.stdout().write_all(&out[..n]) {
-        eprintln!(rt; "standard output: {error}")?;
+        let _ = eprintln!(rt; "standard output: {error}");
     }
     Ok(())
 }

@@ -74,7 +74,7 @@ mark_test_table =
     ∷ (T ∷ F ∷ T ∷ [])
     ∷ []
 
--- ---- Meaning's sentences on NOT, AND and OR, tabulated: for each value, in the order of `truthValues`, and for each pair, a line for the left value and a column
+-- ---- Meaning's sentences on NOT, AND and OR, tabulated: for each value, in the order of `truth_values`, and for each pair, a line for the left value and a column
 -- for the right one. SQL-92 (8.12) has the same tables
 
 abbrev pub not_table : List Truth

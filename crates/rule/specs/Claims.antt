@@ -58,7 +58,7 @@ abbrev pub ManyEntriesClaim : Type 0
 ManyEntriesClaim = (text file : List ℕ) → (first_applying (reading_refusals text file) ≡ some 13) ↔ TooManyEntries text file
 
 -- an accepted text is a rule: what it names exists, it keeps to the limits, its card has no more entries than a card may have (SumClaim of the crate
--- translation says that `entrySum` counts them), it has one record for each part, and it can be had back from them
+-- translation says that `entry_sum` counts them), it has one record for each part, and it can be had back from them
 pub record AcceptedAs (text file : List ℕ) : Type 0 where
   pub rule : Rule
   pub is_rule : rule_of text (columns_of file) ≡ some rule
@@ -74,7 +74,7 @@ abbrev pub PartsClaim : Type 0
 PartsClaim = (text file : List ℕ) → Accepted text file → AcceptedAs text file
 
 -- the end of a rule's first part, which has the number k, is the number of the first part behind all of them; by the definition of
--- `partsFrom` inner parts are the parts of inner rules, numbered on from k + 1
+-- `parts_from` inner parts are the parts of inner rules, numbered on from k + 1
 abbrev pub EndsClaim : Type 0
 EndsClaim = (r : Rule) (k : ℕ) (d : Part) → (get_or (parts_from k r) 0 d).end ≡ k + length (parts_from k r)
 

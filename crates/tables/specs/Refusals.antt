@@ -1,7 +1,7 @@
 -- Document 01, 'Gate says why not', the sentences under the table: which of the refusals that apply is given, and what a buffer holds after a
 -- success. That a refusal leaves every buffer as it was is the product's first demand.
 -- A call lists its refusals in the order in which they are tried, and the first that applies is given. The numbers of the list of each call are
--- its published order (`readOrder` and the like, in Calls.antt of rule, translation, card and lines). Where they rise, that is 'the lowest applying
+-- its published order (`read_order` and the like, in Calls.antt of rule, translation, card and lines). Where they rise, that is 'the lowest applying
 -- number' (LowestClaim); READ, JUDGE and CARD try 13 before 11 and 12 (document 02, Point 1), and IMPORT tries 14 and 15 before 12 (Point 2).
 use Rattle.std.specs.Prelude.{Bool, true, false, not, List, [], ◌∷◌, ◌++◌, map, ℕ, ltb, length, drop}
 use Rattle.std.proofs.Math.Option.{Option, none, some}

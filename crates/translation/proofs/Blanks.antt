@@ -17,7 +17,7 @@ use Rattle.card.specs.Calls.{card_says, says_yes, fits_tables, gate_refusals, ru
 use Rattle.card.proofs.Declined.{declined_blank_claim as card-declined-blank}
 use Rattle.rule.specs.Condition.{Rule}
 use Rattle.rule.specs.declared.Part.{Part}
-use Rattle.rule.specs.Parts.{asks_declined as partsAskDeclined}
+use Rattle.rule.specs.Parts.{asks_declined as parts_ask_declined}
 use Rattle.rule.specs.Calls.{rule_of, reading_refusals, with_rule, read_call, judge_refusals, judge_call, true_at, true_rows, admit_call}
 use Rattle.rule.specs.Truth.{Unknown, is_true}
 use Rattle.rule.specs.Meaning.{meaning, judged}
@@ -115,19 +115,19 @@ judged_blank : (ts : Tables) (row : ℕ) → map (map as_blank) (judged_row ts r
 judged_blank ts row = ap (λ (r : Row). r ∷ []) (sym (row_blank (rows_of ts 1) row) ∙ sym (ap (λ (rows : Table). get_or rows row []) (table_blank ts 1)))
 
 module _ (file other : List ℕ) (alike : AlikeTables file other) where
-  rule_blank : (ts : Tables) (row : ℕ) (r : Rule) → partsAskDeclined r ≡ false → judged ts row r ≡ judged (tables_as_blank ts) row r
+  rule_blank : (ts : Tables) (row : ℕ) (r : Rule) → parts_ask_declined r ≡ false → judged ts row r ≡ judged (tables_as_blank ts) row r
   unfolding judged
   rule_blank ts row r e = rule-declined-blank ts (judged_row ts row) r e ∙ ap (λ (env : Env). meaning (tables_as_blank ts) env r) (judged_blank ts row)
 
-  value_alike : (r : Rule) → partsAskDeclined r ≡ false → (row : ℕ) → judged (tables_of file) row r ≡ judged (tables_of other) row r
+  value_alike : (r : Rule) → parts_ask_declined r ≡ false → (row : ℕ) → judged (tables_of file) row r ≡ judged (tables_of other) row r
   value_alike r e row = rule_blank (tables_of file) row r e ∙ ap (λ (ts : Tables). judged ts row r) alike.tables ∙ sym (rule_blank (tables_of other) row r e)
 
-  values_alike : (o : Option Rule) → with_rule o false partsAskDeclined ≡ false → (row : ℕ)
+  values_alike : (o : Option Rule) → with_rule o false parts_ask_declined ≡ false → (row : ℕ)
       → with_rule o Unknown (judged (tables_of file) row) ≡ with_rule o Unknown (judged (tables_of other) row)
   values_alike none e row = refl
   values_alike (some r) e row = value_alike r e row
 
-  pub rows_alike : (o : Option Rule) → with_rule o false partsAskDeclined ≡ false → with_rule o [] (true_rows file) ≡ with_rule o [] (true_rows other)
+  pub rows_alike : (o : Option Rule) → with_rule o false parts_ask_declined ≡ false → with_rule o [] (true_rows file) ≡ with_rule o [] (true_rows other)
   rows_alike none e = refl
   rows_alike (some r) e =
       ap (rows_where file) (fun_ext (λ row. ap is_true (value_alike r e row)))
@@ -147,7 +147,7 @@ module _ (file other : List ℕ) (alike : AlikeTables file other) where
 
   -- the rule is the same with the columns of either file
   pub rule_asks : (text : List ℕ) → text_asks_declined text file ≡ false → text_asks_declined text other ≡ false
-  rule_asks text e = sym (ap (λ (columns : List ℕ). with_rule (rule_of text columns) false partsAskDeclined) alike.columns) ∙ e
+  rule_asks text e = sym (ap (λ (columns : List ℕ). with_rule (rule_of text columns) false parts_ask_declined) alike.columns) ∙ e
 
   same_unless_asked : SameUnlessAsked file other
   same_unless_asked =

@@ -17,7 +17,7 @@ use Rattle.rule.specs.Cases.{case_tables}
 use Rattle.rule.specs.Condition.{Mark, Not, Is, IsNot, Atom, Apply, Rule}
 use Rattle.rule.specs.declared.Part.{Part}
 use Rattle.rule.specs.Names.{most_parts, Scoped}
-use Rattle.rule.specs.Parts.{asks_declined as partsAskDeclined}
+use Rattle.rule.specs.Parts.{asks_declined as parts_ask_declined}
 use Rattle.rule.specs.Sum.{entry_sum}
 use Rattle.rule.specs.Calls.{rule_of, reading_refusals, read_order, judge_order, Accepted, with_rule, read_call, judge_call, admit_call}
 use Rattle.rule.specs.Truth.{Truth, is_true, is_false}
@@ -48,7 +48,7 @@ pub record DeclinedCardsClaim : Type 0 where
   pub not_declined : (i : Interpretation) (l : Value) → kind_bytes (card_of i (Atom (Mark NotDeclined l))) ≡ 10 ∷ []
   pub swaps : (i : Interpretation) (l : Value) → card_of i (Apply Not (Atom (Mark IsDeclined l))) ≡ card_of i (Atom (Mark NotDeclined l))
   pub swaps_back : (i : Interpretation) (l : Value) → card_of i (Apply Not (Atom (Mark NotDeclined l))) ≡ card_of i (Atom (Mark IsDeclined l))
-  pub asks : (i : Interpretation) (r : Rule) → asks_declined (card_of i r) ≡ partsAskDeclined r
+  pub asks : (i : Interpretation) (r : Rule) → asks_declined (card_of i r) ≡ parts_ask_declined r
 
 -- the number of a card's entries is what the rule's own definitions count, which is the published sum (PublishedSumClaim of the crate rule)
 abbrev pub SumClaim : Type 0
@@ -100,7 +100,7 @@ BlanksClaim = (file other : List ℕ) → BlanksDiffer file other → SameAnswer
 -- document 02, Point 4: declined 'is blank in every respect'. Whether the rule that a text is, if it is one, has a part of kind 16 or 17; and whether the card that some bytes hold, if they
 -- hold one, has an entry of kind 9 or 10
 abbrev pub text_asks_declined : List ℕ → List ℕ → Bool
-text_asks_declined text file = with_rule (rule_of text (columns_of file)) false partsAskDeclined
+text_asks_declined text file = with_rule (rule_of text (columns_of file)) false parts_ask_declined
 
 abbrev pub held_asks_declined : Option Card → Bool
 held_asks_declined none = false

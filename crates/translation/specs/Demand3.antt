@@ -38,7 +38,7 @@ pub record ListClaim (card later : List ℕ) (r : Rule) (buffer : List ℕ) : Ty
   pub long : length (true_rows later r) ≤ length buffer
       → list_call card later buffer ≡ record { result = Given (length (true_rows later r)); buffer = true_rows later r ++ drop (length (true_rows later r)) buffer }
 
--- `trueRows` has exactly the rows of table 1 where the rule is true, each once, rising
+-- `true_rows` has exactly the rows of table 1 where the rule is true, each once, rising
 pub record RowsExactly (later : List ℕ) (r : Rule) : Type 0 where
   pub exactly : (row : ℕ) → Memᴰ row (true_rows later r) ↔ ((row < row_count later 1) × (true_at later r row ≡ true))
   pub rising : IsChain ◌<◌ (true_rows later r)
