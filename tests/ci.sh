@@ -96,7 +96,7 @@ ghost use Rattle.small.specs.Code.{most};
 pub fn part(x: u8) -> u8
     ensures { result ≤ most }
 {
-    if x > 5 {
+    if 5 < x {
         return 5;
     }
     x
@@ -119,13 +119,16 @@ edited specs/Code.antt 'most = 5' 'most = 4'
 expect 'an edit after which a fact no longer holds' 0 '^4 passed, 0 failed$'
 
 edited specs/Code.antt 'most = 5' 'most = few'
-expect 'an edit that is not well formed' 1 "$some_failed"
+expect 'an edit that is not well formed' 1 '^2 passed, 2 failed$'
 
-edited src/lib.rt 'if x > 5 {' 'if x > 6 {'
-expect 'an edit after which a goal is not there' 1 "$some_failed"
+edited src/lib.rt 'if 5 < x {' 'if x >= 6 {'
+expect 'an edit after which a goal is not there, though the function means the same' 1 '^3 passed, 1 failed$'
 
-edited src/lib.rt 'if x > 5 {' '{'
-expect 'an edit after which a condition is not there' 1 "$some_failed"
+edited src/lib.rt 'if 5 < x {' 'if x >= 7 {'
+expect 'an edit after which a fact and a name that it is shown by are not there' 1 '^3 passed, 1 failed$'
+
+edited src/lib.rt 'if 5 < x {' 'if 9 < x { return 5; } if 5 < x {'
+expect 'an edit after which everything still holds' 1 "$some_failed"
 
 edited specs/Code.antt 'most = 5' 'most = 4'
 rm -r "$work/repo/crates/small/must-fail"
