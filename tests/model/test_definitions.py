@@ -58,7 +58,8 @@ use Rattle.card.specs.Calls.{check_call, run_call, list_call}
 use Rattle.card.proofs.Opened.{opened as card-opened}
 use Rattle.rule.specs.declared.TaggedValue.{TaggedValue}
 use Rattle.rule.specs.declared.Part.{Part}
-use Rattle.rule.specs.Truth.{Truth, True, False, Unknown}
+use Rattle.rule.specs.declared.Truth.{Truth}
+use Rattle.rule.specs.declared.Truth.TheVariants.{True, False, Unknown}
 use Rattle.rule.specs.Calls.{read_call, judge_call}
 use Rattle.rule.proofs.Opened.{opened as rule-opened}
 use Rattle.translation.specs.Translation.{negated, card_of}

@@ -7,7 +7,7 @@ use Prim.Native.Nat.{ℕ, ◌≤◌}
 use native.Mathlib.Omega.{arith}
 use borrow.Author.Tests.{ltb-true, ltb-false}
 use lib.Dec.{ltb}
-use lib.ListN.{length, take, drop, length-append}
+use lib.ListN.{length, take, drop, replicate, length-append, length-replicate}
 use lib.Seq.{take_at}
 use Rattle.tables.specs.Tables.{columns_of, same_columns}
 use Rattle.tables.specs.Refusals.{first_applying, Refused, Given, Lent, lend, tables_refusals}
@@ -23,9 +23,9 @@ use Rattle.parser.proofs.Known.{known}
 use Rattle.translation.specs.Calls.{rule_bytes, card_call}
 use Rattle.translation.specs.Demand3.{Later, published_length, Demand3For}
 use Rattle.translation.proofs.Demand3.{card_bytes_few, demand_3_claim}
-use Rattle.cells.specs.Reasons.{reason_number, made_answer}
+use Rattle.std.specs.Prelude.{Result, Ok, Err}
+use Rattle.cells.specs.Reasons.{reason_number, answer_of}
 use Rattle.cells.specs.declared.Reason.{Reason}
-use Rattle.cells.specs.declared.Made.{Made}
 use Rattle.admission.specs.Claims.{AdmitClaim}
 use Rattle.admission.proofs.Lent.{lent_given, lent_refused}
 
@@ -92,24 +92,24 @@ module _ (text file : List ℕ) (accepted : Accepted text file) where
 
 -- ---- in the code
 
-module _ (text file room : List ℕ) (size : length room ≡ most_card_bytes) (made : Made) (answer : made_answer made ≡ (card_call text file room).result) where
-  reading_accepted : (n : ℕ) → made ≡ Made.Bytes n → Accepted text file
+module _ (text file room : List ℕ) (size : length room ≡ most_card_bytes) (made : Result ℕ Reason) (answer : answer_of made ≡ (card_call text file room).result) where
+  reading_accepted : (n : ℕ) → made ≡ Ok n → Accepted text file
   unfolding card_call
-  reading_accepted n e = lent_given (reading_refusals text file) _ room n (sym (ap made_answer e) ∙ answer)
+  reading_accepted n e = lent_given (reading_refusals text file) _ room n (sym (ap answer_of e) ∙ answer)
 
   -- with room enough, CARD refuses only what reading refuses
-  reading_refused : (x : Reason) → made ≡ Made.NotMade x → first_applying (reading_refusals text file) ≡ some (reason_number x)
+  reading_refused : (x : Reason) → made ≡ Err x → first_applying (reading_refusals text file) ≡ some (reason_number x)
   unfolding card_call
   reading_refused x e =
-      lent_refused (reading_refusals text file) _ room (reason_number x) (λ a. card_room text file a room size) (sym (ap made_answer e) ∙ answer)
+      lent_refused (reading_refusals text file) _ room (reason_number x) (λ a. card_room text file a room size) (sym (ap answer_of e) ∙ answer)
 
-  module _ (n : ℕ) (e : made ≡ Made.Bytes n) (card : List ℕ) (written : card ≡ (card_call text file room).buffer) where
+  module _ (n : ℕ) (e : made ≡ Ok n) (card : List ℕ) (written : card ≡ (card_call text file room).buffer) where
     abbrev accepts : Accepted text file
     accepts = reading_accepted n e
 
     is_length : n ≡ length (rule_bytes file (rule text file accepts))
     is_length =
-        let a : Given n ≡ Given _ = sym (ap made_answer e) ∙ answer ∙ ap (λ (a : Lent ℕ). a.result) (card_made text file accepts room size) in
+        let a : Given n ≡ Given _ = sym (ap answer_of e) ∙ answer ∙ ap (λ (a : Lent ℕ). a.result) (card_made text file accepts room size) in
         let z : n ≡ published_length file (rule text file accepts) = cc in
         z ∙ sym ((demand_3 text file accepts).cards room).length_is
 
@@ -125,8 +125,12 @@ module _ (text file room : List ℕ) (size : length room ≡ most_card_bytes) (m
     pub lists_rows : (buffer : List ℕ) → list_call (take n card) file buffer ≡ admit_call text file buffer
     lists_rows buffer = ap (λ (c : List ℕ). list_call c file buffer) card_is ∙ lists_admitted text file accepts buffer
 
-  pub passed_refusal : (buffer : List ℕ) (x : Reason) → made ≡ Made.NotMade x
-      → (Refused (reason_number x) ≡ (admit_call text file buffer).result) × (buffer ≡ (admit_call text file buffer).buffer)
+  passed_refusal : (buffer : List ℕ) (x : Reason) → made ≡ Err x → (Refused (reason_number x) ≡ (admit_call text file buffer).result) × (buffer ≡ (admit_call text file buffer).buffer)
   passed_refusal buffer x e =
       let is = admit_claim.admit_refused text file buffer (reason_number x) (reading_refused x e) in
       (sym (ap (λ (a : Lent ℕ). a.result) is), sym (ap (λ (a : Lent ℕ). a.buffer) is))
+
+-- a refusal is passed up; the room for the card is an array of zeros
+pub card_refused : (text file buffer : List ℕ) (x : Reason) → Refused (reason_number x) ≡ (card_call text file (replicate most_card_bytes 0)).result
+    → (Refused (reason_number x) ≡ (admit_call text file buffer).result) × (buffer ≡ (admit_call text file buffer).buffer)
+card_refused text file buffer x e = passed_refusal text file (replicate most_card_bytes 0) (length-replicate {A = ℕ} most_card_bytes 0) (Err x) e buffer x refl

@@ -1,28 +1,27 @@
 -- What is printed: a list of 1,000 elements holds all admitted rows, so that reading alone refuses.
-use mathlib.Core.Path.{◌≡◌, refl, sym, ap, ap₂, ◌∙◌}
+use mathlib.Core.Path.{◌≡◌, refl, sym, ap, ap₂, subst, ◌∙◌}
 use mathlib.Core.Bool.{Bool}
 use mathlib.Core.List.{List, [], ◌∷◌, ◌++◌, Memᴰ}
 use mathlib.Core.Option.{Option}
 use Prim.Native.Nat.{ℕ, zero, suc, ◌≤◌, ◌<◌}
 use native.Mathlib.Nat.{le_of_suc-le-suc, not-suc-le-zero}
 use native.Mathlib.Omega.{arith}
-use lib.ListN.{length, get_or, take, drop, get_or-append}
+use lib.ListN.{length, get_or, take, drop}
 use lib.Seq.{take_at}
+use Rattle.std.proofs.lemmas.List.Elements.{All-from_get_or}
 use Rattle.tables.specs.Tables.{most_rows, columns_of, size_at, row_count, rows_where}
 use Rattle.tables.specs.Refusals.{Given, Lent}
 use Rattle.tables.proofs.Rows.{rows_few, rows_claim}
 use Rattle.tables.proofs.Sizes.{count_at}
 use Rattle.cells.specs.Code.{Sized}
-use Rattle.cells.specs.Reasons.{reason_number}
+use Rattle.cells.specs.Reasons.{reason_number, answer_of}
 use Rattle.cells.specs.declared.Reason.{Reason}
 use Rattle.cells.proofs.Cells.{sized_is}
 use Rattle.rule.specs.Condition.{Rule}
 use Rattle.rule.specs.Calls.{rule_of, reading_refusals, Accepted, with_rule, true_at, true_rows, admit_call}
 use Rattle.rule.proofs.Accepted.{accepted_named, parts_claim}
-use Rattle.gate.specs.Answers.{listed_answer}
-use Rattle.gate.specs.declared.Listed.{Listed}
+use Rattle.std.specs.Prelude.{Result, Ok, Err, All}
 use Rattle.admission.specs.Output.{rows_text, refusal_text, output_for, output}
-use Rattle.admission.specs.Code.{RowsShort}
 use Rattle.admission.proofs.Lent.{lent_given, lent_refused}
 use Rattle.admission.proofs.Admitted.{admit_claim}
 use Rattle.admission.proofs.Whole.{output_refused}
@@ -72,18 +71,18 @@ module _ (text file : List ℕ) (accepted : Accepted text file) where
 
 -- ---- in the code
 
-module _ (text file room : List ℕ) (size : length room ≡ most_rows) (listed : Listed) (answer : listed_answer listed ≡ (admit_call text file room).result) where
-  pub prints_refusal : (x : Reason) → listed ≡ Listed.NotListed x → refusal_text (reason_number x) ≡ output text file
+module _ (text file room : List ℕ) (size : length room ≡ most_rows) (listed : Result ℕ Reason) (answer : answer_of listed ≡ (admit_call text file room).result) where
+  pub prints_refusal : (x : Reason) → listed ≡ Err x → refusal_text (reason_number x) ≡ output text file
   unfolding admit_call
   prints_refusal x e =
       sym
       (output_refused text file (reason_number x)
-      (lent_refused (reading_refusals text file) _ room (reason_number x) (λ a. rows_room text file a room size) (sym (ap listed_answer e) ∙ answer)))
+      (lent_refused (reading_refusals text file) _ room (reason_number x) (λ a. rows_room text file a room size) (sym (ap answer_of e) ∙ answer)))
 
-  module _ (n : ℕ) (e : listed ≡ Listed.Rows n) where
+  module _ (n : ℕ) (e : listed ≡ Ok n) where
     accepts : Accepted text file
     unfolding admit_call
-    accepts = lent_given (reading_refusals text file) _ room n (sym (ap listed_answer e) ∙ answer)
+    accepts = lent_given (reading_refusals text file) _ room n (sym (ap answer_of e) ∙ answer)
 
     pub prints_sized : 3 < length file
     prints_sized = let s = sized text file accepts in omega (arith, s.long, s.tables_low)
@@ -93,7 +92,7 @@ module _ (text file room : List ℕ) (size : length room ≡ most_rows) (listed 
 
     is_count : n ≡ length (rows text file accepts)
     is_count =
-        let a : Given n ≡ Given _ = sym (ap listed_answer e) ∙ answer ∙ ap (λ (a : Lent ℕ). a.result) (admits text file accepts room size) in
+        let a : Given n ≡ Given _ = sym (ap answer_of e) ∙ answer ∙ ap (λ (a : Lent ℕ). a.result) (admits text file accepts room size) in
         cc
 
     pub prints_few : n ≤ most_rows
@@ -103,14 +102,14 @@ module _ (text file room : List ℕ) (size : length room ≡ most_rows) (listed 
       holds_rows : after ≡ rows text file accepts ++ drop (length (rows text file accepts)) room
       holds_rows = written ∙ ap (λ (a : Lent ℕ). a.buffer) (admits text file accepts room size)
 
-      pub prints_short : RowsShort after n
-      prints_short k h =
+      taken : take n after ≡ rows text file accepts
+      taken = ap (take n) holds_rows ∙ take_at (rows text file accepts) _ n (sym is_count)
+
+      pub prints_short : All (λ row. row < 10000) (take n after)
+      prints_short =
           let rs = rows text file accepts in
-          let l : k < length rs = omega (arith, is_count) in
-          let same : get_or after k 0 ≡ get_or rs k 0 = ap (λ (x : List ℕ). get_or x k 0) holds_rows ∙ get_or-append rs _ 0 k l in
-          omega (arith, rows_below file (true_at file (rule text file accepts)) k l, total_is text file accepts, total_few text file accepts)
+          subst (All (λ row. row < 10000)) (sym taken)
+          (All-from_get_or (λ row. row < 10000) rs 0 (λ k h. omega (arith, rows_below file (true_at file (rule text file accepts)) k h, total_is text file accepts, total_few text file accepts)))
 
       pub prints_rows : (total : ℕ) → total ≡ (size_at file 0).rows → rows_text total (take n after) ≡ output text file
-      prints_rows total t =
-          let rs = rows text file accepts in
-          ap₂ rows_text (t ∙ sym (total_is text file accepts)) (ap (take n) holds_rows ∙ take_at rs _ n (sym is_count)) ∙ output_given text file accepts
+      prints_rows total t = ap₂ rows_text (t ∙ sym (total_is text file accepts)) taken ∙ output_given text file accepts

@@ -1,6 +1,6 @@
--- Demand 3 of the code's enums, from demand 3 of the definitions that their contracts cite.
+-- Demand 3 of the code's results, from demand 3 of the definitions that their contracts cite.
 use mathlib.Core.Path.{◌≡◌, refl, sym, ap, ◌∙◌}
-use mathlib.Core.Bool.{Bool, true, false, cond}
+use mathlib.Core.Bool.{Bool, true, false}
 use mathlib.Core.List.{List}
 use Prim.Native.Nat.{ℕ, ◌<◌}
 use native.Mathlib.Omega.{arith}
@@ -15,17 +15,11 @@ use Rattle.rule.specs.Calls.{true_at, true_rows}
 use Rattle.translation.specs.Calls.{rule_bytes, card_call}
 use Rattle.translation.specs.Demand3.{Later, published_length, Demand3For}
 use Rattle.translation.proofs.Demand3.{demand_3_claim}
-use Rattle.cells.specs.Reasons.{made_answer}
+use Rattle.std.specs.Prelude.{Result, Ok, Err}
+use Rattle.cells.specs.Reasons.{answer_of}
+use Rattle.cells.specs.declared.Reason.{Reason}
 use Rattle.cells.specs.declared.Reason.TheVariants.{Short}
-use Rattle.cells.specs.declared.Made.{Made}
-use Rattle.cells.specs.declared.Made.TheVariants.{Bytes, NotMade}
 use Rattle.cells.proofs.Told.{reasons_claim}
-use Rattle.gate.specs.Answers.{ran_answer, listed_answer}
-use Rattle.gate.specs.declared.Ran.{Ran}
-use Rattle.gate.specs.declared.Ran.TheVariants.{Yes, No}
-use Rattle.gate.specs.declared.Listed.{Listed}
-use Rattle.gate.specs.declared.Listed.TheVariants.{Rows, NotListed}
-use Rattle.gate.proofs.Told.{answers_claim}
 use Rattle.admission.specs.Promise.{CardKept, ListKept}
 use Rattle.admission.specs.Claims.{PromiseClaim}
 
@@ -42,17 +36,17 @@ given_same : {m n : ℕ} → ◌≡◌ {A = Answer ℕ} (Given m) (Given n) → 
 given_same e = cc
 
 module _ (text file : List ℕ) (d : Demand3For text file) where
-  kept : (buffer : List ℕ) (made : Made) → made_answer made ≡ (card_call text file buffer).result → CardKept text file d.rule buffer made
+  kept : (buffer : List ℕ) (made : Result ℕ Reason) → answer_of made ≡ (card_call text file buffer).result → CardKept text file d.rule buffer made
   kept buffer made e =
       record {
-        fits = λ l. reasons_claim.written made (Bytes (published_length file d.rule)) (e ∙ result_is ((d.cards buffer).long l));
+        fits = λ l. reasons_claim.answers made (Ok (published_length file d.rule)) (e ∙ result_is ((d.cards buffer).long l));
         bytes = λ l. buffer_is ((d.cards buffer).long l);
-        short = λ l. reasons_claim.written made (NotMade Short) (e ∙ result_is ((d.cards buffer).short l));
+        short = λ l. reasons_claim.answers made (Err Short) (e ∙ result_is ((d.cards buffer).short l));
         untouched = λ l. buffer_is ((d.cards buffer).short l);
       }
 
   -- the bytes that CARD gave
-  card_is : (buffer : List ℕ) (n : ℕ) → made_answer (Bytes n) ≡ (card_call text file buffer).result
+  card_is : (buffer : List ℕ) (n : ℕ) → answer_of (Ok n) ≡ (card_call text file buffer).result
       → take n (card_call text file buffer).buffer ≡ rule_bytes file d.rule
   card_is buffer n e = go (ltb (length buffer) (published_length file d.rule)) refl
     where
@@ -63,26 +57,21 @@ module _ (text file : List ℕ) (d : Demand3For text file) where
           let count : n ≡ published_length file d.rule = given_same (e ∙ result_is long) in
           ap (take n) (buffer_is long) ∙ take_at (rule_bytes file d.rule) _ n ((d.cards buffer).length_is ∙ sym count)
 
-  yes_or_no : (b : Bool) → ran_answer (cond b Yes No) ≡ Given b
-  yes_or_no true = refl
-  yes_or_no false = refl
-
-  module _ (buffer : List ℕ) (n : ℕ) (e : made_answer (Bytes n) ≡ (card_call text file buffer).result) (later : List ℕ) (h : Later file later) where
-    runs : (row : ℕ) → row < row_count later 1 → (ran : Ran) → ran_answer ran ≡ run_call (take n (card_call text file buffer).buffer) later row
-        → ran ≡ cond (true_at later d.rule row) Yes No
+  module _ (buffer : List ℕ) (n : ℕ) (e : answer_of (Ok n) ≡ (card_call text file buffer).result) (later : List ℕ) (h : Later file later) where
+    runs : (row : ℕ) → row < row_count later 1 → (ran : Result Bool Reason) → answer_of ran ≡ run_call (take n (card_call text file buffer).buffer) later row
+        → ran ≡ Ok (true_at later d.rule row)
     runs row l ran z =
-        answers_claim.ran ran (cond (true_at later d.rule row) Yes No)
-        (z ∙ ap (λ (c : List ℕ). run_call c later row) (card_is buffer n e) ∙ d.runs later h row l ∙ sym (yes_or_no (true_at later d.rule row)))
+        reasons_claim.answers ran (Ok (true_at later d.rule row)) (z ∙ ap (λ (c : List ℕ). run_call c later row) (card_is buffer n e) ∙ d.runs later h row l)
 
-    lists : (list : List ℕ) (listed : Listed) → listed_answer listed ≡ (list_call (take n (card_call text file buffer).buffer) later list).result
+    lists : (list : List ℕ) (listed : Result ℕ Reason) → answer_of listed ≡ (list_call (take n (card_call text file buffer).buffer) later list).result
         → ListKept (take n (card_call text file buffer).buffer) later d.rule list listed
     lists list listed z =
         let is : list_call (take n (card_call text file buffer).buffer) later list ≡ list_call (rule_bytes file d.rule) later list
         = ap (λ (c : List ℕ). list_call c later list) (card_is buffer n e) in
         record {
-          fits = λ l. answers_claim.listed listed (Rows (length (true_rows later d.rule))) (z ∙ result_is (is ∙ (d.listings later h list).long l));
+          fits = λ l. reasons_claim.answers listed (Ok (length (true_rows later d.rule))) (z ∙ result_is (is ∙ (d.listings later h list).long l));
           rows = λ l. buffer_is (is ∙ (d.listings later h list).long l);
-          short = λ l. answers_claim.listed listed (NotListed Short) (z ∙ result_is (is ∙ (d.listings later h list).short l));
+          short = λ l. reasons_claim.answers listed (Err Short) (z ∙ result_is (is ∙ (d.listings later h list).short l));
           untouched = λ l. buffer_is (is ∙ (d.listings later h list).short l);
         }
 

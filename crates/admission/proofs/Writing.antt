@@ -2,11 +2,10 @@
 use mathlib.Core.Path.{◌≡◌, refl, sym, ap, ◌∙◌}
 use mathlib.Core.List.{List, [], ◌∷◌, ◌++◌, append_assoc, append-nil}
 use Prim.Native.Nat.{ℕ, ◌+◌, ◌<◌, ◌≤◌}
-use native.Mathlib.Numerals.{add-one}
 use native.Mathlib.Omega.{arith}
 use lib.IntN.{pos}
 use lib.ListN.{length, get_or, take, set, length-append}
-use lib.Seq.{take-suc}
+use Rattle.std.proofs.lemmas.List.{take_more}
 use Rattle.tables.specs.Lists.{placed}
 use Rattle.tables.proofs.Placed.{placed_length, placed_none, placed_one, placed_next}
 use Rattle.numerals.specs.Numerals.{most_digits, numeral}
@@ -45,11 +44,6 @@ module _ (before : List ℕ) (i : ℕ) where
         let l = written_length (omega arith) in
         written_more (omega arith) (x ∷ []) (set after next x) (next + 1) (record { is = placed_one after next x (omega arith); behind = refl })
 
--- ---- a word
-
-take_next : (l : List ℕ) (k : ℕ) → k < length l → take (k + 1) l ≡ take k l ++ (get_or l k 0 ∷ [])
-take_next l k h = rw (add-one k) (take-suc l k 0 h)
-
 -- ---- a number
 
 pub number_length : (n : ℕ) → n < 10000 → length (numeral (pos n)) ≤ 4
@@ -66,7 +60,7 @@ lines_append (x ∷ xs) ys =
 lines_next : (rows : List ℕ) (k : ℕ) → k < length rows → row_lines (take (k + 1) rows) ≡ row_lines (take k rows) ++ (numeral (pos (get_or rows k 0)) ++ line_feed)
 unfolding row_lines
 lines_next rows k h =
-    ap row_lines (take_next rows k h)
+    ap row_lines (take_more rows k 0 h)
     ∙ lines_append (take k rows) (get_or rows k 0 ∷ [])
     ∙ ap (λ (l : List ℕ). row_lines (take k rows) ++ l) (append-nil (numeral (pos (get_or rows k 0)) ++ line_feed))
 
@@ -82,3 +76,5 @@ line_written before rows out out' i k at at' room room' h l w v =
     rw (lines_next rows k l)
     (written_more before i (row_lines (take k rows)) out at w room (numeral (pos (get_or rows k 0)) ++ line_feed) (set out' at' 10) (at' + 1)
     (written_byte out at (numeral (pos (get_or rows k 0))) out' at' v 10 (omega arith)))
+
+pub ruleset numbers_short = (number_length)

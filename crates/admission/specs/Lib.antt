@@ -1,5 +1,4 @@
 pub mod Output
 pub mod Promise
-pub mod Code
 pub mod Cases
 pub mod Claims

@@ -1,19 +1,17 @@
 // What the program does with the bytes of its two files: the admitted rows, and the text that it prints.
 #![tactic(auto)]
 
-ghost use Rattle.std.specs.Prelude.{◌≡◌, ◌++◌, ◌+◌, ◌*◌, ◌<◌, ◌≤◌, pos, length, take, drop};
+ghost use Rattle.std.specs.Prelude.{◌≡◌, ◌++◌, ◌+◌, ◌*◌, ◌<◌, ◌≤◌, pos, length, take, drop, All};
 ghost use Rattle.tables.specs.Lists.{placed};
 ghost use Rattle.tables.specs.Tables.{most_rows};
 ghost use Rattle.numerals.specs.Numerals.{numeral};
 ghost use Rattle.rule.specs.Calls.{admit_call};
+ghost use Rattle.cells.specs.Reasons.{reason_number, answer_of};
 ghost use Rattle.io.specs.Counts.{IsPrefixLen};
-ghost use Rattle.gate.specs.Answers.{listed_answer};
 ghost use Rattle.admission.specs.Output.{most_output, row_lines, rows_text, refusal_text, output, read_of_text, read_of_tables, WrittenFor};
-ghost use Rattle.admission.specs.Code.{RowsShort};
 
 use card::RECORD_SIZE;
-use cells::{EXCESS, MOST_CELLS, MOST_ROWS, MOST_TABLES, Made};
-use gate::Listed;
+use cells::{MOST_CELLS, MOST_ROWS, MOST_TABLES, Reason};
 use lexer::MOST_BYTES;
 use tables::MOST_ENTRIES;
 
@@ -30,21 +28,19 @@ pub const OUTPUT: usize = 18 + 5 * MOST_ROWS;
 
 // The rows of table 1 on which the rule is true, rising, from the start of out on. The card is made and run; what is promised is the three-valued
 // meaning.
-pub fn admit(text: &[u8], file: &[u8], out: &mut [u32]) -> Listed
-    ensures answer { listed_answer result ≡ (admit_call text.now file.now out.old).result }
+#[tactic(auto, using(crate::proofs::Admitted::card_refused))]
+pub fn admit(text: &[u8], file: &[u8], out: &mut [u32]) -> Result<usize, Reason>
+    ensures answer { answer_of result ≡ (admit_call text.now file.now out.old).result }
     ensures written { out.new ≡ (admit_call text.now file.now out.old).buffer }
 {
     let mut card = [0u8; MOST_CARD];
-    let made = translator::make_card(text, file, &mut card);
-    match made {
-        Made::Bytes(n) => gate::list(&card[..n], file, out),
-        Made::NotMade(x) => Listed::NotListed(x),
-    }
+    let length = translator::make_card(text, file, &mut card)?;
+    gate::list(&card[..length], file, out)
 }
 
 // The bytes of a word from place i on; the next place.
 fn put_word(out: &mut [u8; OUTPUT], i: usize, word: &[u8]) -> usize
-    requires { (length out.old ≡ most_output) × (i + length word.now ≤ most_output) }
+    requires { i + length word.now ≤ most_output }
     ensures written { out.new ≡ placed out.old i word.now }
     ensures next { result ≡ i + length word.now }
 {
@@ -53,97 +49,83 @@ fn put_word(out: &mut [u8; OUTPUT], i: usize, word: &[u8]) -> usize
 }
 
 // A number of at most four digits from place i on; the next place.
+#[tactic(auto, using(crate::proofs::Writing::numbers_short))]
 fn put_number(out: &mut [u8; OUTPUT], i: usize, n: usize) -> usize
-    requires fact_1 { length out.old ≡ most_output }
-    requires fact_2 { n < 10000 }
-    requires fact_3 { i + 4 ≤ most_output }
+    requires fact_1 { n < 10000 }
+    requires fact_2 { i + 4 ≤ most_output }
     ensures written { out.new ≡ placed out.old i (numeral (pos n)) }
     ensures next { result ≡ i + length (numeral (pos n)) }
     ensures short { result ≤ i + 4 }
 {
-    digits::put_numeral(out, i, EXCESS + n)
+    digits::put_numeral(out, i, n as i32)
 }
 
-// A row number and a line feed for each of the first n rows, from place i on; the next place.
-fn put_rows(out: &mut [u8; OUTPUT], i: usize, rows: &[u32; MOST_ROWS], n: usize) -> usize
-    requires fact_1 { length out.old ≡ most_output }
-    requires fact_2 { length rows.now ≡ most_rows }
-    requires fact_3 { n ≤ most_rows }
-    requires fact_4 { RowsShort rows.now n }
-    requires fact_5 { i + 5 * n ≤ most_output }
-    ensures written { out.new ≡ placed out.old i (row_lines (take n rows.now)) }
-    ensures next { result ≡ i + length (row_lines (take n rows.now)) }
-    ensures short { result ≤ i + 5 * n }
+// Each row number and a line feed, from place i on; the next place.
+fn put_rows(out: &mut [u8; OUTPUT], i: usize, rows: &[u32]) -> usize
+    requires fact_1 { All (λ row. row < 10000) rows.now }
+    requires fact_2 { i + 5 * length rows.now ≤ most_output }
+    ensures written { out.new ≡ placed out.old i (row_lines rows.now) }
+    ensures next { result ≡ i + length (row_lines rows.now) }
+    ensures short { result ≤ i + 5 * length rows.now }
 {
     let mut at = i;
-    let mut k: usize = 0;
-    while k < n {
-        at = put_number(out, at, rows[k] as usize);
+    for &row in rows {
+        at = put_number(out, at, row as usize);
         out[at] = b'\n';
         at += 1;
-        k += 1;
     }
     at
 }
 
 // The number of admitted rows and that of all rows, then the admitted ones.
-fn print_rows(out: &mut [u8; OUTPUT], rows: &[u32; MOST_ROWS], n: usize, total: usize) -> usize
-    requires fact_1 { length out.old ≡ most_output }
-    requires fact_2 { length rows.now ≡ most_rows }
-    requires fact_3 { n ≤ most_rows }
-    requires fact_4 { RowsShort rows.now n }
-    requires fact_5 { total ≤ most_rows }
-    ensures written { out.new ≡ placed out.old 0 (rows_text total (take n rows.now)) }
-    ensures next { result ≡ length (rows_text total (take n rows.now)) }
+fn print_rows(out: &mut [u8; OUTPUT], rows: &[u32], total: usize) -> usize
+    requires fact_1 { length rows.now ≤ most_rows }
+    requires fact_2 { All (λ row. row < 10000) rows.now }
+    requires fact_3 { total ≤ most_rows }
+    ensures written { out.new ≡ placed out.old 0 (rows_text total rows.now) }
+    ensures next { result ≡ length (rows_text total rows.now) }
     ensures counted { IsPrefixLen result out.new }
 {
     let mut at = put_word(out, 0, b"rows ");
-    at = put_number(out, at, n);
+    at = put_number(out, at, rows.len());
     at = put_word(out, at, b" of ");
     at = put_number(out, at, total);
     at = put_word(out, at, b"\n");
-    put_rows(out, at, rows, n)
+    put_rows(out, at, rows)
 }
 
 // A refusal: its number.
-fn print_refusal(out: &mut [u8; OUTPUT], number: usize) -> usize
-    requires fact_1 { length out.old ≡ most_output }
-    requires fact_2 { number < 10000 }
-    ensures written { out.new ≡ placed out.old 0 (refusal_text number) }
-    ensures next { result ≡ length (refusal_text number) }
+fn print_refusal(out: &mut [u8; OUTPUT], reason: Reason) -> usize
+    ensures written { out.new ≡ placed out.old 0 (refusal_text (reason_number reason)) }
+    ensures next { result ≡ length (refusal_text (reason_number reason)) }
     ensures counted { IsPrefixLen result out.new }
 {
     let mut at = put_word(out, 0, b"refused ");
-    at = put_number(out, at, number);
+    at = put_number(out, at, u32::from(reason) as usize);
     put_word(out, at, b"\n")
 }
 
 // What the program prints for a text and a tables file, at the start of out; how many bytes.
 fn print(text: &[u8], file: &[u8], out: &mut [u8; OUTPUT]) -> usize
-    requires { length out.old ≡ most_output }
     ensures printed { out.new ≡ output text.now file.now ++ drop (length (output text.now file.now)) out.old }
     ensures next { result ≡ length (output text.now file.now) }
     ensures counted { IsPrefixLen result out.new }
 {
     let mut rows = [0u32; MOST_ROWS];
-    let listed = admit(text, file, &mut rows);
-    match listed {
-        Listed::Rows(n) => {
-            let total = cells::table_rows(file, 0);
-            print_rows(out, &rows, n, total)
-        }
-        Listed::NotListed(x) => print_refusal(out, cells::refusal_number(x) as usize),
+    match admit(text, file, &mut rows) {
+        Ok(n) => print_rows(out, &rows[..n], cells::table_rows(file, 0)),
+        Err(reason) => print_refusal(out, reason),
     }
 }
 
 // What the program prints when it has read the first n bytes of text and the first m bytes of tables. The buffers that it reads into have a byte more than
-// any accepted file, so that a longer one is refused as the whole of it is, and never cut.
+// any accepted file, so that a longer one is refused as the whole of it is, and never cut: how long they are must be known, so they come whole, with n and m.
+#[tactic(auto, using(crate::proofs::Whole::written_for))]
 pub fn print_files(text: &[u8], n: usize, tables: &[u8], m: usize, out: &mut [u8; OUTPUT]) -> usize
     requires fact_1 { length text.now ≡ read_of_text }
     requires fact_2 { n ≤ length text.now }
     requires fact_3 { length tables.now ≡ read_of_tables }
     requires fact_4 { m ≤ length tables.now }
-    requires fact_5 { length out.old ≡ most_output }
     ensures written { WrittenFor (take n text.now) (take m tables.now) out.old out.new result }
     ensures counted { IsPrefixLen result out.new }
 {

@@ -13,9 +13,23 @@ use lib.ListN.{length, get_or, drop, length-append}
 use Rattle.tables.specs.Lists.{tabulate, numbered, all, only, ◌>>=◌}
 use Rattle.tables.specs.Bytes.{between, byte_at, word32, bytes32, bits, in_range}
 use Rattle.tables.specs.Tables.{most_tables, most_columns}
-use Rattle.tables.specs.Values.{most_entries, constant_tag, judged_levels, Value, Constant, Column, unused_value, Comparison, Eq, Ne, Lt, Le, Gt, Ge, comparison_number, And, Or, Some, All, Null, NotNull, IsDeclined, NotDeclined, value_fits}
-use Rattle.card.specs.Card.{most_row_entries, AsNo, AsYes, Leaf, CompareLeaf, MarkLeaf, Card, LeafEntry, PairEntry, RowEntry, entries, leaf_fits, row_entry_fits, card_fits}
-use Rattle.card.specs.Layout.{record_size, value_size, left_place, right_place, Kind, PairKind, RowKind, ComparisonKind, MarkKind, kind_number, kind_with, uses, Head, LeafHead, PairHead, RowHead, kind_of, value_bytes, record_bytes, card_bytes, value_of, value_from, zeros, record_fits, head_in, head_from, inside, entry_from, card_from}
+use Rattle.tables.specs.Values.{most_entries, constant_tag, judged_levels, unused_value, comparison_number, value_fits}
+use Rattle.tables.specs.declared.Value.{Value}
+use Rattle.tables.specs.declared.Value.TheVariants.{Constant, Column}
+use Rattle.tables.specs.declared.Comparison.{Comparison}
+use Rattle.tables.specs.declared.Comparison.TheVariants.{Eq, Ne, Lt, Le, Gt, Ge}
+use Rattle.tables.specs.declared.Connective.TheVariants.{And, Or}
+use Rattle.tables.specs.declared.Quantifier.TheVariants.{Some, All}
+use Rattle.tables.specs.declared.MarkTest.TheVariants.{Null, NotNull, IsDeclined, NotDeclined}
+use Rattle.card.specs.Card.{most_row_entries, Card, LeafEntry, PairEntry, RowEntry, entries, leaf_fits, row_entry_fits, card_fits}
+use Rattle.card.specs.declared.Leaf.{Leaf}
+use Rattle.card.specs.declared.Leaf.TheVariants.{CompareLeaf, MarkLeaf}
+use Rattle.card.specs.declared.Interpretation.TheVariants.{AsNo, AsYes}
+use Rattle.card.specs.Layout.{record_size, value_size, left_place, right_place, kind_number, kind_with, uses, kind_of, value_bytes, record_bytes, card_bytes, value_of, value_from, zeros, record_fits, head_in, head_from, inside, entry_from, card_from}
+use Rattle.card.specs.declared.Kind.{Kind}
+use Rattle.card.specs.declared.Kind.TheVariants.{PairKind, RowKind, ComparisonKind, MarkKind}
+use Rattle.card.specs.declared.Head.{Head}
+use Rattle.card.specs.declared.Head.TheVariants.{LeafHead, PairHead, RowHead}
 use Rattle.card.specs.Sound.{columns_fit, laid, sound, Sound}
 use Rattle.tables.proofs.Values.{comparison_back}
 use Rattle.tables.proofs.Tests.{is_true, both, bounds}

@@ -4,11 +4,16 @@ use mathlib.Core.Bool.{Bool, false, not, ◌&&◌, ◌||◌, false≢true}
 use mathlib.Core.List.{List, [], ◌∷◌, ◌++◌, map}
 use Rattle.tables.specs.Lists.{any}
 use Rattle.tables.specs.Tables.{Cell, Tables, rows_of}
-use Rattle.tables.specs.Values.{Quantifier, Some, All, Null, NotNull, IsDeclined, NotDeclined, Env, ◌▸◌, cell_of, is_blank}
+use Rattle.tables.specs.Values.{Env, ◌▸◌, cell_of, is_blank}
+use Rattle.tables.specs.declared.Quantifier.{Quantifier}
+use Rattle.tables.specs.declared.Quantifier.TheVariants.{Some, All}
+use Rattle.tables.specs.declared.MarkTest.TheVariants.{Null, NotNull, IsDeclined, NotDeclined}
 use Rattle.tables.specs.Claims.{as_blank, tables_as_blank}
 use Rattle.tables.proofs.AsBlank.{one_of_two, none_behind, none_both, rows_as_blank, deeper_blank, table_blank, cell_blank, compared_blank, blank_blank}
-use Rattle.card.specs.Card.{CompareLeaf, MarkLeaf, Card, LeafEntry, PairEntry, RowEntry, compares, joined, over_rows, answer}
-use Rattle.card.specs.Layout.{kind_number, kind_of, PairHead, RowHead, kind_bytes, kind_asks_declined}
+use Rattle.card.specs.Card.{Card, LeafEntry, PairEntry, RowEntry, compares, joined, over_rows, answer}
+use Rattle.card.specs.declared.Leaf.TheVariants.{CompareLeaf, MarkLeaf}
+use Rattle.card.specs.Layout.{kind_number, kind_of, kind_bytes, kind_asks_declined}
+use Rattle.card.specs.declared.Head.TheVariants.{PairHead, RowHead}
 use Rattle.card.specs.Claims.{AsksClaim, DeclinedBlankClaim}
 
 -- rows that are taken to others of which a test says the same

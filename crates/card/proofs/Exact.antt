@@ -11,9 +11,19 @@ use lib.ListN.{length, get_or, take, drop, length-drop, take-append-drop, drop_o
 use lib.Seq.{take-take, drop-cons, drop-drop, get_or-drop, length-take-le}
 use Rattle.tables.specs.Lists.{tabulate, all, only, ◌>>=◌}
 use Rattle.tables.specs.Bytes.{between, byte_at, word16, word32, bytes16, bytes32, signed}
-use Rattle.tables.specs.Values.{most_entries, constant_tag, judged_levels, Value, Constant, Column, unused_value, Uses, Comparison, comparison_number, comparison_of, Connective, Quantifier}
-use Rattle.card.specs.Card.{Leaf, Card, LeafEntry, PairEntry, RowEntry, entries, card_fits}
-use Rattle.card.specs.Layout.{record_size, value_size, table_place, comparison_place, left_place, right_place, Kind, PairKind, RowKind, ComparisonKind, MarkKind, pair_kind, row_kind, kind_number, kind_with, uses, Head, LeafHead, PairHead, RowHead, kind_of, head_with, value_bytes, fields_with, field_bytes, record_bytes, kind_bytes, records_from, card_bytes, card_length, entry_count, tables_in, columns_in, kind_at, record_at, end_at, value_from, zeros, record_fits, head_in, head_from, Taken, inside, entry_from, card_from}
+use Rattle.tables.specs.Values.{most_entries, constant_tag, judged_levels, unused_value, Uses, comparison_number, comparison_of}
+use Rattle.tables.specs.declared.Value.{Value}
+use Rattle.tables.specs.declared.Value.TheVariants.{Constant, Column}
+use Rattle.tables.specs.declared.Comparison.{Comparison}
+use Rattle.tables.specs.declared.Connective.{Connective}
+use Rattle.tables.specs.declared.Quantifier.{Quantifier}
+use Rattle.card.specs.Card.{Card, LeafEntry, PairEntry, RowEntry, entries, card_fits}
+use Rattle.card.specs.declared.Leaf.{Leaf}
+use Rattle.card.specs.Layout.{record_size, value_size, table_place, comparison_place, left_place, right_place, pair_kind, row_kind, kind_number, kind_with, uses, kind_of, head_with, value_bytes, fields_with, field_bytes, record_bytes, kind_bytes, records_from, card_bytes, card_length, entry_count, tables_in, columns_in, kind_at, record_at, end_at, value_from, zeros, record_fits, head_in, head_from, Taken, inside, entry_from, card_from}
+use Rattle.card.specs.declared.Kind.{Kind}
+use Rattle.card.specs.declared.Kind.TheVariants.{PairKind, RowKind, ComparisonKind, MarkKind}
+use Rattle.card.specs.declared.Head.{Head}
+use Rattle.card.specs.declared.Head.TheVariants.{LeafHead, PairHead, RowHead}
 use Rattle.card.specs.Sound.{columns_fit, holds_fitting, laid, sound, Sound}
 use Rattle.tables.proofs.Values.{comparison_number_lem}
 use Rattle.tables.proofs.Tests.{both, bounds}

@@ -5,9 +5,15 @@ use Prim.Native.Nat.{ℕ, ◌+◌, ◌*◌, ◌<◌}
 use native.Mathlib.Omega.{arith}
 use lib.ListN.{length, take, drop, length-append}
 use lib.Seq.{take_at}
-use Rattle.tables.specs.Values.{Value, Constant, Column, Connective, Quantifier}
-use Rattle.card.specs.Card.{CompareLeaf, MarkLeaf, Card, LeafEntry, PairEntry, RowEntry, entries}
-use Rattle.card.specs.Layout.{record_size, value_size, Head, LeafHead, PairHead, RowHead, kind_number, kind_of, value_bytes, record_bytes, kind_bytes, records_from, card_bytes, card_length, entry_count, tables_in, columns_in, kind_at, record_at}
+use Rattle.tables.specs.declared.Value.{Value}
+use Rattle.tables.specs.declared.Value.TheVariants.{Constant, Column}
+use Rattle.tables.specs.declared.Connective.{Connective}
+use Rattle.tables.specs.declared.Quantifier.{Quantifier}
+use Rattle.card.specs.Card.{Card, LeafEntry, PairEntry, RowEntry, entries}
+use Rattle.card.specs.declared.Leaf.TheVariants.{CompareLeaf, MarkLeaf}
+use Rattle.card.specs.Layout.{record_size, value_size, kind_number, kind_of, value_bytes, record_bytes, kind_bytes, records_from, card_bytes, card_length, entry_count, tables_in, columns_in, kind_at, record_at}
+use Rattle.card.specs.declared.Head.{Head}
+use Rattle.card.specs.declared.Head.TheVariants.{LeafHead, PairHead, RowHead}
 use Rattle.tables.proofs.Bytes.{from16}
 use Rattle.card.proofs.Places.{at, at0, skip_to, tabulated}
 

@@ -3,15 +3,22 @@ use Rattle.std.specs.Prelude.{Bool, true, false, ◌&&◌, ◌||◌, List, [], �
 use Rattle.tables.specs.Lists.{any, all}
 use Rattle.tables.specs.Bytes.{between}
 use Rattle.tables.specs.Tables.{Cell, Tables, rows_of}
-use Rattle.tables.specs.Values.{Value, Comparison, holds, Connective, And, Or, Quantifier, Some, All, MarkTest, Env, ◌▸◌, cell_of, by_numbers, mark_passes, value_fits}
+use Rattle.card.specs.declared.Leaf.{Leaf}
+use Rattle.card.specs.declared.Leaf.TheVariants.{CompareLeaf, MarkLeaf}
+use Rattle.card.specs.declared.Interpretation.{Interpretation}
+use Rattle.card.specs.declared.Interpretation.TheVariants.{AsNo, AsYes}
+use Rattle.tables.specs.Values.{holds, Env, ◌▸◌, cell_of, by_numbers, mark_passes, value_fits}
+use Rattle.tables.specs.declared.Comparison.{Comparison}
+use Rattle.tables.specs.declared.Connective.{Connective}
+use Rattle.tables.specs.declared.Connective.TheVariants.{And, Or}
+use Rattle.tables.specs.declared.Quantifier.{Quantifier}
+use Rattle.tables.specs.declared.Quantifier.TheVariants.{Some, All}
 
 -- how many row entries a sound card may have around one another
 abbrev pub most_row_entries : ℕ
 most_row_entries = 3
 
 -- what unknown counts as: no (false-interpreted), or yes (true-interpreted)
-pub data Interpretation : Type 0 where
-  AsNo AsYes : Interpretation
 
 abbrev pub unknown_says : Interpretation → Bool
 unknown_says AsNo = false
@@ -19,9 +26,6 @@ unknown_says AsYes = true
 
 -- an entry without inner ones. CompareLeaf AsNo and AsYes: the comparisons of kinds 5 and 6. MarkLeaf Null and NotNull: blank and not blank, kinds 7
 -- and 8. MarkLeaf IsDeclined and NotDeclined: declined and not declined, kinds 9 and 10 (document 02, Point 4).
-pub data Leaf : Type 0 where
-  CompareLeaf : Interpretation → Comparison → Value → Value → Leaf
-  MarkLeaf : MarkTest → Value → Leaf
 
 -- an entry with its inner ones. PairEntry And and Or: kinds 1 and 2. RowEntry Some and All: kinds 3 and 4, over the rows of a table.
 pub data Card : Type 0 where

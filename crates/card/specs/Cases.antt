@@ -1,8 +1,14 @@
 -- Cards at the edges of soundness, cards with files at the edges of the refusals, and what each kind of entry answers.
 use Rattle.std.specs.Prelude.{Bool, true, false, List, [], ◌∷◌, ◌++◌, map, ℕ, zero, suc, pos, length, take, drop, set}
 use Rattle.tables.specs.Refusals.{Answer, Refused, Given, Lent}
-use Rattle.tables.specs.Values.{Value, Constant, Column, Or, Some, All, MarkTest, Null, NotNull, IsDeclined, NotDeclined}
-use Rattle.card.specs.Card.{MarkLeaf, Card, LeafEntry, PairEntry, RowEntry}
+use Rattle.tables.specs.declared.Value.{Value}
+use Rattle.tables.specs.declared.Value.TheVariants.{Constant, Column}
+use Rattle.tables.specs.declared.Connective.TheVariants.{Or}
+use Rattle.tables.specs.declared.Quantifier.TheVariants.{Some, All}
+use Rattle.tables.specs.declared.MarkTest.{MarkTest}
+use Rattle.tables.specs.declared.MarkTest.TheVariants.{Null, NotNull, IsDeclined, NotDeclined}
+use Rattle.card.specs.Card.{Card, LeafEntry, PairEntry, RowEntry}
+use Rattle.card.specs.declared.Leaf.TheVariants.{MarkLeaf}
 use Rattle.card.specs.Layout.{card_bytes}
 use Rattle.card.specs.Calls.{run_call, list_call}
 

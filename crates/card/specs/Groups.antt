@@ -1,7 +1,9 @@
 -- The kinds of entries by groups, for what functions require of the number of a kind. The contract of a public call cites nothing of this file.
 use Rattle.std.specs.Prelude.{◌≡◌, ◌⊎◌, ℕ}
-use Rattle.tables.specs.Values.{Connective, Quantifier, MarkTest}
-use Rattle.card.specs.Card.{Interpretation}
+use Rattle.tables.specs.declared.Connective.{Connective}
+use Rattle.tables.specs.declared.Quantifier.{Quantifier}
+use Rattle.tables.specs.declared.MarkTest.{MarkTest}
+use Rattle.card.specs.declared.Interpretation.{Interpretation}
 use Rattle.card.specs.Layout.{pair_kind, row_kind, comparison_kind, mark_kind}
 
 -- the number of an entry with two inner ones

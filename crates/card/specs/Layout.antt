@@ -3,8 +3,25 @@ use Rattle.std.specs.Prelude.{Bool, true, false, cond, ◌&&◌, ◌||◌, List,
 use Rattle.std.proofs.Math.Option.{Option, none, some}
 use Rattle.tables.specs.Lists.{tabulate, numbered, any, all, only, ◌>>=◌}
 use Rattle.tables.specs.Bytes.{between, byte_at, word16, word32, bytes16, bytes32, signed, bits}
-use Rattle.tables.specs.Values.{constant_tag, Value, Constant, Column, unused_value, any_value, Uses, Comparison, Eq, comparison_number, comparison_of, Connective, And, Or, Quantifier, Some, All, MarkTest, Null, NotNull, IsDeclined, NotDeclined}
-use Rattle.card.specs.Card.{Interpretation, AsNo, AsYes, Leaf, CompareLeaf, MarkLeaf, Card, LeafEntry, PairEntry, RowEntry, entries}
+use Rattle.card.specs.declared.Kind.{Kind}
+use Rattle.card.specs.declared.Kind.TheVariants.{PairKind, RowKind, ComparisonKind, MarkKind}
+use Rattle.card.specs.declared.Head.{Head}
+use Rattle.card.specs.declared.Head.TheVariants.{LeafHead, PairHead, RowHead}
+use Rattle.tables.specs.Values.{constant_tag, unused_value, any_value, Uses, comparison_number, comparison_of}
+use Rattle.tables.specs.declared.Value.{Value}
+use Rattle.tables.specs.declared.Value.TheVariants.{Constant, Column}
+use Rattle.tables.specs.declared.Comparison.{Comparison}
+use Rattle.tables.specs.declared.Comparison.TheVariants.{Eq}
+use Rattle.tables.specs.declared.Connective.{Connective}
+use Rattle.tables.specs.declared.Connective.TheVariants.{And, Or}
+use Rattle.tables.specs.declared.Quantifier.{Quantifier}
+use Rattle.tables.specs.declared.Quantifier.TheVariants.{Some, All}
+use Rattle.tables.specs.declared.MarkTest.{MarkTest}
+use Rattle.tables.specs.declared.MarkTest.TheVariants.{Null, NotNull, IsDeclined, NotDeclined}
+use Rattle.card.specs.Card.{Card, LeafEntry, PairEntry, RowEntry, entries}
+use Rattle.card.specs.declared.Leaf.TheVariants.{CompareLeaf, MarkLeaf}
+use Rattle.card.specs.declared.Interpretation.{Interpretation}
+use Rattle.card.specs.declared.Interpretation.TheVariants.{AsNo, AsYes}
 
 -- the bytes of one record
 abbrev pub record_size : ℕ
@@ -28,12 +45,6 @@ abbrev pub right_place : ℕ
 right_place = 9
 
 -- ---- the kinds
-
-pub data Kind : Type 0 where
-  PairKind : Connective → Kind
-  RowKind : Quantifier → Kind
-  ComparisonKind : Interpretation → Kind
-  MarkKind : MarkTest → Kind
 
 -- 'Kinds: 1 and, 2 or, 3 some row, 4 every row, 5 comparison where unknown counts as no, 6 where unknown counts as yes, 7 blank, 8 not blank';
 -- and of document 02, Point 4: 'the card kinds 9 (declined) and 10 (not declined)'
@@ -78,11 +89,6 @@ uses (ComparisonKind u) = record { table = false; comparison = true; left = true
 uses (MarkKind m) = record { table = false; comparison = false; left = true; right = false }
 
 -- ---- what an entry says by itself
-
-pub data Head : Type 0 where
-  LeafHead : Leaf → Head
-  PairHead : Connective → Head
-  RowHead : Quantifier → ℕ → Head
 
 abbrev pub kind_of : Head → Kind
 kind_of (PairHead j) = PairKind j

@@ -1,5 +1,3 @@
-pub mod Signed
 pub mod Cells
-pub mod Holding
 pub mod Valid
 pub mod Told

@@ -1,16 +1,16 @@
 -- The answers of the test of a tables file.
 use mathlib.Core.Path.{◌≡◌, refl, sym, ap, ◌∙◌}
 use mathlib.Core.Bool.{Bool, true, false}
+use Rattle.std.specs.Prelude.{Result, Ok, Err}
 use mathlib.Core.List.{List}
 use mathlib.Core.Option.{Option, none, some}
 use Prim.Native.Nat.{ℕ}
 use native.Mathlib.Omega.{arith}
-use Rattle.tables.specs.Tables.{sizes_fit, marks_fit}
+use Rattle.tables.specs.Tables.{sizes_fit}
 use Rattle.tables.specs.Refusals.{first_applying, Refused, Given, unless, tables_refusals, tables_call}
-use Rattle.cells.specs.Reasons.{reason_number, validity_answer}
+use Rattle.cells.specs.Reasons.{reason_number, answer_of}
 use Rattle.cells.specs.Code.{Sized}
 use Rattle.cells.specs.declared.Reason.{Reason}
-use Rattle.cells.specs.declared.Validity.{Validity}
 use Rattle.cells.proofs.Cells.{sized_is}
 
 module _ {A : Type 0} (f : Unit {0} → A) where
@@ -26,17 +26,9 @@ module _ {A : Type 0} (f : Unit {0} → A) where
   refused_some (some m) e = cc
 
 module _ (file : List ℕ) where
-  pub refused_sizes : sizes_fit file ≡ false → Refused 1 ≡ tables_call file
+  refused_sizes : sizes_fit file ≡ false → Refused 1 ≡ tables_call file
   unfolding tables_call tables_refusals first_applying unless
   refused_sizes e = rw e
-
-  pub refused_marks : sizes_fit file ≡ true → marks_fit file ≡ false → Refused 2 ≡ tables_call file
-  unfolding tables_call tables_refusals first_applying unless
-  refused_marks p e = rw (p, e)
-
-  pub given_valid : sizes_fit file ≡ true → marks_fit file ≡ true → Given tt ≡ tables_call file
-  unfolding tables_call tables_refusals first_applying unless
-  given_valid p q = rw (p, q)
 
   valid_none : Given tt ≡ tables_call file → first_applying (tables_refusals file) ≡ none
   unfolding tables_call
@@ -55,13 +47,13 @@ module _ (file : List ℕ) where
       go false p = let q = refused_sizes p in let z : ◌≡◌ {A = ℕ} 0 1 = cc in absurd (omega arith)
 
 -- what the function that tests a file answers, for those who call it
-module _ (file : List ℕ) (r : Validity) where
-  pub tables_refuse : (x : Reason) → r ≡ Validity.Invalid x → validity_answer r ≡ tables_call file → first_applying (tables_refusals file) ≡ some (reason_number x)
-  tables_refuse x e p = invalid_some file (sym (ap validity_answer e) ∙ p)
+module _ (file : List ℕ) (r : Result (Unit {0}) Reason) where
+  pub tables_refuse : (x : Reason) → r ≡ Err x → answer_of r ≡ tables_call file → first_applying (tables_refusals file) ≡ some (reason_number x)
+  tables_refuse x e p = invalid_some file (sym (ap answer_of e) ∙ p)
 
-  module _ (e : r ≡ Validity.Valid) (p : validity_answer r ≡ tables_call file) where
+  module _ {u : Unit {0}} (e : r ≡ Ok u) (p : answer_of r ≡ tables_call file) where
     valid : Given tt ≡ tables_call file
-    valid = sym (ap validity_answer e) ∙ p
+    valid = sym (ap answer_of e) ∙ p
 
     pub tables_pass : first_applying (tables_refusals file) ≡ none
     tables_pass = valid_none file valid

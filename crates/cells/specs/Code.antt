@@ -1,39 +1,17 @@
 -- What the functions of src/ promise one another, in the terms of the code: places in bytes and in arrays. No contract of a
 -- public call cites this file.
-use Rattle.std.specs.Prelude.{◌≡◌, List, [], ◌∷◌, ℕ, zero, suc, ◌+◌, ◌*◌, ◌/◌, ◌%◌, ◌-◌, ◌<◌, ◌≤◌, ℤ, pos, negsuc, length, get_or}
-use Rattle.std.proofs.Math.IntN.{sub_ℕ}
+use Rattle.std.specs.Prelude.{◌≡◌, List, ℕ, suc, ◌+◌, ◌<◌, ◌≤◌, length, get_or}
 use Rattle.tables.specs.Tables.{most_tables, most_columns, most_rows, most_cells, Cell, cell_marked, table_count, size_at, cells_before, cell_count, values_at, marks_at}
 use Rattle.cells.specs.declared.Seen.{Seen}
 use Rattle.cells.specs.declared.Place.{Place}
+use Rattle.cells.specs.declared.Extent.{Extent}
+use Rattle.cells.specs.declared.Layout.{Layout}
 
--- ---- numbers with a sign
+-- ---- numbers
 
 -- how many numbers 32 bits can tell apart
 abbrev pub words32 : ℕ
 words32 = 4294967296
-
--- what a signed number of 32 bits is kept plus: 2 ^ 31
-abbrev pub excess_added : ℕ
-excess_added = 2147483648
-
--- a number of 32 bits in the order of the signed numbers: the signed number plus 2 ^ 31
-abbrev pub excess : ℕ → ℕ
-excess n = (n + excess_added) % words32
-
--- and the signed number back
-abbrev pub from_excess : ℕ → ℤ
-from_excess n = sub_ℕ n excess_added
-
-abbrev pub to_excess : ℤ → ℕ
-to_excess (pos n) = n + excess_added
-to_excess (negsuc n) = excess_added - 1 - n
-
--- ---- arrays
-
--- the first n elements of a list are those of g, and have 32 bits
-pub record Holds (l : List ℕ) (n : ℕ) (g : ℕ → ℕ) : Type 0 where
-  pub at : (q : ℕ) → q < n → get_or l q 0 ≡ g q
-  pub small : (q : ℕ) → q < n → get_or l q 0 < words32
 
 -- ---- a tables file
 
@@ -51,26 +29,26 @@ pub record Sized (file : List ℕ) : Type 0 where
   pub cells_high : cell_count file ≤ most_cells
   pub long : length file ≡ marks_at file + cell_count file
 
--- the three numbers of table t: its first cell, its columns and its rows; of no table: where the values start, where the marks start, all cells
-abbrev pub places_of : List ℕ → ℕ → List ℕ
-places_of file zero = values_at file ∷ marks_at file ∷ cell_count file ∷ []
-places_of file (suc j) = cells_before file j ∷ (size_at file j).columns ∷ (size_at file j).rows ∷ []
+-- where the cells of a table stand among those of its file; here j counts the tables from 0
+abbrev pub extent_of : List ℕ → ℕ → Extent
+extent_of file j = record { first = cells_before file j; columns = (size_at file j).columns; rows = (size_at file j).rows }
 
--- how long such an array is: three numbers for each table that there may be, and three more
-abbrev pub places_size : ℕ
-places_size = 3 * most_tables + 3
+-- that of no table
+abbrev pub no_extent : Extent
+no_extent = record { first = 0; columns = 0; rows = 0 }
 
-unfoldable pub place_of : List ℕ → ℕ → ℕ
-place_of file q = get_or (places_of file (q / 3)) (q % 3) 0
+-- the layout of a file
+pub record Places (file : List ℕ) (layout : Layout) : Type 0 where
+  pub values : layout.values ≡ values_at file
+  pub marks : layout.marks ≡ marks_at file
+  pub tables : (j : ℕ) → j < table_count file → get_or layout.tables (suc j) no_extent ≡ extent_of file j
 
--- the array g has them for the tables of a file
-abbrev pub Places : List ℕ → List ℕ → Type 0
-Places file g = Holds g (3 * table_count file + 3) (place_of file)
-
--- where table t stands, by such an array
-abbrev pub place_in : List ℕ → ℕ → Place
-place_in g t = record { values = get_or g 0 0; marks = get_or g 1 0; first = get_or g (3 * t) 0; columns = get_or g (3 * t + 1) 0; rows = get_or g (3 * t + 2) 0 }
+-- where table t stands, by such a layout
+abbrev pub place_in : Layout → ℕ → Place
+place_in layout t =
+    let table = get_or layout.tables t no_extent in
+    record { values = layout.values; marks = layout.marks; first = table.first; columns = table.columns; rows = table.rows }
 
 -- the cell that was seen
 abbrev pub seen_cell : Seen → Cell
-seen_cell s = cell_marked s.mark (from_excess s.number)
+seen_cell s = cell_marked s.mark s.number

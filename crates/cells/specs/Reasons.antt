@@ -1,12 +1,8 @@
--- The answers that the code gives as enums: what each case stands for.
-use Rattle.std.specs.Prelude.{ℕ}
+-- The answers that the code gives: what each case stands for.
+use Rattle.std.specs.Prelude.{ℕ, Result, Ok, Err}
 use Rattle.tables.specs.Refusals.{Answer, Refused, Given}
 use Rattle.cells.specs.declared.Reason.{Reason}
 use Rattle.cells.specs.declared.Reason.TheVariants.{Sizes, Mark, TextLength, Token, Brackets, Grammar, Limits, Names, Unsound, Columns, Row, Short, Entries, Fields, TooMany}
-use Rattle.cells.specs.declared.Made.{Made}
-use Rattle.cells.specs.declared.Made.TheVariants.{Bytes, NotMade}
-use Rattle.cells.specs.declared.Validity.{Validity}
-use Rattle.cells.specs.declared.Validity.TheVariants.{Valid, Invalid}
 
 -- 'Gate says why not': the number in the table for each reason to refuse; 13 is of document 02, Point 1, 14 and 15 are of Point 2
 abbrev pub reason_number : Reason → ℕ
@@ -26,12 +22,7 @@ reason_number Entries = 13
 reason_number Fields = 14
 reason_number TooMany = 15
 
--- a tables file is valid, or is refused for a reason
-abbrev pub validity_answer : Validity → Answer (Unit {0})
-validity_answer Valid = Given tt
-validity_answer (Invalid x) = Refused (reason_number x)
-
--- the calls that write bytes, CARD, IMPORT and EXPORT: how many bytes the answer has, or the call is refused for a reason
-abbrev pub made_answer : Made → Answer ℕ
-made_answer (Bytes n) = Given n
-made_answer (NotMade x) = Refused (reason_number x)
+-- what a call answers: what it gives, or the number of the reason for which it refuses
+abbrev pub answer_of : {A : Type 0} → Result A Reason → Answer A
+answer_of (Ok a) = Given a
+answer_of (Err x) = Refused (reason_number x)

@@ -3,11 +3,11 @@
 
 ghost use Rattle.std.specs.Prelude.{◌≡◌, ◌+◌, ◌*◌, ◌<◌, ◌≤◌, length};
 ghost use Rattle.tables.specs.Lists.{placed};
-ghost use Rattle.tables.specs.Bytes.{byte_at, word16, word32};
+ghost use Rattle.tables.specs.Bytes.{byte_at, word16, word32, signed};
 ghost use Rattle.tables.specs.Tables.{most_tables, size_at, cell_count, sizes_fit, size_fits, marks_fit};
 ghost use Rattle.tables.specs.Refusals.{tables_call};
-ghost use Rattle.cells.specs.Reasons.{reason_number, validity_answer};
-ghost use Rattle.cells.specs.Code.{words32, excess, Sized, places_size, Places, place_in};
+ghost use Rattle.cells.specs.Reasons.{reason_number, answer_of};
+ghost use Rattle.cells.specs.Code.{words32, Sized, Places, place_in};
 
 // Limits on a tables file.
 pub const MOST_TABLES: usize = 8;
@@ -27,14 +27,8 @@ pub const DECLINED_MARK: u8 = 2;
 
 pub const HIGHEST_MARK: u8 = DECLINED_MARK;
 
-// How many numbers tell where the tables of a file stand.
-pub const PLACES: usize = 3 * MOST_TABLES + 3;
-
-// A signed number of 32 bits is kept plus this, so that signed numbers are compared as unsigned ones.
-pub const EXCESS: usize = 2147483648;
-
 // Why a call refuses, in the order of the published numbers. Which reason comes first in a call is another order, that of its refusals.
-#[derive(Clone, Copy)]
+#[derive(Clone, Copy, PartialEq, Eq)]
 pub enum Reason {
     Sizes,
     Mark,
@@ -54,25 +48,27 @@ pub enum Reason {
 }
 
 // The published number of a reason.
-pub fn refusal_number(x: Reason) -> u32
-    ensures { result ≡ reason_number x }
-{
-    match x {
-        Reason::Sizes => 1,
-        Reason::Mark => 2,
-        Reason::TextLength => 3,
-        Reason::Token => 4,
-        Reason::Brackets => 5,
-        Reason::Grammar => 6,
-        Reason::Limits => 7,
-        Reason::Names => 8,
-        Reason::Unsound => 9,
-        Reason::Columns => 10,
-        Reason::Row => 11,
-        Reason::Short => 12,
-        Reason::Entries => 13,
-        Reason::Fields => 14,
-        Reason::TooMany => 15,
+impl From<Reason> for u32 {
+    fn from(reason: Reason) -> u32
+        ensures { result ≡ reason_number reason }
+    {
+        match reason {
+            Reason::Sizes => 1,
+            Reason::Mark => 2,
+            Reason::TextLength => 3,
+            Reason::Token => 4,
+            Reason::Brackets => 5,
+            Reason::Grammar => 6,
+            Reason::Limits => 7,
+            Reason::Names => 8,
+            Reason::Unsound => 9,
+            Reason::Columns => 10,
+            Reason::Row => 11,
+            Reason::Short => 12,
+            Reason::Entries => 13,
+            Reason::Fields => 14,
+            Reason::TooMany => 15,
+        }
     }
 }
 
@@ -91,7 +87,7 @@ pub fn read16(bytes: &[u8], i: usize) -> usize
     ensures is { result ≡ word16 bytes.now i }
     ensures small { result < 65536 }
 {
-    byte(bytes, i) + 256 * byte(bytes, i + 1)
+    u16::from_le_bytes([bytes[i], bytes[i + 1]]) as usize
 }
 
 // The number of the four bytes from i on.
@@ -100,20 +96,15 @@ pub fn read32(bytes: &[u8], i: usize) -> usize
     ensures is { result ≡ word32 bytes.now i }
     ensures small { result < words32 }
 {
-    byte(bytes, i)
-        + 256 * byte(bytes, i + 1)
-        + 65536 * byte(bytes, i + 2)
-        + 16777216 * byte(bytes, i + 3)
+    u32::from_le_bytes([bytes[i], bytes[i + 1], bytes[i + 2], bytes[i + 3]]) as usize
 }
 
-// The signed number of the four bytes from i on, plus EXCESS.
-pub fn read_excess(bytes: &[u8], i: usize) -> usize
+// The signed number of the four bytes from i on.
+pub fn read_signed(bytes: &[u8], i: usize) -> i32
     requires { i + 3 < length bytes.now }
-    ensures is { result ≡ excess (word32 bytes.now i) }
-    ensures small { result < words32 }
-    ensures whole { word32 bytes.now i < words32 }
+    ensures { result ≡ signed (word32 bytes.now i) }
 {
-    (read32(bytes, i) + EXCESS) % 4294967296
+    (read32(bytes, i) as u32).cast_signed()
 }
 
 // Other bytes, from place i on.
@@ -121,11 +112,7 @@ pub fn put_bytes(bytes: &mut [u8], i: usize, from: &[u8])
     requires { i + length from.now ≤ length bytes.old }
     ensures { bytes.new ≡ placed bytes.old i from.now }
 {
-    let mut k: usize = 0;
-    while k < from.len() {
-        bytes[i + k] = from[k];
-        k += 1;
-    }
+    bytes[i..i + from.len()].copy_from_slice(from);
 }
 
 // The columns of a table; j counts the tables from 0.
@@ -151,47 +138,28 @@ fn size_fits(file: &[u8], j: usize) -> bool
     requires { 3 + 3 * j < length file.now }
     ensures { result ≡ size_fits (size_at file.now j) }
 {
-    let columns = table_columns(file, j);
-    if columns < 1 {
-        return false;
-    }
-    if MOST_COLUMNS < columns {
-        return false;
-    }
-    table_rows(file, j) <= MOST_ROWS
+    (1..=MOST_COLUMNS).contains(&table_columns(file, j)) && table_rows(file, j) <= MOST_ROWS
 }
 
 // Whether sizes and length are right: refusal 1 does not apply.
 fn sizes_fit(file: &[u8]) -> bool
     ensures { result ≡ sizes_fit file.now }
 {
-    if file.len() == 0 {
+    if file.is_empty() {
         return false;
     }
     let n = byte(file, 0);
-    if n < 1 {
-        return false;
-    }
-    if MOST_TABLES < n {
-        return false;
-    }
-    if file.len() <= 3 * n {
+    if !(1..=MOST_TABLES).contains(&n) || file.len() <= 3 * n {
         return false;
     }
     let mut cells: usize = 0;
-    let mut j: usize = 0;
-    while j < n {
-        let fits = size_fits(file, j);
-        if !fits {
+    for j in 0..n {
+        if !size_fits(file, j) {
             return false;
         }
         cells += table_rows(file, j) * table_columns(file, j);
-        j += 1;
     }
-    if MOST_CELLS < cells {
-        return false;
-    }
-    file.len() == 1 + 3 * n + 5 * cells
+    cells <= MOST_CELLS && file.len() == 1 + 3 * n + 5 * cells
 }
 
 // The cells of all tables.
@@ -210,68 +178,72 @@ fn marks_fit(file: &[u8]) -> bool
     let cells = cell_count(file);
     let first = file.len() - cells;
     let mut highest: u8 = 0;
-    let mut k: usize = 0;
-    while k < cells {
-        let mark = file[first + k];
-        if highest < mark {
-            highest = mark;
-        }
-        k += 1;
+    for &mark in &file[first..] {
+        highest = highest.max(mark);
     }
     highest <= HIGHEST_MARK
 }
 
-// Whether a tables file is valid.
-#[derive(Clone, Copy)]
-pub enum Validity {
-    Valid,
-    Invalid(Reason),
-}
-
 // A tables file by itself: refusals 1 and 2, which every call that is given one tries first.
-pub fn check_tables(file: &[u8]) -> Validity
-    ensures { validity_answer result ≡ tables_call file.now }
+#[tactic(auto, unfolding(tables::specs::Refusals::tables_call, tables::specs::Refusals::tables_refusals, tables::specs::Refusals::first_applying, tables::specs::Refusals::unless))]
+pub fn check_tables(file: &[u8]) -> Result<(), Reason>
+    ensures { answer_of result ≡ tables_call file.now }
 {
-    let sizes = sizes_fit(file);
-    if !sizes {
-        return Validity::Invalid(Reason::Sizes);
+    if !sizes_fit(file) {
+        return Err(Reason::Sizes);
     }
-    let marks = marks_fit(file);
-    if !marks {
-        return Validity::Invalid(Reason::Mark);
+    if !marks_fit(file) {
+        return Err(Reason::Mark);
     }
-    Validity::Valid
+    Ok(())
 }
 
-// How many bytes a call has written into a lent buffer, or why none.
+// Where the cells of one table stand among those of its file: the number of the first, and how many columns and rows there are.
 #[derive(Clone, Copy)]
-pub enum Made {
-    Bytes(usize),
-    NotMade(Reason),
+pub struct Extent {
+    pub first: usize,
+    pub columns: usize,
+    pub rows: usize,
 }
 
-// Where the tables of a file stand: where its values start, where its marks start, and all cells; then of each table its first cell, columns, rows, so
-// that those of table t are at 3 t.
-pub fn places(file: &[u8], g: &mut [usize; PLACES])
-    requires fact_1 { Sized file.now }
-    requires fact_2 { length g.old ≡ places_size }
-    ensures { Places file.now g.new }
+// How many extents a layout has: tables are numbered from 1, and the extent at 0 is that of no table.
+const EXTENTS: usize = 1 + MOST_TABLES;
+
+// Where the tables of a file stand: where its values and where its marks start, and the extent of each table, by its number.
+#[derive(Clone, Copy)]
+pub struct Layout {
+    pub values: usize,
+    pub marks: usize,
+    pub tables: [Extent; EXTENTS],
+}
+
+// The layout of a file.
+pub fn layout_of(file: &[u8]) -> Layout
+    requires { Sized file.now }
+    ensures { Places file.now result }
 {
     let n = byte(file, 0);
-    let cells = cell_count(file);
-    g[0] = 1 + 3 * n;
-    g[1] = 1 + 3 * n + 4 * cells;
-    g[2] = cells;
+    let none = Extent {
+        first: 0,
+        columns: 0,
+        rows: 0,
+    };
+    let mut tables = [none; EXTENTS];
     let mut first: usize = 0;
-    let mut j: usize = 0;
-    while j < n {
+    for j in 0..n {
         let columns = table_columns(file, j);
         let rows = table_rows(file, j);
-        g[3 * j + 3] = first;
-        g[3 * j + 4] = columns;
-        g[3 * j + 5] = rows;
+        tables[j + 1] = Extent {
+            first,
+            columns,
+            rows,
+        };
         first += rows * columns;
-        j += 1;
+    }
+    Layout {
+        values: 1 + 3 * n,
+        marks: 1 + 3 * n + 4 * cell_count(file),
+        tables,
     }
 }
 
@@ -286,23 +258,24 @@ pub struct Place {
     pub rows: usize,
 }
 
-// Where table t stands, from the numbers that `places` left; tables are numbered from 1.
-pub fn table_place(g: &[usize; PLACES], t: usize) -> Place
+// Where table t stands, by the layout of its file.
+pub fn table_place(layout: &Layout, t: usize) -> Place
     requires { t ≤ most_tables }
-    ensures { result ≡ place_in g.now t }
+    ensures { result ≡ place_in layout.now t }
 {
+    let table = layout.tables[t];
     Place {
-        values: g[0],
-        marks: g[1],
-        first: g[3 * t],
-        columns: g[3 * t + 1],
-        rows: g[3 * t + 2],
+        values: layout.values,
+        marks: layout.marks,
+        first: table.first,
+        columns: table.columns,
+        rows: table.rows,
     }
 }
 
-// What is seen of a cell: its mark, and its number plus 2 ^ 31.
+// What is seen of a cell: its mark, and its number.
 #[derive(Clone, Copy)]
 pub struct Seen {
     pub mark: u8,
-    pub number: usize,
+    pub number: i32,
 }

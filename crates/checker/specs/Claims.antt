@@ -1,8 +1,8 @@
 -- What proofs/ shows of these definitions.
-use Rattle.std.specs.Prelude.{◌≡◌}
-use Rattle.checker.specs.Answers.{checked_answer}
-use Rattle.checker.specs.declared.Checked.{Checked}
+use Rattle.std.specs.Prelude.{◌≡◌, Result}
+use Rattle.cells.specs.Reasons.{answer_of}
+use Rattle.cells.specs.declared.Reason.{Reason}
 
--- what CHECK's enum stands for tells its case
+-- what the result of CHECK stands for tells its case
 abbrev pub CheckedClaim : Type 0
-CheckedClaim = (x y : Checked) → checked_answer x ≡ checked_answer y → x ≡ y
+CheckedClaim = (x y : Result (Unit {0}) Reason) → answer_of x ≡ answer_of y → x ≡ y

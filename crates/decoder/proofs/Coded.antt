@@ -1,80 +1,37 @@
--- A card in an array of numbers: the entries from one number up to another, taken apart, and as the bytes have them.
+-- A card in an array of entries: the entries from one number up to another, taken apart, and as the bytes have them.
 use mathlib.Core.Path.{◌≡◌, refl, sym, ap, subst, ◌∙◌}
 use mathlib.Core.Bool.{Bool}
 use mathlib.Core.List.{List}
-use mathlib.Core.Logic.{inl, inr}
-use mathlib.Core.Option.{Option, none, some}
 use Prim.Native.Nat.{ℕ, zero, suc, ◌+◌, ◌≤◌, ◌<◌}
 use native.Mathlib.Omega.{arith}
 use borrow.Author.Tests.{eq-eqb}
 use lib.Dec.{eqb, eqb→eq}
-use Rattle.tables.specs.Lists.{only, ◌>>=◌}
-use Rattle.tables.specs.Values.{comparison_of, Connective, Quantifier}
-use Rattle.card.specs.Card.{Leaf, CompareLeaf, MarkLeaf, Card, LeafEntry, PairEntry, RowEntry}
-use Rattle.card.specs.Layout.{Kind, PairKind, RowKind, ComparisonKind, MarkKind, kind_number, kind_with, Head, LeafHead, PairHead, RowHead, kind_of, entry_count, kind_at, record_at, end_at, head_from, Taken, inside, entry_from, card_from}
-use Rattle.card.specs.Groups.{PairNumber, RowNumber, LeafNumber}
-use Rattle.decoder.specs.Code.{kind_in, end_in, table_in, comparison_in, left_in, right_in, head_by, head_at, Coded, coded_leaf, coded_pair, coded_row}
-use Rattle.card.proofs.Back.{kind_back}
-use Rattle.card.proofs.Exact.{none_some, only_some, bind_some, kind_number_lem, kind_with_lem}
-
--- ---- what an entry says by itself, by its kind
-
-module _ (d : List ℕ) (s : ℕ) where
-  pub head_at_lem : (k : Kind) → kind_in d s ≡ kind_number k → head_at d s ≡ some (head_by d s k)
-  unfolding head_at
-  head_at_lem k e = ap (λ (o : Option Kind). o >>= (λ k. some (head_by d s k))) (ap kind_with e ∙ kind_back k)
-
-  pub pair_at : (p : PairNumber (kind_in d s)) → head_at d s ≡ some (PairHead p.0)
-  pair_at p = head_at_lem (PairKind p.0) p.1
-
-  pub row_at : (p : RowNumber (kind_in d s)) → head_at d s ≡ some (RowHead p.0 (table_in d s))
-  row_at p = head_at_lem (RowKind p.0) p.1
-
-  pub leaf_at : LeafNumber (kind_in d s) → (x : Leaf) × (head_at d s ≡ some (LeafHead x))
-  leaf_at (inl (u, k)) = (_, head_at_lem (ComparisonKind u) k)
-  leaf_at (inr (m, k)) = (_, head_at_lem (MarkKind m) k)
-
-  pub none_at : kind_with (kind_in d s) ≡ none → head_at d s ≡ none
-  unfolding head_at
-  none_at e = ap (λ (o : Option Kind). o >>= (λ k. some (head_by d s k))) e
-
-  -- and back: the kind of an entry that says h
-  pub kind_is : (h : Head) → head_at d s ≡ some h → kind_in d s ≡ kind_number (kind_of h)
-  unfolding head_at
-  kind_is h e =
-      let (k, pk, q) = bind_some (kind_with (kind_in d s)) _ h e in
-      let said : head_by d s k ≡ h = cc in
-      sym (kind_number_lem (kind_in d s) k pk)
-      ∙ ap kind_number (sym (kind_with_lem (table_in d s) (comparison_of (comparison_in d s)) (left_in d s) (right_in d s) k) ∙ ap kind_of said)
-
-  pub kind_pair : (j : Connective) → head_at d s ≡ some (PairHead j) → PairNumber (kind_in d s)
-  kind_pair j e = (j, kind_is (PairHead j) e)
-
-  pub kind_row : (q : Quantifier) (t : ℕ) → head_at d s ≡ some (RowHead q t) → RowNumber (kind_in d s)
-  kind_row q t e = (q, kind_is (RowHead q t) e)
-
-  pub kind_leaf : (x : Leaf) → head_at d s ≡ some (LeafHead x) → LeafNumber (kind_in d s)
-  kind_leaf (CompareLeaf u op l r) e = inl (u, kind_is (LeafHead (CompareLeaf u op l r)) e)
-  kind_leaf (MarkLeaf m l) e = inr (m, kind_is (LeafHead (MarkLeaf m l)) e)
+use Rattle.std.proofs.Math.Option.{Option, some}
+use Rattle.tables.specs.Lists.{only}
+use Rattle.tables.specs.declared.Connective.{Connective}
+use Rattle.tables.specs.declared.Quantifier.{Quantifier}
+use Rattle.card.specs.Card.{Card, LeafEntry, PairEntry, RowEntry}
+use Rattle.card.specs.declared.Leaf.{Leaf}
+use Rattle.card.specs.Layout.{entry_count, kind_at, record_at, end_at, head_from, Taken, inside, entry_from, card_from}
+use Rattle.card.specs.declared.Head.{Head}
+use Rattle.card.specs.declared.Head.TheVariants.{LeafHead, PairHead, RowHead}
+use Rattle.decoder.specs.Code.{Decoded, end_in, head_at, Coded, coded_leaf, coded_pair, coded_row}
+use Rattle.decoder.specs.declared.Entry.{Entry}
+use Rattle.card.proofs.Exact.{none_some, only_some, bind_some}
 
 -- ---- entries taken apart
 
-pub coded_less : {d : List ℕ} {s e : ℕ} {c : Card} → Coded d s e c → s < e
+pub coded_less : {d : List Entry} {s e : ℕ} {c : Card} → Coded d s e c → s < e
 coded_less (coded_leaf h p q) = omega arith
 coded_less (coded_pair h p a b) = omega (arith, coded_less a, coded_less b)
 coded_less (coded_row h p a) = omega (arith, coded_less a)
 
-pub coded_end : {d : List ℕ} {s e : ℕ} {c : Card} → Coded d s e c → end_in d s ≡ e
+pub coded_end : {d : List Entry} {s e : ℕ} {c : Card} → Coded d s e c → end_in d s ≡ e
 coded_end (coded_leaf h p q) = p
 coded_end (coded_pair h p a b) = p
 coded_end (coded_row h p a) = p
 
-pub coded_head : {d : List ℕ} {s e : ℕ} {c : Card} → Coded d s e c → (h : Head) × (head_at d s ≡ some h)
-coded_head (coded_leaf h p q) = (_, h)
-coded_head (coded_pair h p a b) = (_, h)
-coded_head (coded_row h p a) = (_, h)
-
-pub record PairParts (d : List ℕ) (s e : ℕ) (c : Card) (j : Connective) : Type 0 where
+pub record PairParts (d : List Entry) (s e : ℕ) (c : Card) (j : Connective) : Type 0 where
   pub left : Card
   pub right : Card
   pub middle : ℕ
@@ -82,32 +39,36 @@ pub record PairParts (d : List ℕ) (s e : ℕ) (c : Card) (j : Connective) : Ty
   pub left_coded : Coded d (s + 1) middle left
   pub right_coded : Coded d middle e right
 
-pub record RowParts (d : List ℕ) (s e : ℕ) (c : Card) (q : Quantifier) (t : ℕ) : Type 0 where
+pub record RowParts (d : List Entry) (s e : ℕ) (c : Card) (q : Quantifier) (t : ℕ) : Type 0 where
   pub inner : Card
   pub is : c ≡ RowEntry q t inner
   pub inner_coded : Coded d (s + 1) e inner
 
-pub pair_of : {d : List ℕ} {s e : ℕ} {c : Card} → Coded d s e c → (j : Connective) → head_at d s ≡ some (PairHead j) → PairParts d s e c j
-pair_of (coded_leaf h p q) j g = let z : ◌≡◌ {A = ℕ} 0 1 = cc in absurd (omega arith)
+pub pair_of : {d : List Entry} {s e : ℕ} {c : Card} → Coded d s e c → (j : Connective) → head_at d s ≡ some (PairHead j) → PairParts d s e c j
+pair_of (coded_leaf h p q) j g = absurd cc
 pair_of (coded_pair {m = m} {a = a} {b = b} h p ca cb) j g =
     record { left = a; right = b; middle = m; is = cc; left_coded = ca; right_coded = cb }
-pair_of (coded_row h p a) j g = let z : ◌≡◌ {A = ℕ} 0 1 = cc in absurd (omega arith)
+pair_of (coded_row h p a) j g = absurd cc
 
-pub row_of : {d : List ℕ} {s e : ℕ} {c : Card} → Coded d s e c → (q : Quantifier) (t : ℕ) → head_at d s ≡ some (RowHead q t) → RowParts d s e c q t
-row_of (coded_leaf h p q) k t g = let z : ◌≡◌ {A = ℕ} 0 1 = cc in absurd (omega arith)
-row_of (coded_pair h p a b) k t g = let z : ◌≡◌ {A = ℕ} 0 1 = cc in absurd (omega arith)
+pub row_of : {d : List Entry} {s e : ℕ} {c : Card} → Coded d s e c → (q : Quantifier) (t : ℕ) → head_at d s ≡ some (RowHead q t) → RowParts d s e c q t
+row_of (coded_leaf h p q) k t g = absurd cc
+row_of (coded_pair h p a b) k t g = absurd cc
 row_of (coded_row {c = c} h p a) k t g = record { inner = c; is = cc; inner_coded = a }
 
-pub leaf_of : {d : List ℕ} {s e : ℕ} {c : Card} → Coded d s e c → (x : Leaf) → head_at d s ≡ some (LeafHead x) → (c ≡ LeafEntry x) × (e ≡ s + 1)
+pub leaf_of : {d : List Entry} {s e : ℕ} {c : Card} → Coded d s e c → (x : Leaf) → head_at d s ≡ some (LeafHead x) → (c ≡ LeafEntry x) × (e ≡ s + 1)
 leaf_of (coded_leaf h p q) x g = (cc, q)
-leaf_of (coded_pair h p a b) x g = let z : ◌≡◌ {A = ℕ} 0 1 = cc in absurd (omega arith)
-leaf_of (coded_row h p a) x g = let z : ◌≡◌ {A = ℕ} 0 1 = cc in absurd (omega arith)
+leaf_of (coded_pair h p a b) x g = absurd cc
+leaf_of (coded_row h p a) x g = absurd cc
 
 -- ---- the same card in the bytes
 
-module _ (card d : List ℕ)
-    (heads : (i : ℕ) → i < entry_count card → head_at d i ≡ head_from (kind_at card i) (record_at card i))
-    (ends : (i : ℕ) → i < entry_count card → end_in d i ≡ end_at card i) where
+module _ {card : List ℕ} {d : List Entry} (decoded : Decoded card d) where
+  heads : (i : ℕ) → i < entry_count card → head_at d i ≡ head_from (kind_at card i) (record_at card i)
+  heads i l = (decoded.entries i l).head_is
+
+  ends : (i : ℕ) → i < entry_count card → end_in d i ≡ end_at card i
+  ends i l = (decoded.entries i l).end_is
+
   -- an entry that is taken, where the inner ones are taken by `from`
   module _ (from : ℕ → Option Taken) (inner : (i : ℕ) (x : Taken) → from i ≡ some x → x.1 ≤ entry_count card → Coded d i x.1 x.0) (i : ℕ) where
     abbrev Done : Taken → Type 0

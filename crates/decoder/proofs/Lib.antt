@@ -1,3 +1,2 @@
-pub mod Grouped
 pub mod Decoding
 pub mod Coded

@@ -1,16 +1,19 @@
--- What the functions of src/ promise their callers, in the terms of the code: a card's entries as numbers in an array. The contract of a public call
--- cites nothing of this file.
-use Rattle.std.specs.Prelude.{◌≡◌, Bool, false, cond, List, ◌∷◌, ◌++◌, ℕ, ◌+◌, ◌*◌, ◌/◌, ◌%◌, ◌<◌, ◌≤◌, eqb, length, get_or, take, drop}
-use Rattle.std.proofs.Math.Option.{Option, none, some}
-use Rattle.tables.specs.Lists.{◌>>=◌}
-use Rattle.tables.specs.Bytes.{byte_at, word16, word32, signed, bits}
+-- What the functions of src/ promise their callers, in the terms of the code: a card's entries in an array. The contract of a public call cites nothing of
+-- this file.
+use Rattle.std.specs.Prelude.{◌≡◌, List, ℕ, ◌+◌, ◌<◌, ◌≤◌, length, get_or, None}
+use Rattle.std.proofs.Math.Option.{Option as MathOption, some}
+use Rattle.tables.specs.Bytes.{byte_at, word16}
+use Rattle.tables.specs.Options.{found}
 use Rattle.tables.specs.Tables.{most_tables, most_columns}
-use Rattle.tables.specs.Values.{most_entries, constant_tag, Value, comparison_of, Connective, Quantifier}
-use Rattle.cells.specs.Code.{excess, Holds}
-use Rattle.values.specs.Code.{held_size, held_numbers, held_at, value_in}
-use Rattle.values.specs.declared.HeldValue.{HeldValue}
-use Rattle.card.specs.Card.{Leaf, Card, LeafEntry, PairEntry, RowEntry}
-use Rattle.card.specs.Layout.{record_size, table_place, comparison_place, left_place, right_place, Kind, kind_with, uses, Head, LeafHead, PairHead, RowHead, head_with, card_length, entry_count, tables_in, kind_at, record_at, record_fits}
+use Rattle.tables.specs.Values.{most_entries}
+use Rattle.tables.specs.declared.Connective.{Connective}
+use Rattle.tables.specs.declared.Quantifier.{Quantifier}
+use Rattle.card.specs.Card.{Card, LeafEntry, PairEntry, RowEntry}
+use Rattle.card.specs.declared.Leaf.{Leaf}
+use Rattle.card.specs.Layout.{card_length, entry_count, tables_in, kind_at, record_at, head_from}
+use Rattle.card.specs.declared.Head.{Head}
+use Rattle.card.specs.declared.Head.TheVariants.{LeafHead, PairHead, RowHead}
+use Rattle.decoder.specs.declared.Entry.{Entry}
 
 -- ---- the layout
 
@@ -23,120 +26,42 @@ pub record Laid (card : List ℕ) : Type 0 where
   pub columns_high : (j : ℕ) → j < tables_in card → byte_at card (3 + j) ≤ most_columns
   pub long : length card ≡ card_length (tables_in card) (entry_count card)
 
--- the record from a place on
-abbrev pub record_from : List ℕ → ℕ → List ℕ
-record_from card place = take record_size (drop place card)
+-- ---- an entry, decoded
 
--- there is room for one
-abbrev pub RecordIn : List ℕ → ℕ → Type 0
-RecordIn card place = place + record_size ≤ length card
+-- stands where an array has no entry
+abbrev pub no_entry : Entry
+no_entry = record { end = 0; head = None }
 
--- ---- the order of the numbers that an entry is decoded to: its kind first, then these; and how many there are
+-- an entry is that of a record, by its kind's number
+pub record EntryOf (kind : ℕ) (r : List ℕ) (x : Entry) : Type 0 where
+  pub end_is : x.end ≡ word16 r 0
+  pub head_is : found x.head ≡ head_from kind r
 
-abbrev pub entry_end : ℕ
-entry_end = 1
-
-abbrev pub entry_table : ℕ
-entry_table = 2
-
-abbrev pub entry_comparison : ℕ
-entry_comparison = 3
-
-abbrev pub entry_left : ℕ
-entry_left = 4
-
-abbrev pub entry_right : ℕ
-entry_right = entry_left + held_size
-
-abbrev pub entry_size : ℕ
-entry_size = entry_right + held_size
-
--- where the next entry's end stands
-abbrev pub entry_next_end : ℕ
-entry_next_end = entry_size + entry_end
-
--- ---- an entry as numbers
-
--- whether the fields of a record are as its kind asks; where there is no such kind they are not
-abbrev pub kind_fits : Option Kind → List ℕ → Bool
-kind_fits none r = false
-kind_fits (some k) r = record_fits (uses k) r
-
--- the same by the kind's number
-unfoldable pub fields_fit : ℕ → List ℕ → Bool
-fields_fit kind r = kind_fits (kind_with kind) r
-
--- its kind, and 0 where they are not
-unfoldable pub known_kind : ℕ → List ℕ → ℕ
-known_kind kind r = cond (fields_fit kind r) kind 0
-
--- a value's number: a constant plus 2 ^ 31, or a column
-unfoldable pub number_in : ℕ → ℕ → ℕ
-number_in tag raw = cond (eqb tag constant_tag) (excess (bits (signed raw))) raw
-
-abbrev pub number_from : List ℕ → ℕ → ℕ
-number_from r i = number_in (byte_at r i) (word32 r (i + 1))
-
--- the value of a record's bytes from place i on, as it is held
-abbrev pub held_from : List ℕ → ℕ → HeldValue
-held_from r i = record { tag = byte_at r i; number = number_from r i }
-
--- kind, end, table, comparison, and two values
-unfoldable pub fields_of : List ℕ → ℕ → List ℕ
-fields_of card i =
-    let r = record_at card i in
-    known_kind (kind_at card i) r
-    ∷ word16 r 0
-    ∷ byte_at r table_place
-    ∷ byte_at r comparison_place
-    ∷ (held_numbers (held_from r left_place) ++ held_numbers (held_from r right_place))
-
-unfoldable pub field_of : List ℕ → ℕ → ℕ
-field_of card q = get_or (fields_of card (q / entry_size)) (q % entry_size) 0
-
--- if a card is laid out, the array d has room for them
-abbrev pub Roomy : List ℕ → List ℕ → Type 0
-Roomy card d = Laid card → entry_size * entry_count card ≤ length d
+-- if a card is laid out, the array d has room for its entries
+abbrev pub Roomy : List ℕ → List Entry → Type 0
+Roomy card d = Laid card → entry_count card ≤ length d
 
 -- d has them
-pub record Decoded (card d : List ℕ) : Type 0 where
-  pub room : entry_size * entry_count card ≤ length d
-  pub fields : Holds d (entry_size * entry_count card) (field_of card)
+pub record Decoded (card : List ℕ) (d : List Entry) : Type 0 where
+  pub room : entry_count card ≤ length d
+  pub entries : (i : ℕ) → i < entry_count card → EntryOf (kind_at card i) (record_at card i) (get_or d i no_entry)
 
 -- ---- the entries of an array
 
-module _ (d : List ℕ) (i : ℕ) where
-  abbrev pub kind_in : ℕ
-  kind_in = get_or d (entry_size * i) 0
-
+module _ (d : List Entry) (i : ℕ) where
   abbrev pub end_in : ℕ
-  end_in = get_or d (entry_size * i + entry_end) 0
+  end_in = (get_or d i no_entry).end
 
   -- the end of the entry after entry i
   abbrev pub next_end_in : ℕ
-  next_end_in = get_or d (entry_size * i + entry_next_end) 0
+  next_end_in = (get_or d (i + 1) no_entry).end
 
-  abbrev pub table_in : ℕ
-  table_in = get_or d (entry_size * i + entry_table) 0
-
-  abbrev pub comparison_in : ℕ
-  comparison_in = get_or d (entry_size * i + entry_comparison) 0
-
-  abbrev pub left_in : Value
-  left_in = value_in (held_at d (entry_size * i + entry_left))
-
-  abbrev pub right_in : Value
-  right_in = value_in (held_at d (entry_size * i + entry_right))
-
-  -- what entry i says by itself, were it of this kind; and what it says by the kind that it has
-  abbrev pub head_by : Kind → Head
-  head_by k = head_with k table_in (comparison_of comparison_in) left_in right_in
-
-  unfoldable pub head_at : Option Head
-  head_at = kind_with kind_in >>= (λ k. some (head_by k))
+  -- what entry i says by itself
+  abbrev pub head_at : MathOption Head
+  head_at = found (get_or d i no_entry).head
 
 -- the entries from number i up to e are a card: one entry with its inner ones
-pub data Coded (d : List ℕ) : ℕ → ℕ → Card → Type 0 where
+pub data Coded (d : List Entry) : ℕ → ℕ → Card → Type 0 where
   coded_leaf : {i e : ℕ} {x : Leaf} → head_at d i ≡ some (LeafHead x) → end_in d i ≡ e → e ≡ i + 1 → Coded d i e (LeafEntry x)
   coded_pair : {i m e : ℕ} {j : Connective} {a b : Card} → head_at d i ≡ some (PairHead j) → end_in d i ≡ e → Coded d (i + 1) m a → Coded d m e b
       → Coded d i e (PairEntry j a b)

@@ -1,75 +1,58 @@
-// A card's layout, and its entries as numbers, for whoever checks or runs it.
-// Short names: d, the decoded entries; r, where a record starts.
+// A card's layout, and its entries decoded, for whoever checks or runs it.
+// Short names: d, the decoded entries; bytes, those of a record.
 #![tactic(auto)]
 
-ghost use Rattle.std.specs.Prelude.{◌≡◌, ◌+◌, ◌<◌, ◌≤◌, length};
+ghost use Rattle.std.specs.Prelude.{◌≡◌, ◌+◌, ◌≤◌, List, eqb, length};
+ghost use Rattle.std.specs.Fn.{CalledAtMut};
 ghost use Rattle.tables.specs.Lists.{all};
 ghost use Rattle.tables.specs.Bytes.{between};
+ghost use Rattle.tables.specs.Options.{found};
 ghost use Rattle.tables.specs.Tables.{most_columns};
-ghost use Rattle.card.specs.Layout.{record_size, value_size, tables_in, columns_in, zeros};
+ghost use Rattle.card.specs.Layout.{record_size, value_size, kind_with, uses, value_from, record_fits, head_in, head_from};
 ghost use Rattle.card.specs.Sound.{laid};
-ghost use Rattle.cells.specs.Code.{words32};
-ghost use Rattle.values.specs.Code.{Held32};
-ghost use Rattle.decoder.specs.Code.{Laid, record_from, RecordIn, fields_fit, known_kind, number_from, held_from, Roomy, Decoded};
+ghost use Rattle.decoder.specs.declared.Entry.{Entry};
+ghost use Rattle.decoder.specs.Code.{Laid, EntryOf, Roomy, Decoded};
 
 use card::{
     AND_ENTRY, BLANK, COMPARISON_OR_NO, COMPARISON_OR_YES, COMPARISON_PLACE, DECLINED, EVERY_ROW,
-    LEFT_PLACE, NOT_BLANK, NOT_DECLINED, OR_ENTRY, RECORD_SIZE, RIGHT_PLACE, SOME_ROW, TABLE_PLACE,
+    Head, Interpretation, Kind, LEFT_PLACE, Leaf, NOT_BLANK, NOT_DECLINED, OR_ENTRY, RECORD_SIZE,
+    RIGHT_PLACE, SOME_ROW, TABLE_PLACE,
 };
-use cells::{MOST_TABLES, byte, read_excess, read16, read32};
-use tables::MOST_ENTRIES;
-use values::{CONSTANT, HELD_NUMBERS, HeldValue, put_held};
+use cells::{MOST_COLUMNS, MOST_TABLES, byte, read_signed, read16, read32};
+use tables::{Connective, MOST_ENTRIES, MarkTest, Quantifier, Value};
+use values::comparison_of;
 
-// The numbers that an entry is decoded to, and those of all entries.
-pub const FIELDS: usize = RIGHT + HELD_NUMBERS;
+// An entry: the number of the entry after it and its inner ones, and what it says by itself: none where the record is not as its kind asks or there is no such
+// kind.
+#[derive(Clone, Copy)]
+pub struct Entry {
+    pub end: usize,
+    pub head: Option<Head>,
+}
 
-pub const DECODED: usize = FIELDS * MOST_ENTRIES;
+// Stands where an array has no entry.
+pub const NO_ENTRY: Entry = Entry { end: 0, head: None };
 
-// A card with no more entries than these is decoded into an array that is no longer: to set the numbers of an array for all entries to 0 takes longer than
-// to run a short card.
+// The tag of a constant in a record; any other tag is the level of a column.
+const CONSTANT: u8 = 255;
+
+// A card with no more entries than these is decoded into an array that is no longer: to fill an array for all entries takes longer than to run a short card.
 const FEW_ENTRIES: usize = 16;
 
 const MIDDLE_ENTRIES: usize = 64;
 
-// The numbers of so many entries, and the bytes of the longest card that has no more.
-pub const FEW_DECODED: usize = FIELDS * FEW_ENTRIES;
+// The bytes of the longest card that has no more.
+const SHORT_CARD: usize = 3 + MOST_TABLES + (1 + RECORD_SIZE) * FEW_ENTRIES;
 
-pub const MIDDLE_DECODED: usize = FIELDS * MIDDLE_ENTRIES;
+const MIDDLE_CARD: usize = 3 + MOST_TABLES + (1 + RECORD_SIZE) * MIDDLE_ENTRIES;
 
-pub const SHORT_CARD: usize = 3 + MOST_TABLES + (1 + RECORD_SIZE) * FEW_ENTRIES;
-
-pub const MIDDLE_CARD: usize = 3 + MOST_TABLES + (1 + RECORD_SIZE) * MIDDLE_ENTRIES;
-
-// The order of an entry's numbers: its kind first, then these; and where the next entry's end stands.
-pub const END: usize = 1;
-
-pub const TABLE: usize = 2;
-
-pub const COMPARISON: usize = 3;
-
-pub const LEFT: usize = 4;
-
-pub const RIGHT: usize = LEFT + HELD_NUMBERS;
-
-pub const NEXT_END: usize = FIELDS + END;
-
-// Whether each of the n tables has 1 to 16 columns.
-fn columns_fit(card: &[u8], n: usize) -> bool
-    requires { (n ≡ tables_in card.now) × (3 + n ≤ length card.now) }
-    ensures { result ≡ all (between 1 most_columns) (columns_in card.now) }
+// Whether each table has 1 to 16 columns.
+fn columns_fit(columns: &[u8]) -> bool
+    ensures { result ≡ all (between 1 most_columns) columns.now }
 {
-    let mut j: usize = 0;
-    while j < n {
-        let columns = byte(card, 3 + j);
-        if columns < 1 {
-            return false;
-        }
-        if cells::MOST_COLUMNS < columns {
-            return false;
-        }
-        j += 1;
-    }
-    true
+    columns
+        .iter()
+        .all(|&count| (1..=MOST_COLUMNS).contains(&(count as usize)))
 }
 
 // Whether the numbers of entries, tables and columns are within the limits, and there are no spare bytes.
@@ -80,114 +63,122 @@ pub fn laid_out(card: &[u8]) -> bool
         return false;
     }
     let n = read16(card, 0);
-    if n < 1 {
-        return false;
-    }
-    if MOST_ENTRIES < n {
-        return false;
-    }
     let t = byte(card, 2);
-    if t < 1 {
-        return false;
-    }
-    if MOST_TABLES < t {
-        return false;
-    }
-    if card.len() != 3 + t + (1 + RECORD_SIZE) * n {
-        return false;
-    }
-    columns_fit(card, t)
+    (1..=MOST_ENTRIES).contains(&n)
+        && (1..=MOST_TABLES).contains(&t)
+        && card.len() == 3 + t + (1 + RECORD_SIZE) * n
+        && columns_fit(&card[3..3 + t])
 }
 
-// Whether the bytes i up to j of the record at r are 0.
-fn zero_bytes(card: &[u8], r: usize, i: usize, j: usize) -> bool
-    requires fact_1 { RecordIn card.now r }
-    requires fact_2 { (i ≤ j) × (j ≤ record_size) }
-    ensures { result ≡ zeros (record_from card.now r) i j }
+// Whether all of them are 0.
+fn zero_bytes(bytes: &[u8]) -> bool
+    ensures { result ≡ all (λ x. eqb x 0) bytes.now }
 {
-    let mut k: usize = i;
-    while k < j {
-        if byte(card, r + k) != 0 {
-            return false;
-        }
-        k += 1;
-    }
-    true
+    bytes.iter().all(|&byte| byte == 0)
 }
 
-// Whether the fields of the record at r are as its kind asks. The kind may be any byte of a card, so the last arm is reached: no record fits a byte that is no kind.
-fn fields_fit(card: &[u8], r: usize, kind: usize) -> bool
-    requires { RecordIn card.now r }
-    ensures { result ≡ fields_fit kind (record_from card.now r) }
+// Whether the fields of a record are as its kind asks.
+fn fields_fit(bytes: &[u8], kind: Kind) -> bool
+    requires { length bytes.now ≡ record_size }
+    ensures { result ≡ record_fits (uses kind) bytes.now }
 {
     match kind {
-        AND_ENTRY | OR_ENTRY => zero_bytes(card, r, TABLE_PLACE, RECORD_SIZE),
-        SOME_ROW | EVERY_ROW => zero_bytes(card, r, COMPARISON_PLACE, RECORD_SIZE),
-        COMPARISON_OR_NO | COMPARISON_OR_YES => {
-            let op = byte(card, r + COMPARISON_PLACE);
-            if op < 1 {
-                return false;
-            }
-            if 6 < op {
-                return false;
-            }
-            zero_bytes(card, r, TABLE_PLACE, COMPARISON_PLACE)
+        Kind::PairKind(_) => zero_bytes(&bytes[TABLE_PLACE..RECORD_SIZE]),
+        Kind::RowKind(_) => zero_bytes(&bytes[COMPARISON_PLACE..RECORD_SIZE]),
+        Kind::ComparisonKind(_) => {
+            (1..=6).contains(&byte(bytes, COMPARISON_PLACE))
+                && zero_bytes(&bytes[TABLE_PLACE..COMPARISON_PLACE])
         }
-        BLANK | NOT_BLANK | DECLINED | NOT_DECLINED => {
-            let before = zero_bytes(card, r, TABLE_PLACE, LEFT_PLACE);
-            if !before {
-                return false;
-            }
-            zero_bytes(card, r, RIGHT_PLACE, RECORD_SIZE)
+        Kind::MarkKind(_) => {
+            zero_bytes(&bytes[TABLE_PLACE..LEFT_PLACE])
+                && zero_bytes(&bytes[RIGHT_PLACE..RECORD_SIZE])
         }
-        _ => false,
     }
 }
 
-// The kind, or 0 where the record at r is not as it asks.
-fn known_kind(card: &[u8], r: usize, kind: usize) -> usize
-    requires fact_1 { RecordIn card.now r }
-    requires fact_2 { kind < 256 }
-    ensures is { result ≡ known_kind kind (record_from card.now r) }
-    ensures small { result < 256 }
+// The kind with a published number, if there is one.
+fn kind_of(number: usize) -> Option<Kind>
+    ensures { found result ≡ kind_with number }
 {
-    let fits = fields_fit(card, r, kind);
-    if fits {
-        return kind;
+    match number {
+        AND_ENTRY => Some(Kind::PairKind(Connective::And)),
+        OR_ENTRY => Some(Kind::PairKind(Connective::Or)),
+        SOME_ROW => Some(Kind::RowKind(Quantifier::Some)),
+        EVERY_ROW => Some(Kind::RowKind(Quantifier::All)),
+        COMPARISON_OR_NO => Some(Kind::ComparisonKind(Interpretation::AsNo)),
+        COMPARISON_OR_YES => Some(Kind::ComparisonKind(Interpretation::AsYes)),
+        BLANK => Some(Kind::MarkKind(MarkTest::Null)),
+        NOT_BLANK => Some(Kind::MarkKind(MarkTest::NotNull)),
+        DECLINED => Some(Kind::MarkKind(MarkTest::IsDeclined)),
+        NOT_DECLINED => Some(Kind::MarkKind(MarkTest::NotDeclined)),
+        _ => None,
     }
-    0
 }
 
-// The number of the value at place i of the record at r: a constant plus 2 ^ 31, or a column.
-fn number_at(card: &[u8], r: usize, i: usize) -> usize
-    requires fact_1 { RecordIn card.now r }
-    requires fact_2 { i + value_size ≤ record_size }
-    ensures is { result ≡ number_from (record_from card.now r) i }
-    ensures small { result < words32 }
+// The value at place i of a record.
+fn value_at(bytes: &[u8], i: usize) -> Value
+    requires { i + value_size ≤ length bytes.now }
+    ensures { result ≡ value_from bytes.now i }
 {
-    let tag = byte(card, r + i);
-    if tag == CONSTANT {
-        return read_excess(card, r + i + 1);
+    match bytes[i] {
+        CONSTANT => Value::Constant(read_signed(bytes, i + 1)),
+        level => Value::Column {
+            level,
+            column: read32(bytes, i + 1) as u32,
+        },
     }
-    read32(card, r + i + 1)
 }
 
-// The value at place i. The test of its tag stands in a function that gives the number alone: with a value in each of its arms the compiler would branch on
-// the tag, where it now chooses a number.
-fn value_at(card: &[u8], r: usize, i: usize) -> HeldValue
-    requires fact_1 { RecordIn card.now r }
-    requires fact_2 { i + value_size ≤ record_size }
-    ensures is { result ≡ held_from (record_from card.now r) i }
-    ensures small { Held32 result }
+// What an entry of this kind says by the fields of its record.
+fn head_of(bytes: &[u8], kind: Kind) -> Head
+    requires { length bytes.now ≡ record_size }
+    ensures { result ≡ head_in kind bytes.now }
 {
-    HeldValue {
-        tag: byte(card, r + i),
-        number: number_at(card, r, i),
+    match kind {
+        Kind::PairKind(connective) => Head::PairHead(connective),
+        Kind::RowKind(quantifier) => Head::RowHead {
+            quantifier,
+            table: bytes[TABLE_PLACE],
+        },
+        Kind::ComparisonKind(unknown) => Head::LeafHead(Leaf::CompareLeaf {
+            unknown,
+            comparison: comparison_of(byte(bytes, COMPARISON_PLACE)),
+            left: value_at(bytes, LEFT_PLACE),
+            right: value_at(bytes, RIGHT_PLACE),
+        }),
+        Kind::MarkKind(test) => Head::LeafHead(Leaf::MarkLeaf {
+            test,
+            value: value_at(bytes, LEFT_PLACE),
+        }),
     }
 }
 
-// The entries of a card as numbers: kind, end, table, comparison, and two values.
-pub fn decode(card: &[u8], d: &mut [usize])
+// What the entry of a record says, by the number of its kind.
+#[tactic(auto, unfolding(card::specs::Layout::head_from))]
+fn head_from(bytes: &[u8], number: usize) -> Option<Head>
+    requires { length bytes.now ≡ record_size }
+    ensures { found result ≡ head_from number bytes.now }
+{
+    let kind = kind_of(number)?;
+    if !fields_fit(bytes, kind) {
+        return None;
+    }
+    Some(head_of(bytes, kind))
+}
+
+// The entry of a record, by the number of its kind.
+fn entry_at(bytes: &[u8], number: usize) -> Entry
+    requires { length bytes.now ≡ record_size }
+    ensures { EntryOf number bytes.now result }
+{
+    Entry {
+        end: read16(bytes, 0),
+        head: head_from(bytes, number),
+    }
+}
+
+// The entries of a card, from the start of d on.
+pub fn decode(card: &[u8], d: &mut [Entry])
     requires fact_1 { Laid card.now }
     requires fact_2 { Roomy card.now d.old }
     ensures { Decoded card.now d.new }
@@ -195,16 +186,23 @@ pub fn decode(card: &[u8], d: &mut [usize])
     let n = read16(card, 0);
     let kinds = 3 + byte(card, 2);
     let records = kinds + n;
-    let mut i: usize = 0;
-    while i < n {
+    for i in 0..n {
         let r = records + RECORD_SIZE * i;
-        let p = FIELDS * i;
-        d[p] = known_kind(card, r, byte(card, kinds + i));
-        d[p + END] = read16(card, r);
-        d[p + TABLE] = byte(card, r + TABLE_PLACE);
-        d[p + COMPARISON] = byte(card, r + COMPARISON_PLACE);
-        put_held(d, p + LEFT, value_at(card, r, LEFT_PLACE));
-        put_held(d, p + RIGHT, value_at(card, r, RIGHT_PLACE));
-        i += 1;
+        d[i] = entry_at(&card[r..r + RECORD_SIZE], byte(card, kinds + i));
     }
+}
+
+// Calls f with an array that has room for the card's entries, none of which is decoded. f is taken by reference, as what may be called more than once: so its
+// caller knows what the call left in the variables that f borrows.
+pub fn with_room<R, F: FnMut(&mut [Entry]) -> R>(card: &[u8], f: &mut F) -> R
+    requires { (d : _) → Roomy card.now d.now → F.pre f.old d }
+    ensures { (d : List Entry) × (e : List Entry) × Roomy card.now d × CalledAtMut F.FnMut f.old d result f.new e }
+{
+    if card.len() <= SHORT_CARD {
+        return f(&mut [NO_ENTRY; FEW_ENTRIES]);
+    }
+    if card.len() <= MIDDLE_CARD {
+        return f(&mut [NO_ENTRY; MIDDLE_ENTRIES]);
+    }
+    f(&mut [NO_ENTRY; MOST_ENTRIES])
 }

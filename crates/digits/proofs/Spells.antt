@@ -1,5 +1,6 @@
 -- What a run of digits spells in a base, digit by digit.
-use mathlib.Core.Path.{◌≡◌, refl, sym, ap, subst, ◌∙◌}
+use mathlib.Core.Path.{◌≡◌, sym, ap, subst, ◌∙◌}
+use mathlib.Core.Bool.{true}
 use mathlib.Core.List.{List, [], ◌∷◌, ◌++◌}
 use Prim.Native.Nat.{ℕ, zero, suc, ◌+◌, ◌*◌, ◌-◌, ◌≤◌, ◌<◌}
 use native.Mathlib.Nat.{le_refl, mul-le-mul, mul-suc}
@@ -7,11 +8,11 @@ use native.Mathlib.Omega.{arith}
 use lib.ListN.{length, take, drop, get_or, length-drop}
 use lib.Seq.{take-suc, get_or-drop}
 use Rattle.tables.specs.Bytes.{between}
-use Rattle.tables.proofs.Tests.{between_yes}
+use Rattle.tables.proofs.Tests.{is_so, bounds}
 use Rattle.numerals.specs.Texts.{take_while}
 use Rattle.numerals.specs.Numerals.{in_base}
 use Rattle.numerals.proofs.Digits.{in_base_append}
-use Rattle.numerals.proofs.Runs.{run_take, Passed, passed_none, passed_more, run_within}
+use Rattle.numerals.proofs.Runs.{run_take, Passed, passed_more, run_within}
 use Rattle.digits.specs.Code.{power, Spellable, RunAt}
 
 power_more : (base j d : ℕ) → 1 ≤ base → power base j ≤ power base (j + d)
@@ -30,33 +31,28 @@ pub record SpelledTo (text : List ℕ) (i low high base zero_byte most n e : ℕ
   pub passed : Passed (between low high) text i e
   pub so_far : e - i ≤ most → (n < power base (e - i)) × (n ≡ in_base base zero_byte 0 (take (e - i) (drop i text)))
 
-pub spelled_none : (text : List ℕ) (i low high base zero_byte most : ℕ) → i ≤ length text → SpelledTo text i low high base zero_byte most 0 i
-spelled_none text i low high base zero_byte most h =
-    let z : i - i ≡ 0 = omega arith in
-    record { passed = passed_none _ text i h; so_far = λ _. (rw z (omega arith), rw z refl) }
-
 module _ (text : List ℕ) (i low high base zero_byte most n e b : ℕ) (s : Spellable low high base zero_byte most) (h : SpelledTo text i low high base zero_byte most n e)
-    (l : e < length text) (w : b ≡ get_or text e 0) (p : low ≤ b) (q : b ≤ high) where
+    (l : e < length text) (w : b ≡ get_or text e 0) (in_run : between low high b ≡ true) where
   passed_one : Passed (between low high) text i (e + 1)
-  passed_one = passed_more _ text i e b h.passed l w (between_yes low high b p q)
+  passed_one = passed_more _ text i e b h.passed l w in_run
 
   -- a byte behind those that are spelled
   pub spelled_past : most ≤ e - i → SpelledTo text i low high base zero_byte most n (e + 1)
   spelled_past m = record { passed = passed_one; so_far = λ k. absurd (omega (arith, h.passed.from)) }
 
-  pub digit_low : zero_byte ≤ b
-  digit_low = omega (arith, s.digits_low)
+  digit_in : (zero_byte ≤ b) × (b < base + zero_byte)
+  digit_in = let (p, q) = bounds low high b (is_so _ in_run) in (omega (arith, s.digits_low), omega (arith, s.digits_high))
 
   -- one digit more
   module _ (m : e - i < most) where
     next_below : base * n + (b - zero_byte) < power base (suc (e - i))
     next_below =
         let f = mul-le-mul {n₁ = base} {m₁ = suc n} {n₂ = base} {m₂ = power base (e - i)} (omega arith) (h.so_far (omega arith)).0 in
-        omega (arith, f, mul-suc base n, digit_low, s.digits_high)
+        omega (arith, f, mul-suc base n, digit_in.0, digit_in.1)
 
     pub room : base * n + (b - zero_byte) < 18446744073709551616
     room =
-        omega (arith, next_below, s.fits, power_up base (suc (e - i)) most (omega (arith, digit_low, s.digits_high)) m)
+        omega (arith, next_below, s.fits, power_up base (suc (e - i)) most (omega (arith, digit_in.0, digit_in.1)) m)
 
     next_digit : take (suc (e - i)) (drop i text) ≡ take (e - i) (drop i text) ++ (b ∷ [])
     next_digit =

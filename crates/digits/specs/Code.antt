@@ -1,14 +1,12 @@
--- What the functions of src/ promise one another and their callers, in the terms of the code: runs of bytes at places of a text, and numbers plus 2 ^ 31.
+-- What the functions of src/ promise one another and their callers, in the terms of the code: runs of bytes at places of a text, and numbers.
 -- No contract of a public call cites this file.
-use Rattle.std.specs.Prelude.{◌≡◌, List, ℕ, zero, suc, ◌+◌, ◌*◌, ◌-◌, ◌<◌, ◌≤◌, ℤ, length, drop}
-use Rattle.std.proofs.Math.Option.{Option, none, some}
+use Rattle.std.specs.Prelude.{◌≡◌, List, ℕ, zero, suc, ◌+◌, ◌*◌, ◌-◌, ◌<◌, ◌≤◌, ℤ, length, drop, Option, Some, None, MatchOption}
+use Rattle.std.proofs.Math.Option.{Option as MathOption, none, some}
 use Rattle.tables.specs.Bytes.{between}
 use Rattle.numerals.specs.Texts.{take_while}
-use Rattle.numerals.specs.Numerals.{in_base}
-use Rattle.cells.specs.Code.{words32, from_excess}
+use Rattle.numerals.specs.Numerals.{is_digit, most_digits, in_base}
 use Rattle.digits.specs.declared.Run.{Run}
 use Rattle.digits.specs.declared.Found.{Found}
-use Rattle.digits.specs.declared.Found.TheVariants.{Number, NoNumber}
 
 -- ---- runs of bytes
 
@@ -29,12 +27,14 @@ pub record RunAt (text : List ℕ) (i low high base zero_byte most : ℕ) (r : R
 
 -- ---- numbers
 
--- a number that was found, and how many bytes it takes from place i on
-abbrev pub found_as : ℕ → Found → Option (ℤ × ℕ)
-found_as i (Number n e) = some (from_excess n, e - i)
-found_as i NoNumber = none
+-- the run of digits from place i on, where it has 1 to 10 of them, and the number that they spell is at most so great
+abbrev pub DigitsAt : List ℕ → ℕ → ℕ → Option Run → Type 0
+DigitsAt text i greatest r =
+    let digits = take_while is_digit (drop i text) in
+    let fits = (1 ≤ length digits) × ((length digits ≤ most_digits) × (in_base 10 48 0 digits ≤ greatest)) in
+    MatchOption r (fits → ⊥) (λ run. fits × ((run.end ≡ i + length digits) × (run.number ≡ in_base 10 48 0 digits)))
 
--- the number plus 2 ^ 31 has 32 bits
-abbrev pub Fits32 : Found → Type 0
-Fits32 (Number n e) = n < words32
-Fits32 NoNumber = Unit {0}
+-- a number that was found, and how many bytes it takes from place i on
+abbrev pub found_as : ℕ → Option Found → MathOption (ℤ × ℕ)
+found_as i (Some r) = some (r.number, r.end - i)
+found_as i None = none

@@ -1,4 +1,4 @@
-pub mod Leaves
 pub mod Cards
 pub mod Spread
 pub mod Writing
+pub mod Nots

@@ -1,83 +1,87 @@
 // The entries of a card, written from the parts of a rule.
-// A rule is false- or true-interpreted, and negated or not; both flags go down to its parts, so that the card has no negation.
-// Short names: p, the parts as numbers; s, the number of a part; k, the number of an entry; unknown, what unknown counts as: no (false-interpreted) or yes;
-// negate, whether the part is negated; u, what stands under a part that has no entry.
+// A rule is false- or true-interpreted, and negated or not; both go down to its parts, so that the card has no negation.
+// Short names: s, the number of a part; k, the number of an entry; negate, whether the part is negated; interpretation, what unknown counts as: no
+// (false-interpreted) or yes; u, what stands under NOTs. The kinds and the records are lent one beside the other: the kinds are an array of their own, and the
+// records a part of the caller's buffer. An entry with inner ones is put with the end 0; its end is written once its last inner entry is in place.
 #![tactic(auto)]
 
-ghost use Rattle.std.specs.Prelude.{◌≡◌, Bool, ◌+◌, ◌*◌, ◌<◌, ◌≤◌, length, get_or};
-ghost use Rattle.rule.specs.Truth.{False, True};
-ghost use Rattle.rule.specs.Condition.{Is, IsNot};
-ghost use Rattle.rule.specs.Names.{most_parts};
-ghost use Rattle.rule.specs.Parts.{unary_kind, exists_kind};
-ghost use Rattle.rule.specs.Groups.{JoinNumber, UnknownNumber, ListNumber};
-ghost use Rattle.names.specs.Code.{part_size, parts_size};
-ghost use Rattle.entries.specs.Code.{CompareReady, ComparedTo, MarkReady, MarkedTo, StandsUnder, Writable, WroteTo};
+ghost use Rattle.std.specs.Prelude.{◌≡◌};
+ghost use Rattle.card.specs.Card.{LeafEntry};
+ghost use Rattle.card.specs.declared.Leaf.TheVariants.{CompareLeaf};
+ghost use Rattle.rule.specs.Parts.{table_of};
+ghost use Rattle.translation.specs.Translation.{leaf_of};
+ghost use Rattle.entries.specs.Code.{asks_every, leaf_as, card_as, unary_as, truth_as, exists_as, listed_as, Room, Wrote, Standing, StandsUnder, Writable, WroteTo, part_under, PairWritable, PairWroteTo, JoinWritable, JoinWroteTo};
 
-use card::RECORD_SIZE;
+use card::Head::{LeafHead, PairHead, RowHead};
+use card::Interpretation::{self, AsNo, AsYes};
+use card::{Leaf, RECORD_SIZE};
 use grammar::MOST_PARTS;
-use names::{
-    PART_COMPARISON, PART_END, PART_FIELDS, PART_LEFT, PART_NUMBERS, PART_RIGHT, PART_TABLE,
-};
-use parts::part_value;
-use records::LeafNumbers;
-use rule::{
-    ALL_PART, AND_PART, COMPARISON_PART, DECLINED_PART, EXISTS_PART, IS_FALSE_PART,
-    IS_NOT_FALSE_PART, IS_NOT_TRUE_PART, IS_NOT_UNKNOWN_PART, IS_TRUE_PART, IS_UNKNOWN_PART,
-    NOT_DECLINED_PART, NOT_NULL_PART, NOT_PART, NULL_PART, OR_PART, SOME_PART,
-};
-use tables::MOST_ENTRIES;
-use values::unused_held;
+use names::RulePart;
+use records::{Swapped, negated, put_entry};
+use rule::{FromClause, Head, Test, Truth, Unary};
+use storing::put16;
+use tables::{Comparison, Connective, MOST_ENTRIES, Quantifier, Value};
 
-// Number i of part s.
-fn field(p: &[usize; PART_NUMBERS], s: usize, i: usize) -> usize
-    requires { (length p.now ≡ parts_size) × ((s < most_parts) × (i < part_size)) }
-    ensures { result ≡ get_or p.now (part_size * s + i) 0 }
+// What an entry says of a test. A test by the mark is never unknown, so its entry is the same in either interpretation.
+fn leaf_of(interpretation: Interpretation, test: Test<Value>) -> Leaf
+    ensures { result ≡ leaf_of interpretation test }
 {
-    p[PART_FIELDS * s + i]
+    match test {
+        Test::Compare {
+            comparison,
+            left,
+            right,
+        } => Leaf::CompareLeaf {
+            unknown: interpretation,
+            comparison,
+            left,
+            right,
+        },
+        Test::Mark { test, value } => Leaf::MarkLeaf { test, value },
+    }
 }
 
-// The comparison of part s, a list's too, as entry k.
-fn write_comparison(
-    p: &[usize; PART_NUMBERS],
-    s: usize,
+// The entry of a list's comparison, negated or not.
+fn list_leaf(
     negate: bool,
-    unknown: bool,
-    kinds: &mut [u8; MOST_ENTRIES],
-    records: &mut [u8],
-    k: usize,
-) -> usize
-    requires { CompareReady p.now s kinds.old records.old k }
-    ensures { ComparedTo p.now s negate unknown kinds.old records.old kinds.new records.new k result }
+    interpretation: Interpretation,
+    comparison: Comparison,
+    left: Value,
+    right: Value,
+) -> Leaf
+    ensures { result ≡ leaf_as negate (CompareLeaf interpretation comparison left right) }
 {
-    let leaf = LeafNumbers {
-        kind: records::compare_kind(negate, unknown),
-        comparison: records::comparison_as(field(p, s, PART_COMPARISON), negate),
-        left: part_value(p, s, PART_LEFT),
-        right: part_value(p, s, PART_RIGHT),
+    let compared = Leaf::CompareLeaf {
+        unknown: interpretation,
+        comparison,
+        left,
+        right,
     };
-    records::put_leaf(kinds, records, k, leaf);
-    k + 1
+    negated(compared, negate)
 }
 
-// A test by the mark: IS NULL, IS DECLINED, or one of their negations. It is never unknown, so its entry is the same in either interpretation.
-fn write_mark(
-    p: &[usize; PART_NUMBERS],
-    s: usize,
-    negate: bool,
-    kinds: &mut [u8; MOST_ENTRIES],
-    records: &mut [u8],
-    k: usize,
-) -> usize
-    requires { MarkReady p.now s kinds.old records.old k }
-    ensures { MarkedTo p.now s negate kinds.old records.old kinds.new records.new k result }
+// The table that a FROM names.
+fn table_of(from: FromClause<u8>) -> u8
+    ensures { result ≡ table_of from }
 {
-    let leaf = LeafNumbers {
-        kind: records::mark_kind(p[PART_FIELDS * s], negate),
-        comparison: 0,
-        left: part_value(p, s, PART_LEFT),
-        right: unused_held(),
-    };
-    records::put_leaf(kinds, records, k, leaf);
+    match from {
+        FromClause::Single(table) => table,
+    }
+}
+
+// Whether it is asked of every row.
+fn asks_every(quantifier: Quantifier) -> bool
+    ensures { result ≡ asks_every quantifier }
+{
+    quantifier == Quantifier::All
+}
+
+// An entry without inner ones, as entry k; the number of the next one.
+fn write_leaf(leaf: Leaf, kinds: &mut [u8; MOST_ENTRIES], records: &mut [u8], k: usize) -> usize
+    requires { Room records.old k 1 }
+    ensures { Wrote k (LeafEntry leaf) kinds.old records.old kinds.new records.new result }
+{
+    put_entry(kinds, records, k, k + 1, LeafHead(leaf));
     k + 1
 }
 
@@ -86,205 +90,238 @@ fn write_mark(
 pub struct Under {
     pub part: usize,
     pub negate: bool,
-    pub unknown: bool,
+    pub interpretation: Interpretation,
+}
+
+// The same, put together.
+fn part_under(part: usize, negate: bool, interpretation: Interpretation) -> Under
+    ensures { result ≡ part_under part negate interpretation }
+{
+    Under {
+        part,
+        negate,
+        interpretation,
+    }
 }
 
 // What stands under the NOTs that begin at part s: they are passed in a loop, where a recursive call for each would hand all arguments on.
-fn under_nots(p: &[usize; PART_NUMBERS], s: usize, negate: bool, unknown: bool) -> Under
-    requires { length p.now ≡ parts_size }
-    ensures { StandsUnder p.now s negate unknown result }
+fn under_nots(
+    parts: &[RulePart; MOST_PARTS],
+    s: usize,
+    negate: bool,
+    interpretation: Interpretation,
+) -> Under
+    ensures { StandsUnder parts.now s negate interpretation result }
 {
-    let mut part = s;
-    let mut negated = negate;
-    let mut counted = unknown;
-    while part < MOST_PARTS {
-        if p[PART_FIELDS * part] != NOT_PART {
-            return Under {
-                part: part,
-                negate: negated,
-                unknown: counted,
-            };
-        }
-        part += 1;
-        negated = !negated;
-        counted = !counted;
+    let mut under = part_under(s, negate, interpretation);
+    for part in s..MOST_PARTS {
+        let Head::UnaryHead(Unary::Not) = parts[part].head else {
+            return under;
+        };
+        under = Under {
+            part: part + 1,
+            negate: !under.negate,
+            interpretation: under.interpretation.other(),
+        };
     }
-    Under {
-        part: part,
-        negate: negated,
-        unknown: counted,
-    }
-}
-
-// What stands under a truth test that has no entry, at part s: the condition in it, in one interpretation, whatever unknown counts as around it. IS TRUE and IS
-// NOT TRUE take it false-interpreted, IS FALSE and IS NOT FALSE true-interpreted.
-fn under_truth(p: &[usize; PART_NUMBERS], s: usize, negate: bool) -> Under
-    requires fact_1 { length p.now ≡ parts_size }
-    requires fact_2 { s < most_parts }
-    requires fact_3 { (unary_kind (Is True) ≤ get_or p.now (part_size * s) 0) × (get_or p.now (part_size * s) 0 ≤ unary_kind (IsNot False)) }
-    ensures stands { (unknown : Bool) → StandsUnder p.now s negate unknown result }
-    ensures part { result.part ≡ s + 1 }
-{
-    let kind = p[PART_FIELDS * s];
-    match kind {
-        IS_TRUE_PART => Under {
-            part: s + 1,
-            negate: negate,
-            unknown: false,
-        },
-        IS_NOT_TRUE_PART => Under {
-            part: s + 1,
-            negate: !negate,
-            unknown: false,
-        },
-        IS_FALSE_PART => Under {
-            part: s + 1,
-            negate: !negate,
-            unknown: true,
-        },
-        IS_NOT_FALSE_PART => Under {
-            part: s + 1,
-            negate: negate,
-            unknown: true,
-        },
-        _ => unreachable!(),
-    }
+    under
 }
 
 // The entries of part s with its inner parts, from number k on; the number of the next entry.
 #[cycle(writing)]
 pub fn write_part(
-    p: &[usize; PART_NUMBERS],
+    parts: &[RulePart; MOST_PARTS],
     s: usize,
     negate: bool,
-    unknown: bool,
+    interpretation: Interpretation,
     kinds: &mut [u8; MOST_ENTRIES],
     records: &mut [u8],
     k: usize,
 ) -> usize
-    requires { Writable p.now s negate unknown kinds.old records.old k }
-    ensures { WroteTo p.now s negate unknown kinds.old records.old kinds.new records.new k result }
+    requires { Writable (card_as negate interpretation) parts.now s records.old k }
+    ensures { WroteTo (card_as negate interpretation) parts.now s kinds.old records.old kinds.new records.new k result }
 {
-    let kind = p[PART_FIELDS * s];
-    match kind {
-        AND_PART | OR_PART => write_pair(p, s, negate, unknown, kinds, records, k),
-        // NOT has no entry: what is under it is negated, in the other interpretation.
-        NOT_PART => {
-            let u = under_nots(p, s + 1, !negate, !unknown);
-            write_part(p, u.part, u.negate, u.unknown, kinds, records, k)
+    let inner = part_under(s + 1, negate, interpretation);
+    match parts[s].head {
+        Head::AtomHead(test) => {
+            let leaf = negated(leaf_of(interpretation, test), negate);
+            write_leaf(leaf, kinds, records, k)
         }
-        COMPARISON_PART => write_comparison(p, s, negate, unknown, kinds, records, k),
-        NULL_PART | NOT_NULL_PART => write_mark(p, s, negate, kinds, records, k),
-        EXISTS_PART => write_exists(p, s, negate, unknown, kinds, records, k),
-        SOME_PART | ALL_PART => write_list(p, s, negate, unknown, kinds, records, k),
-        IS_TRUE_PART | IS_NOT_TRUE_PART | IS_FALSE_PART | IS_NOT_FALSE_PART => {
-            let u = under_truth(p, s, negate);
-            write_part(p, u.part, u.negate, u.unknown, kinds, records, k)
+        Head::JoinHead(connective) => write_join(parts, connective, inner, kinds, records, k),
+        Head::UnaryHead(unary) => write_unary(parts, unary, inner, kinds, records, k),
+        Head::ExistsHead(from) => {
+            write_exists(parts, s + 1, table_of(from), negate, kinds, records, k)
         }
-        IS_UNKNOWN_PART | IS_NOT_UNKNOWN_PART => {
-            write_unknown(p, s, negate, unknown, kinds, records, k)
+        Head::ListedHead {
+            quantifier,
+            comparison,
+            left,
+            selected,
+            from,
+        } => {
+            let quantifier = negated(quantifier, negate);
+            let table = table_of(from);
+            let leaf = list_leaf(negate, interpretation, comparison, left, selected);
+            write_list(parts, s + 1, quantifier, table, leaf, kinds, records, k)
         }
-        DECLINED_PART | NOT_DECLINED_PART => write_mark(p, s, negate, kinds, records, k),
-        _ => unreachable!(),
     }
 }
 
-// AND and OR.
+// AND and OR: of what is under them on the left, and of the condition behind that.
+#[cycle(writing)]
+fn write_join(
+    parts: &[RulePart; MOST_PARTS],
+    connective: Connective,
+    left: Under,
+    kinds: &mut [u8; MOST_ENTRIES],
+    records: &mut [u8],
+    k: usize,
+) -> usize
+    requires { JoinWritable connective left.negate left.interpretation parts.now left.part records.old k }
+    ensures { JoinWroteTo connective left.negate left.interpretation parts.now left.part kinds.old records.old kinds.new records.new k result }
+{
+    let connective = negated(connective, left.negate);
+    let right = Under {
+        part: parts[left.part].end,
+        ..left
+    };
+    write_pair(parts, connective, left, right, kinds, records, k)
+}
+
+// NOT or a truth test of what is under it. NOT has no entry: what is under it is negated, in the other interpretation. IS NOT TRUE is the negation of IS
+// TRUE, and so for the others.
+#[cycle(writing)]
+fn write_unary(
+    parts: &[RulePart; MOST_PARTS],
+    unary: Unary,
+    inner: Under,
+    kinds: &mut [u8; MOST_ENTRIES],
+    records: &mut [u8],
+    k: usize,
+) -> usize
+    requires { Writable (unary_as unary inner.negate inner.interpretation) parts.now inner.part records.old k }
+    ensures { WroteTo (unary_as unary inner.negate inner.interpretation) parts.now inner.part kinds.old records.old kinds.new records.new k result }
+{
+    let s = inner.part;
+    let negate = inner.negate;
+    match unary {
+        Unary::Not => {
+            let u = under_nots(parts, s, !negate, inner.interpretation.other());
+            write_part(parts, u.part, u.negate, u.interpretation, kinds, records, k)
+        }
+        Unary::Is(truth) => write_truth(parts, s, truth, negate, kinds, records, k),
+        Unary::IsNot(truth) => write_truth(parts, s, truth, !negate, kinds, records, k),
+    }
+}
+
+// A pair: the entries of what is left, then those of what is right.
 #[cycle(writing)]
 fn write_pair(
-    p: &[usize; PART_NUMBERS],
-    s: usize,
-    negate: bool,
-    unknown: bool,
+    parts: &[RulePart; MOST_PARTS],
+    connective: Connective,
+    left: Under,
+    right: Under,
     kinds: &mut [u8; MOST_ENTRIES],
     records: &mut [u8],
     k: usize,
 ) -> usize
-    requires { (Writable p.now s negate unknown kinds.old records.old k) × (JoinNumber (get_or p.now (part_size * s) 0)) }
-    ensures { WroteTo p.now s negate unknown kinds.old records.old kinds.new records.new k result }
+    requires { PairWritable parts.now connective left right records.old k }
+    ensures { PairWroteTo parts.now connective left right kinds.old records.old kinds.new records.new k result }
 {
-    let kind = records::pair_kind(p[PART_FIELDS * s], negate);
-    let next = field(p, s + 1, PART_END);
-    records::put_plain(kinds, records, k, kind, 0);
-    let middle = write_part(p, s + 1, negate, unknown, kinds, records, k + 1);
-    let end = write_part(p, next, negate, unknown, kinds, records, middle);
-    storing::put16(records, RECORD_SIZE * k, end);
-    end
-}
-
-// IS UNKNOWN: and, the negated false-interpretation of the condition in it, its true-interpretation. IS NOT UNKNOWN is the negation of that; each of them,
-// negated, is the other.
-#[cycle(writing)]
-fn write_unknown(
-    p: &[usize; PART_NUMBERS],
-    s: usize,
-    negate: bool,
-    unknown: bool,
-    kinds: &mut [u8; MOST_ENTRIES],
-    records: &mut [u8],
-    k: usize,
-) -> usize
-    requires { (Writable p.now s negate unknown kinds.old records.old k) × (UnknownNumber (get_or p.now (part_size * s) 0)) }
-    ensures { WroteTo p.now s negate unknown kinds.old records.old kinds.new records.new k result }
-{
-    let known = (p[PART_FIELDS * s] == IS_NOT_UNKNOWN_PART) != negate;
-    records::put_plain(kinds, records, k, records::pair_kind(AND_PART, known), 0);
-    let middle = write_part(p, s + 1, !known, false, kinds, records, k + 1);
-    let end = write_part(p, s + 1, known, true, kinds, records, middle);
-    storing::put16(records, RECORD_SIZE * k, end);
-    end
-}
-
-// EXISTS: some row of its WHERE, which is false-interpreted; negated, every row of the negated one.
-#[cycle(writing)]
-fn write_exists(
-    p: &[usize; PART_NUMBERS],
-    s: usize,
-    negate: bool,
-    unknown: bool,
-    kinds: &mut [u8; MOST_ENTRIES],
-    records: &mut [u8],
-    k: usize,
-) -> usize
-    requires { (Writable p.now s negate unknown kinds.old records.old k) × (get_or p.now (part_size * s) 0 ≡ exists_kind) }
-    ensures { WroteTo p.now s negate unknown kinds.old records.old kinds.new records.new k result }
-{
-    let kind = records::row_kind(negate);
-    let table = field(p, s, PART_TABLE);
-    records::put_plain(kinds, records, k, kind, table);
-    let end = write_part(p, s + 1, negate, false, kinds, records, k + 1);
-    storing::put16(records, RECORD_SIZE * k, end);
-    end
-}
-
-// SOME: some row, and, WHERE, comparison. ALL: every row, or, negated WHERE, comparison. Negating swaps the two; the WHERE is false-interpreted
-// before any negating.
-#[cycle(writing)]
-fn write_list(
-    p: &[usize; PART_NUMBERS],
-    s: usize,
-    negate: bool,
-    unknown: bool,
-    kinds: &mut [u8; MOST_ENTRIES],
-    records: &mut [u8],
-    k: usize,
-) -> usize
-    requires { (Writable p.now s negate unknown kinds.old records.old k) × (ListNumber (get_or p.now (part_size * s) 0)) }
-    ensures { WroteTo p.now s negate unknown kinds.old records.old kinds.new records.new k result }
-{
-    let every = (p[PART_FIELDS * s] == ALL_PART) != negate;
-    let table = field(p, s, PART_TABLE);
-    records::put_plain(kinds, records, k, records::row_kind(every), table);
-    records::put_plain(
+    put_entry(kinds, records, k, 0, PairHead(connective));
+    let middle = write_part(
+        parts,
+        left.part,
+        left.negate,
+        left.interpretation,
         kinds,
         records,
         k + 1,
-        records::pair_kind(AND_PART, every),
-        0,
     );
-    let last = write_part(p, s + 1, every, false, kinds, records, k + 2);
-    let end = write_comparison(p, s, negate, unknown, kinds, records, last);
-    storing::put16(records, RECORD_SIZE * (k + 1), end);
-    storing::put16(records, RECORD_SIZE * k, end);
+    let end = write_part(
+        parts,
+        right.part,
+        right.negate,
+        right.interpretation,
+        kinds,
+        records,
+        middle,
+    );
+    put16(records, RECORD_SIZE * k, end);
+    end
+}
+
+// A truth test of the condition at part s, which is never unknown, so its card is the same in either interpretation. IS TRUE takes the condition
+// false-interpreted; IS FALSE takes it true-interpreted, and negates that; IS UNKNOWN is and, the negated false-interpretation, the true-interpretation.
+#[cycle(writing)]
+fn write_truth(
+    parts: &[RulePart; MOST_PARTS],
+    s: usize,
+    truth: Truth,
+    negate: bool,
+    kinds: &mut [u8; MOST_ENTRIES],
+    records: &mut [u8],
+    k: usize,
+) -> usize
+    requires { Writable (truth_as truth negate) parts.now s records.old k }
+    ensures { WroteTo (truth_as truth negate) parts.now s kinds.old records.old kinds.new records.new k result }
+{
+    match truth {
+        Truth::True => write_part(parts, s, negate, AsNo, kinds, records, k),
+        Truth::False => write_part(parts, s, !negate, AsYes, kinds, records, k),
+        Truth::Unknown => {
+            let not_true = part_under(s, !negate, AsNo);
+            let not_false = part_under(s, negate, AsYes);
+            let connective = negated(Connective::And, negate);
+            write_pair(parts, connective, not_true, not_false, kinds, records, k)
+        }
+    }
+}
+
+// EXISTS, whose WHERE is part s: some row of the WHERE, which is false-interpreted; negated, every row of the negated one.
+#[cycle(writing)]
+fn write_exists(
+    parts: &[RulePart; MOST_PARTS],
+    s: usize,
+    table: u8,
+    negate: bool,
+    kinds: &mut [u8; MOST_ENTRIES],
+    records: &mut [u8],
+    k: usize,
+) -> usize
+    requires { Writable (exists_as table negate) parts.now s records.old k }
+    ensures { WroteTo (exists_as table negate) parts.now s kinds.old records.old kinds.new records.new k result }
+{
+    let quantifier = negated(Quantifier::Some, negate);
+    put_entry(kinds, records, k, 0, RowHead { quantifier, table });
+    let end = write_part(parts, s, negate, AsNo, kinds, records, k + 1);
+    put16(records, RECORD_SIZE * k, end);
+    end
+}
+
+// A list, whose WHERE is part s, with what the entry of its comparison says. SOME: some row, and, WHERE, comparison. ALL: every row, or, negated WHERE,
+// comparison. Negating swaps the two; the WHERE is false-interpreted before any negating.
+#[cycle(writing)]
+fn write_list(
+    parts: &[RulePart; MOST_PARTS],
+    s: usize,
+    quantifier: Quantifier,
+    table: u8,
+    leaf: Leaf,
+    kinds: &mut [u8; MOST_ENTRIES],
+    records: &mut [u8],
+    k: usize,
+) -> usize
+    requires { Writable (listed_as quantifier table leaf) parts.now s records.old k }
+    ensures { WroteTo (listed_as quantifier table leaf) parts.now s kinds.old records.old kinds.new records.new k result }
+{
+    let every = asks_every(quantifier);
+    put_entry(kinds, records, k, 0, RowHead { quantifier, table });
+    let connective = negated(Connective::And, every);
+    put_entry(kinds, records, k + 1, 0, PairHead(connective));
+    let last = write_part(parts, s, every, AsNo, kinds, records, k + 2);
+    let end = write_leaf(leaf, kinds, records, last);
+    put16(records, RECORD_SIZE * (k + 1), end);
+    put16(records, RECORD_SIZE * k, end);
     end
 }

@@ -4,10 +4,16 @@ use mathlib.Core.Bool.{Bool, cond}
 use mathlib.Core.List.{map, map-map}
 use Prim.Native.Nat.{ℕ}
 use Rattle.tables.specs.Tables.{Tables, rows_of}
-use Rattle.tables.specs.Values.{Value, Comparison, Quantifier, Some, Env, ◌▸◌, cell_of}
+use Rattle.tables.specs.Values.{Env, ◌▸◌, cell_of}
+use Rattle.tables.specs.declared.Value.{Value}
+use Rattle.tables.specs.declared.Comparison.{Comparison}
+use Rattle.tables.specs.declared.Quantifier.{Quantifier}
+use Rattle.tables.specs.declared.Quantifier.TheVariants.{Some}
 use Rattle.tables.proofs.Rows.{any_kept}
-use Rattle.rule.specs.Condition.{Single, Exists, Listed, Rule}
-use Rattle.rule.specs.Truth.{Truth, truth, is_true}
+use Rattle.rule.specs.Condition.{Exists, Listed, Rule}
+use Rattle.rule.specs.declared.FromClause.TheVariants.{Single}
+use Rattle.rule.specs.Truth.{truth, is_true}
+use Rattle.rule.specs.declared.Truth.{Truth}
 use Rattle.rule.specs.Meaning.{compare3, over3, ranged, meaning}
 use Rattle.evaluator.specs.Code.{empty_truth}
 use Rattle.evaluator.proofs.Truths.{over_kept, exists_some}

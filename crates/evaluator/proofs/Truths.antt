@@ -1,70 +1,29 @@
--- Truth values as numbers: AND, OR and NOT by arithmetic, a truth test compares; SOME and ALL go row by row.
-use mathlib.Core.Path.{◌≡◌, refl, sym, ap, ◌∙◌}
-use mathlib.Core.Bool.{Bool, true, false, not, cond, ◌||◌}
-use mathlib.Core.List.{List, [], ◌∷◌, map}
-use Prim.Native.Nat.{ℕ, zero, suc, ◌-◌, ◌<◌, ◌≤◌, min, max}
+-- Truth values: what a part makes of the values in it; SOME and ALL go row by row.
+use Rattle.std.specs.Prelude.{◌≡◌, refl, Bool, true, false, cond, ◌||◌, List, [], ◌∷◌, map, ℕ, zero, suc, ◌<◌}
+use mathlib.Core.Path.{sym, ap, ◌∙◌}
 use native.Mathlib.Nat.{le_of_suc-le-suc, not-suc-le-zero}
 use native.Mathlib.Omega.{arith}
-use lib.Dec.{eqb}
-use borrow.Author.Tests.{eq-eqb, ne_eqb}
 use Rattle.tables.specs.Lists.{tabulate, any, put, keep}
-use Rattle.tables.specs.Values.{Connective, And, Or, Quantifier, Some, All}
-use Rattle.rule.specs.Condition.{Unary, Is, IsNot}
-use Rattle.rule.specs.Truth.{Truth, False, Unknown, True, truth, is_true, is_that, and3, or3, join3, deciding, truth_number}
-use Rattle.rule.specs.Meaning.{unary3, over3}
-use Rattle.rule.specs.Parts.{unary_kind, list_kind}
-use Rattle.rule.proofs.Groups.{same_unary}
+use Rattle.tables.specs.declared.Connective.{Connective}
+use Rattle.tables.specs.declared.Connective.TheVariants.{And, Or}
+use Rattle.tables.specs.declared.Quantifier.{Quantifier}
+use Rattle.tables.specs.declared.Quantifier.TheVariants.{Some, All}
+use Rattle.rule.specs.Truth.{truth, is_true, and3, or3, not3, join3, deciding, truth_number}
+use Rattle.rule.specs.declared.Truth.{Truth}
+use Rattle.rule.specs.declared.Truth.TheVariants.{False, Unknown, True}
+use Rattle.rule.specs.Meaning.{over3}
 use Rattle.rule.proofs.Truths.{some_cons, all_cons}
 use Rattle.rule.proofs.Arithmetic.{number_high, same_truth, arithmetic_claim}
-use Rattle.evaluator.specs.Code.{decided_by, UnaryValued, unless_unknown, empty_truth, empty_over, OverNone}
-
--- ---- one-place parts
-
--- f of the condition's value, if that is what the part makes of each truth value
-pub unary_valued : {kind inner : ℕ} (u : Unary) → kind ≡ unary_kind u → (f : ℕ → ℕ) → ((a : Truth) → f (truth_number a) ≡ truth_number (unary3 u a)) → {r : ℕ} → r ≡ f inner → UnaryValued kind inner r
-unary_valued u e f law z v e' a i = z ∙ ap f i ∙ law a ∙ ap (λ u. truth_number (unary3 u a)) (same_unary u v (sym e ∙ e'))
-
--- a truth test compares the numbers
-same_number : (t a : Truth) → eqb (truth_number a) (truth_number t) ≡ is_that t a
-same_number False False = refl
-same_number False Unknown = refl
-same_number False True = refl
-same_number Unknown False = refl
-same_number Unknown Unknown = refl
-same_number Unknown True = refl
-same_number True False = refl
-same_number True Unknown = refl
-same_number True True = refl
-
-module _ (t : Truth) {kind inner r : ℕ} where
-  pub is_valued : kind ≡ unary_kind (Is t) → r ≡ truth_number (truth (eqb inner (truth_number t))) → UnaryValued kind inner r
-  is_valued e z = unary_valued (Is t) e (λ n. truth_number (truth (eqb n (truth_number t)))) (λ a. ap (λ b. truth_number (truth b)) (same_number t a)) z
-
-  pub is_not_valued : kind ≡ unary_kind (IsNot t) → r ≡ truth_number (truth (not (eqb inner (truth_number t)))) → UnaryValued kind inner r
-  is_not_valued e z = unary_valued (IsNot t) e (λ n. truth_number (truth (not (eqb n (truth_number t))))) (λ a. ap (λ b. truth_number (truth (not b))) (same_number t a)) z
+use Rattle.evaluator.specs.Code.{empty_truth}
 
 -- ---- connectives
 
--- what the two sides come to, by the value that decides
-abbrev pub taken : ℕ → ℕ → ℕ → ℕ
-taken decides a b = cond (eqb decides (truth_number False)) (min a b) (max a b)
-
-pub takes_smaller : (decides a b : ℕ) → decides ≡ truth_number False → min a b ≡ taken decides a b
-takes_smaller decides a b e = ap (λ t. cond t (min a b) (max a b)) (sym (eq-eqb decides (truth_number False) e))
-
-pub takes_greater : (decides a b : ℕ) → (decides ≡ truth_number False → ⊥) → max a b ≡ taken decides a b
-takes_greater decides a b f = ap (λ t. cond t (min a b) (max a b)) (sym (ne_eqb decides (truth_number False) f))
-
-pub taken_meant : (j : Connective) (a b : Truth) → taken (decided_by j) (truth_number a) (truth_number b) ≡ truth_number (join3 j a b)
-taken_meant And a b = sym (arithmetic_claim.and_is a b)
-taken_meant Or a b = sym (arithmetic_claim.or_is a b)
-
 -- one side decides, the left or the right one
-pub left_stop : (j : Connective) (a b : Truth) → truth_number a ≡ decided_by j → decided_by j ≡ truth_number (join3 j a b)
-left_stop j a b e = ap truth_number (sym (ap (λ v. join3 j v b) (same_truth a (deciding j) e) ∙ arithmetic_claim.left_decides j b))
+pub left_stop : (j : Connective) (a b : Truth) → a ≡ deciding j → deciding j ≡ join3 j a b
+left_stop j a b e = sym (ap (λ v. join3 j v b) e ∙ arithmetic_claim.left_decides j b)
 
-right_stop : (j : Connective) (a b : Truth) → decided_by j ≡ truth_number b → decided_by j ≡ truth_number (join3 j a b)
-right_stop j a b e = ap truth_number (sym (ap (join3 j a) (sym (same_truth (deciding j) b e)) ∙ arithmetic_claim.right_decides j a))
+right_stop : (j : Connective) (a b : Truth) → deciding j ≡ b → deciding j ≡ join3 j a b
+right_stop j a b e = sym (ap (join3 j a) (sym e) ∙ arithmetic_claim.right_decides j a)
 
 join_assoc : (j : Connective) (a b d : Truth) → join3 j (join3 j a b) d ≡ join3 j a (join3 j b d)
 join_assoc And a b d =
@@ -73,12 +32,7 @@ join_assoc Or a b d =
     same_truth _ _ (omega (arith, arithmetic_claim.or_is a b, arithmetic_claim.or_is b d, arithmetic_claim.or_is (or3 a b) d, arithmetic_claim.or_is a (or3 b d)))
 
 -- a row is retained where its value is true
-pub is_kept : (a : Truth) → truth_number a ≡ truth_number True → is_true a ≡ true
-is_kept False e = absurd (omega arith)
-is_kept Unknown e = absurd (omega arith)
-is_kept True e = refl
-
-pub not_kept : (a : Truth) → (truth_number a ≡ truth_number True → ⊥) → is_true a ≡ false
+pub not_kept : (a : Truth) → (a ≡ True → ⊥) → is_true a ≡ false
 not_kept False f = refl
 not_kept Unknown f = refl
 not_kept True f = absurd (f refl)
@@ -94,7 +48,7 @@ abbrev pub over_two : Quantifier → Truth → Truth → Truth
 over_two q a b = join3 (over_rows q) a b
 
 -- the value over no rows, and the one that decides
-over_decides : (q : Quantifier) → truth_number True - empty_over q ≡ decided_by (over_rows q)
+pub over_decides : (q : Quantifier) → not3 (empty_truth q) ≡ deciding (over_rows q)
 over_decides Some = refl
 over_decides All = refl
 
@@ -148,62 +102,57 @@ over_more q (suc n) f =
     ∙ ap (λ v. over_two q v (f (suc n))) (sym (over_cons q (f 0) (tabulate n (λ k. f (suc k)))))
 
 -- a row that decides
-pub over_stop : (q : Quantifier) (n : ℕ) (f : ℕ → Truth) (k : ℕ) → k < n → truth_number (f k) ≡ decided_by (over_rows q) → decided_by (over_rows q) ≡ truth_number (over3 q (tabulate n f))
+pub over_stop : (q : Quantifier) (n : ℕ) (f : ℕ → Truth) (k : ℕ) → k < n → f k ≡ deciding (over_rows q) → deciding (over_rows q) ≡ over3 q (tabulate n f)
 over_stop q zero f k l e = absurd (not-suc-le-zero l)
-over_stop q (suc n) f zero l e = left_stop (over_rows q) (f 0) _ e ∙ ap truth_number (sym (over_cons q (f 0) _))
+over_stop q (suc n) f zero l e = left_stop (over_rows q) (f 0) _ e ∙ sym (over_cons q (f 0) _)
 over_stop q (suc n) f (suc k) l e =
-    right_stop (over_rows q) (f 0) _ (over_stop q n (λ k. f (suc k)) k (le_of_suc-le-suc l) e) ∙ ap truth_number (sym (over_cons q (f 0) _))
+    right_stop (over_rows q) (f 0) _ (over_stop q n (λ k. f (suc k)) k (le_of_suc-le-suc l) e) ∙ sym (over_cons q (f 0) _)
 
--- no row has decided yet, and the next one does not
-pub over_on : (q : Quantifier) (a b : Truth) → (truth_number a ≡ decided_by (over_rows q) → ⊥) → (truth_number b ≡ decided_by (over_rows q) → ⊥)
-    → unless_unknown (truth_number b) (truth_number a) ≡ truth_number (over_two q a b)
-over_on Some a False f g = omega (arith, arithmetic_claim.or_is a False)
-over_on Some a Unknown f g = omega (arith, arithmetic_claim.or_is a Unknown, number_high a)
-over_on Some a True f g = absurd (g refl)
-over_on All a False f g = absurd (g refl)
-over_on All a Unknown f g = omega (arith, arithmetic_claim.and_is a Unknown)
-over_on All a True f g = omega (arith, arithmetic_claim.and_is a True, number_high a)
+-- a is the value over the rows so far, b that of one more: neither decides
+module _ (q : Quantifier) where
+  abbrev pub Open : Truth → Type 0
+  Open a = a ≡ deciding (over_rows q) → ⊥
 
--- ---- the value over no rows, as a number, is not the one that decides
+pub open_two : (q : Quantifier) (a b : Truth) → Open q a → Open q b → Open q (over_two q a b)
+open_two Some False b f g e = g e
+open_two Some Unknown False f g e = f e
+open_two Some Unknown Unknown f g e = f e
+open_two Some Unknown True f g e = g refl
+open_two Some True b f g e = f refl
+open_two All False b f g e = f refl
+open_two All Unknown False f g e = g refl
+open_two All Unknown Unknown f g e = f e
+open_two All Unknown True f g e = f e
+open_two All True b f g e = g e
 
-pub none_open : (q : Quantifier) → empty_over q ≡ decided_by (over_rows q) → ⊥
-none_open Some e = omega arith
-none_open All e = omega arith
+-- then the value is unknown with a row that is unknown, and else stays
+pub unknown_two : (q : Quantifier) (a : Truth) → Open q a → Unknown ≡ over_two q a Unknown
+unknown_two Some False f = refl
+unknown_two Some Unknown f = refl
+unknown_two Some True f = absurd (f refl)
+unknown_two All False f = absurd (f refl)
+unknown_two All Unknown f = refl
+unknown_two All True f = refl
 
--- a row that does not decide leaves it open
-pub more_open : (q : Quantifier) (row value : ℕ) → (value ≡ decided_by (over_rows q) → ⊥) → unless_unknown row value ≡ decided_by (over_rows q) → ⊥
-more_open q row value f = go (eqb row (truth_number Unknown)) q f
-  where
-    go : (b : Bool) (q : Quantifier) → (value ≡ decided_by (over_rows q) → ⊥) → cond b (truth_number Unknown) value ≡ decided_by (over_rows q) → ⊥
-    go true Some f z = omega arith
-    go true All f z = omega arith
-    go false q f z = f z
+pub known_two : (q : Quantifier) (a b : Truth) → Open q b → (b ≡ Unknown → ⊥) → a ≡ over_two q a b
+known_two Some a False f g = sym (two_empty Some a)
+known_two Some a Unknown f g = absurd (g refl)
+known_two Some a True f g = absurd (f refl)
+known_two All a False f g = absurd (f refl)
+known_two All a Unknown f g = absurd (g refl)
+known_two All a True f g = sym (two_empty All a)
 
--- ---- lists, by their kinds
+-- the value over no rows does not decide
+pub none_open : (q : Quantifier) → Open q (empty_truth q)
+none_open Some e = omega (arith, ap truth_number e)
+none_open All e = omega (arith, ap truth_number e)
 
-pub over_none_by : {kind : ℕ} (q : Quantifier) → kind ≡ list_kind q → OverNone kind (empty_over q)
-over_none_by q e = record { lists = (q, e); empty_is = refl }
+-- which quantifier it is, by its value over no rows
+abbrev pub empty_over : Truth → Quantifier
+empty_over False = Some
+empty_over Unknown = All
+empty_over True = All
 
--- the quantifier of a list
-abbrev pub quantifier_of : ℕ → Quantifier
-quantifier_of kind = cond (eqb kind (list_kind Some)) Some All
-
-quantifier_back : (q : Quantifier) → quantifier_of (list_kind q) ≡ q
-quantifier_back Some = refl
-quantifier_back All = refl
-
-module _ {kind empty : ℕ} (o : OverNone kind empty) where
-  quantifier_is : o.lists.0 ≡ quantifier_of kind
-  quantifier_is = sym (ap quantifier_of o.lists.1 ∙ quantifier_back o.lists.0)
-
-  pub kind_is : kind ≡ list_kind (quantifier_of kind)
-  kind_is = o.lists.1 ∙ ap list_kind quantifier_is
-
-  pub none_is : empty ≡ empty_over (quantifier_of kind)
-  none_is = o.empty_is ∙ ap empty_over quantifier_is
-
-  pub none_high : empty ≤ truth_number True
-  none_high = omega (arith, o.empty_is, number_high (empty_truth o.lists.0))
-
-  pub none_decides : truth_number True - empty ≡ decided_by (over_rows (quantifier_of kind))
-  none_decides = ap (truth_number True -◌) none_is ∙ over_decides (quantifier_of kind)
+pub empty_back : (q : Quantifier) → empty_over (empty_truth q) ≡ q
+empty_back Some = refl
+empty_back All = refl

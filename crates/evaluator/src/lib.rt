@@ -1,313 +1,243 @@
 // The value of a rule on rows, true, false or unknown, from the values of its parts. No card is made or run.
-// A truth value is a number: 0 false, 1 unknown, 2 true. So AND, OR and NOT are arithmetic, as document 02, Point 3, has it: the smaller of two, the greater of
-// two, and 2 minus the value (ArithmeticClaim of the crate rule); a truth test compares.
-// Short names: p, the parts as numbers; g, where the tables stand; s, the number of a part; w, for each level the number of its row's first cell, and
-// depth, how many levels there are; v, the same with one level more.
+// As document 02, Point 3, has it: AND is the least of its two sides, and OR the greatest; NOT and the truth tests answer by the value of what they stand before.
+// Short names: s, the number of a part; w, for each level the number of its row's first cell, and depth, how many levels there are; v, the same with one level
+// more.
 #![tactic(auto)]
 
-ghost use Rattle.std.specs.Prelude.{◌≡◌, ◌*◌, ◌-◌, ◌≤◌, min, max, get_or};
-ghost use Rattle.tables.specs.Values.{comparison_of};
+ghost use Rattle.std.specs.Prelude.{◌≡◌};
+ghost use Rattle.tables.specs.Values.{mark_passes};
 ghost use Rattle.cells.specs.Code.{seen_cell};
-ghost use Rattle.rule.specs.Truth.{True, truth, truth_number};
-ghost use Rattle.rule.specs.Meaning.{compare3};
-ghost use Rattle.rule.specs.Parts.{exists_kind};
-ghost use Rattle.rule.specs.Groups.{UnaryNumber};
-ghost use Rattle.names.specs.Code.{part_size};
-ghost use Rattle.evaluator.specs.Code.{UnaryValued, unless_unknown, TestReady, TestEvaluated, Evaluable, Evaluates, Decides, RowReady, RowEvaluated, OverNone};
+ghost use Rattle.rule.specs.Truth.{join3, deciding};
+ghost use Rattle.rule.specs.Meaning.{compare3, unary3};
+ghost use Rattle.evaluator.specs.Code.{empty_truth, TestReady, TestEvaluated, Evaluable, Evaluates, Joins, Ranges, Lists, RowReady, RowEvaluated};
 
-use cells::{DECLINED_MARK, PLACES, PRESENT_MARK, Seen};
-use names::{
-    PART_COMPARISON, PART_END, PART_FIELDS, PART_LEFT, PART_NUMBERS, PART_RIGHT, PART_TABLE,
-};
-use parts::part_value;
-use rule::{
-    ALL_PART, AND_PART, COMPARISON_PART, DECLINED_PART, EXISTS_PART, IS_FALSE_PART,
-    IS_NOT_FALSE_PART, IS_NOT_TRUE_PART, IS_NOT_UNKNOWN_PART, IS_TRUE_PART, IS_UNKNOWN_PART,
-    NOT_DECLINED_PART, NOT_NULL_PART, NOT_PART, NULL_PART, OR_PART, SOME_PART,
-};
-use values::LEVELS;
-
-pub const FALSE: usize = 0;
-
-pub const UNKNOWN: usize = 1;
-
-const TRUE: usize = 2;
-
-fn truth_of(b: bool) -> usize
-    ensures { result ≡ truth_number (truth b) }
-{
-    if b {
-        return TRUE;
-    }
-    FALSE
-}
-
-// AND of two values.
-fn smaller(a: usize, b: usize) -> usize
-    ensures { result ≡ min a b }
-{
-    if a < b {
-        return a;
-    }
-    b
-}
-
-// OR of two values.
-fn greater(a: usize, b: usize) -> usize
-    ensures { result ≡ max a b }
-{
-    if a < b {
-        return b;
-    }
-    a
-}
-
-// NOT of a value.
-fn opposite(a: usize) -> usize
-    requires { a ≤ 2 }
-    ensures { result ≡ 2 - a }
-{
-    TRUE - a
-}
+use cells::{DECLINED_MARK, Layout, PRESENT_MARK, Seen};
+use grammar::MOST_PARTS;
+use names::RulePart;
+use rule::{FromClause, Head, Test, Truth, Unary};
+use tables::{Comparison, Connective, MarkTest, Quantifier, Value};
+use values::{LEVELS, look};
 
 // A comparison of two cells: unknown where one of them is blank or declined.
-fn compare(op: usize, x: Seen, y: Seen) -> usize
-    ensures { result ≡ truth_number (compare3 (comparison_of op) (seen_cell x) (seen_cell y)) }
+fn compare(comparison: Comparison, x: Seen, y: Seen) -> Truth
+    ensures { result ≡ compare3 comparison (seen_cell x) (seen_cell y) }
 {
-    let holds = values::numbers_hold(op, x.number, y.number);
-    if (x.mark != PRESENT_MARK) | (y.mark != PRESENT_MARK) {
-        return UNKNOWN;
+    if x.mark != PRESENT_MARK || y.mark != PRESENT_MARK {
+        return Truth::Unknown;
     }
-    truth_of(holds)
+    Truth::from(values::numbers_hold(comparison, x.number, y.number))
 }
 
-// A comparison or a test by the mark: a declined cell is blank too, so that IS NULL holds of every cell that is not present. A test and its negation share an arm: with an
-// arm for each kind the compiler jumped by a table, and JUDGE of a WHERE with IS NULL in it took a fourth longer.
-fn evaluate_test(
-    p: &[usize; PART_NUMBERS],
-    g: &[usize; PLACES],
-    file: &[u8],
-    s: usize,
-    w: &[usize; LEVELS],
-) -> usize
-    requires { TestReady p.now g.now file.now w.now s }
-    ensures { TestEvaluated p.now g.now file.now w.now s result }
+// What a test by the mark says of a cell: a declined cell is blank too, so that IS NULL holds of every cell that is not present. A test and its negation share an
+// arm: with an arm for each the compiler jumped by a table, and JUDGE of a WHERE with IS NULL in it took a fourth longer.
+fn mark_holds(test: MarkTest, x: Seen) -> bool
+    ensures { result ≡ mark_passes test (seen_cell x) }
 {
-    let kind = p[PART_FIELDS * s];
-    let x = values::look(g, file, w, part_value(p, s, PART_LEFT));
-    match kind {
-        COMPARISON_PART => {
-            let y = values::look(g, file, w, part_value(p, s, PART_RIGHT));
-            compare(p[PART_FIELDS * s + PART_COMPARISON], x, y)
+    match test {
+        MarkTest::Null | MarkTest::NotNull => {
+            (x.mark != PRESENT_MARK) == (test == MarkTest::Null)
         }
-        NULL_PART | NOT_NULL_PART => truth_of((x.mark != PRESENT_MARK) == (kind == NULL_PART)),
-        DECLINED_PART | NOT_DECLINED_PART => {
-            truth_of((DECLINED_MARK <= x.mark) == (kind == DECLINED_PART))
+        MarkTest::IsDeclined | MarkTest::NotDeclined => {
+            (DECLINED_MARK <= x.mark) == (test == MarkTest::IsDeclined)
         }
-        _ => unreachable!(),
     }
 }
 
 // What NOT or a truth test makes of the value of the condition in it.
-fn unary_value(kind: usize, inner: usize) -> usize
-    requires fact_1 { UnaryNumber kind }
-    requires fact_2 { inner ≤ truth_number True }
-    ensures { UnaryValued kind inner result }
+fn unary_value(unary: Unary, inner: Truth) -> Truth
+    ensures { result ≡ unary3 unary inner }
 {
-    match kind {
-        NOT_PART => opposite(inner),
-        IS_TRUE_PART => truth_of(inner == TRUE),
-        IS_NOT_TRUE_PART => truth_of(inner != TRUE),
-        IS_FALSE_PART => truth_of(inner == FALSE),
-        IS_NOT_FALSE_PART => truth_of(inner != FALSE),
-        IS_UNKNOWN_PART => truth_of(inner == UNKNOWN),
-        IS_NOT_UNKNOWN_PART => truth_of(inner != UNKNOWN),
-        _ => unreachable!(),
+    match unary {
+        Unary::Not => !inner,
+        Unary::Is(truth) => Truth::from(inner == truth),
+        Unary::IsNot(truth) => Truth::from(inner != truth),
     }
 }
 
-// The value of part s with its inner parts.
-#[cycle(evaluating)]
-pub fn evaluate_part(
-    p: &[usize; PART_NUMBERS],
-    g: &[usize; PLACES],
-    file: &[u8],
-    s: usize,
-    w: &[usize; LEVELS],
-    depth: usize,
-) -> usize
-    requires { Evaluable p.now g.now file.now w.now s depth }
-    ensures { Evaluates p.now g.now file.now w.now s depth result }
+// The value of one side that decides for both: false of AND, which takes the smaller, and true of OR, which takes the greater.
+fn deciding(connective: Connective) -> Truth
+    ensures { result ≡ deciding connective }
 {
-    let kind = p[PART_FIELDS * s];
-    match kind {
-        AND_PART => evaluate_pair(p, g, file, s, w, depth, FALSE),
-        OR_PART => evaluate_pair(p, g, file, s, w, depth, TRUE),
-        NOT_PART => {
-            let inner = evaluate_part(p, g, file, s + 1, w, depth);
-            unary_value(kind, inner)
+    match connective {
+        Connective::And => Truth::False,
+        Connective::Or => Truth::True,
+    }
+}
+
+// What AND or OR makes of the values of its two sides.
+fn joined(connective: Connective, left: Truth, right: Truth) -> Truth
+    ensures { result ≡ join3 connective left right }
+{
+    match connective {
+        Connective::And => left.min(right),
+        Connective::Or => left.max(right),
+    }
+}
+
+// The value over no rows: false of SOME, which a true comparison decides, and true of ALL, which a false one decides.
+fn over_no_rows(quantifier: Quantifier) -> Truth
+    ensures { result ≡ empty_truth quantifier }
+{
+    match quantifier {
+        Quantifier::Some => Truth::False,
+        Quantifier::All => Truth::True,
+    }
+}
+
+// The parts of a rule, and the tables that it is evaluated over, with where these stand.
+#[derive(Clone, Copy)]
+pub struct Evaluation<'a> {
+    pub parts: &'a [RulePart; MOST_PARTS],
+    pub layout: &'a Layout,
+    pub file: &'a [u8],
+}
+
+impl<'a> Evaluation<'a> {
+    // The value of a test. Its first value is looked at in one place, whichever test it is.
+    fn evaluate_test(&self, test: &Test<Value>, w: &[usize; LEVELS]) -> Truth
+        requires { TestReady self.now w.now test.now }
+        ensures { TestEvaluated self.now w.now test.now result }
+    {
+        let (Test::Compare { left: value, .. } | Test::Mark { value, .. }) = *test;
+        let x = look(self.layout, self.file, w, value);
+        match *test {
+            Test::Compare {
+                comparison,
+                right,
+                ..
+            } => compare(comparison, x, look(self.layout, self.file, w, right)),
+            Test::Mark { test, .. } => Truth::from(mark_holds(test, x)),
         }
-        COMPARISON_PART | NULL_PART | NOT_NULL_PART | DECLINED_PART | NOT_DECLINED_PART => {
-            evaluate_test(p, g, file, s, w)
+    }
+
+    // The value of part s with its inner parts.
+    #[cycle(evaluating)]
+    pub fn evaluate_part(&self, s: usize, w: &[usize; LEVELS], depth: usize) -> Truth
+        requires { Evaluable self.now w.now s depth }
+        ensures { Evaluates self.now w.now s depth result }
+    {
+        match &self.parts[s].head {
+            Head::AtomHead(test) => self.evaluate_test(test, w),
+            Head::JoinHead(connective) => self.evaluate_pair(*connective, s, w, depth),
+            Head::UnaryHead(unary) => unary_value(*unary, self.evaluate_part(s + 1, w, depth)),
+            Head::ExistsHead(FromClause::Single(table)) => {
+                self.evaluate_exists(*table, s, w, depth)
+            }
+            Head::ListedHead { .. } => self.evaluate_list(s, w, depth),
         }
-        EXISTS_PART => evaluate_exists(p, g, file, s, w, depth),
-        SOME_PART => evaluate_list(p, g, file, s, w, depth, FALSE),
-        ALL_PART => evaluate_list(p, g, file, s, w, depth, TRUE),
-        IS_TRUE_PART
-        | IS_NOT_TRUE_PART
-        | IS_FALSE_PART
-        | IS_NOT_FALSE_PART
-        | IS_UNKNOWN_PART
-        | IS_NOT_UNKNOWN_PART => {
-            let inner = evaluate_part(p, g, file, s + 1, w, depth);
-            unary_value(kind, inner)
+    }
+
+    // AND and OR. Where the left side has the value that decides, the right one is not evaluated: both together would give the same (left_decides of
+    // ArithmeticClaim).
+    #[cycle(evaluating)]
+    fn evaluate_pair(
+        &self,
+        connective: Connective,
+        s: usize,
+        w: &[usize; LEVELS],
+        depth: usize,
+    ) -> Truth
+        requires { Joins self.now w.now s depth connective }
+        ensures { Evaluates self.now w.now s depth result }
+    {
+        let left = self.evaluate_part(s + 1, w, depth);
+        if left == deciding(connective) {
+            return left;
         }
-        _ => unreachable!(),
+        let right = self.evaluate_part(self.parts[s + 1].end, w, depth);
+        joined(connective, left, right)
     }
-}
 
-// AND and OR. decides is the value of one side that decides for both: false of AND, which takes the smaller, and true of OR, which takes the greater. Where
-// the left side has it, the right one is not evaluated: both together would give the same (left_decides of ArithmeticClaim).
-#[cycle(evaluating)]
-fn evaluate_pair(
-    p: &[usize; PART_NUMBERS],
-    g: &[usize; PLACES],
-    file: &[u8],
-    s: usize,
-    w: &[usize; LEVELS],
-    depth: usize,
-    decides: usize,
-) -> usize
-    requires { (Evaluable p.now g.now file.now w.now s depth) × (Decides (get_or p.now (part_size * s) 0) decides) }
-    ensures { Evaluates p.now g.now file.now w.now s depth result }
-{
-    let left = evaluate_part(p, g, file, s + 1, w, depth);
-    if left == decides {
-        return decides;
-    }
-    let next = p[PART_FIELDS * (s + 1) + PART_END];
-    let right = evaluate_part(p, g, file, next, w, depth);
-    if decides == FALSE {
-        return smaller(left, right);
-    }
-    greater(left, right)
-}
-
-// The value of part s, the WHERE of EXISTS or of a list, at a row. Where it is a single test, no recursive call is made for each row.
-#[cycle(evaluating)]
-fn evaluate_where(
-    p: &[usize; PART_NUMBERS],
-    g: &[usize; PLACES],
-    file: &[u8],
-    s: usize,
-    v: &[usize; LEVELS],
-    depth: usize,
-) -> usize
-    requires { Evaluable p.now g.now file.now v.now s depth }
-    ensures { Evaluates p.now g.now file.now v.now s depth result }
-{
-    let kind = p[PART_FIELDS * s];
-    match kind {
-        COMPARISON_PART | NULL_PART | NOT_NULL_PART | DECLINED_PART | NOT_DECLINED_PART => {
-            evaluate_test(p, g, file, s, v)
+    // The value of part s, the WHERE of EXISTS or of a list, at a row. Where it is a single test, no recursive call is made for each row.
+    #[cycle(evaluating)]
+    fn evaluate_where(&self, s: usize, v: &[usize; LEVELS], depth: usize) -> Truth
+        requires { Evaluable self.now v.now s depth }
+        ensures { Evaluates self.now v.now s depth result }
+    {
+        if let Head::AtomHead(test) = &self.parts[s].head {
+            return self.evaluate_test(test, v);
         }
-        _ => evaluate_part(p, g, file, s, v, depth),
+        self.evaluate_part(s, v, depth)
     }
-}
 
-// EXISTS: true as soon as its WHERE is true on a row.
-#[cycle(evaluating)]
-fn evaluate_exists(
-    p: &[usize; PART_NUMBERS],
-    g: &[usize; PLACES],
-    file: &[u8],
-    s: usize,
-    w: &[usize; LEVELS],
-    depth: usize,
-) -> usize
-    requires { (Evaluable p.now g.now file.now w.now s depth) × (get_or p.now (part_size * s) 0 ≡ exists_kind) }
-    ensures { Evaluates p.now g.now file.now w.now s depth result }
-{
-    let table = cells::table_place(g, p[PART_FIELDS * s + PART_TABLE]);
-    let mut first = table.first;
-    let mut v = *w;
-    let mut r: usize = 0;
-    while r < table.rows {
-        v[depth] = first;
-        let kept = evaluate_where(p, g, file, s + 1, &v, depth + 1);
-        if kept == TRUE {
-            return TRUE;
+    // EXISTS: true as soon as its WHERE is true on a row.
+    #[cycle(evaluating)]
+    fn evaluate_exists(&self, table: u8, s: usize, w: &[usize; LEVELS], depth: usize) -> Truth
+        requires { Ranges self.now w.now s depth table }
+        ensures { Evaluates self.now w.now s depth result }
+    {
+        let table = cells::table_place(self.layout, table as usize);
+        let mut first = table.first;
+        let mut v = *w;
+        for _ in 0..table.rows {
+            v[depth] = first;
+            if self.evaluate_where(s + 1, &v, depth + 1) == Truth::True {
+                return Truth::True;
+            }
+            first += table.columns;
         }
-        first += table.columns;
-        r += 1;
+        Truth::False
     }
-    FALSE
-}
 
-// The comparison of a list's left value x with the value selected at a row, v; a row that the WHERE does not retain counts as empty, the value over no
-// rows, which decides nothing.
-#[cycle(evaluating)]
-fn evaluate_row(
-    p: &[usize; PART_NUMBERS],
-    g: &[usize; PLACES],
-    file: &[u8],
-    s: usize,
-    v: &[usize; LEVELS],
-    depth: usize,
-    empty: usize,
-    x: Seen,
-) -> usize
-    requires { RowReady p.now g.now file.now v.now s depth empty x }
-    ensures { RowEvaluated p.now g.now file.now v.now s depth empty x result }
-{
-    let kept = evaluate_where(p, g, file, s + 1, v, depth);
-    if kept != TRUE {
-        return empty;
-    }
-    let y = values::look(g, file, v, part_value(p, s, PART_RIGHT));
-    compare(p[PART_FIELDS * s + PART_COMPARISON], x, y)
-}
-
-// A list's value after one more row: once unknown, it stays so until a row decides.
-fn after(value: usize, row: usize) -> usize
-    ensures { result ≡ unless_unknown row value }
-{
-    if row == UNKNOWN {
-        return UNKNOWN;
-    }
-    value
-}
-
-// SOME and ALL. empty is the value over no rows: false of SOME, which a true comparison decides, and true of ALL, which a false one decides.
-#[cycle(evaluating)]
-fn evaluate_list(
-    p: &[usize; PART_NUMBERS],
-    g: &[usize; PLACES],
-    file: &[u8],
-    s: usize,
-    w: &[usize; LEVELS],
-    depth: usize,
-    empty: usize,
-) -> usize
-    requires { (Evaluable p.now g.now file.now w.now s depth) × (OverNone (get_or p.now (part_size * s) 0) empty) }
-    ensures { Evaluates p.now g.now file.now w.now s depth result }
-{
-    let table = cells::table_place(g, p[PART_FIELDS * s + PART_TABLE]);
-    let mut first = table.first;
-    // The value left of a list is read outside it.
-    let x = values::look(g, file, w, part_value(p, s, PART_LEFT));
-    let mut v = *w;
-    let mut value = empty;
-    let mut r: usize = 0;
-    while r < table.rows {
-        v[depth] = first;
-        let row = evaluate_row(p, g, file, s, &v, depth + 1, empty, x);
-        if row == TRUE - empty {
-            return row;
+    // The comparison of a list's left value, seen as x, with the value selected at a row, v; a row that the WHERE does not retain counts as empty, the value over
+    // no rows, which decides nothing.
+    #[cycle(evaluating)]
+    fn evaluate_row(
+        &self,
+        comparison: Comparison,
+        x: Seen,
+        selected: Value,
+        empty: Truth,
+        s: usize,
+        v: &[usize; LEVELS],
+        depth: usize,
+    ) -> Truth
+        requires { RowReady self.now v.now s depth selected }
+        ensures { RowEvaluated self.now v.now s depth comparison x selected empty result }
+    {
+        if self.evaluate_where(s + 1, v, depth) != Truth::True {
+            return empty;
         }
-        value = after(value, row);
-        first += table.columns;
-        r += 1;
+        compare(comparison, x, look(self.layout, self.file, v, selected))
     }
-    value
+
+    // SOME and ALL.
+    #[cycle(evaluating)]
+    fn evaluate_list(&self, s: usize, w: &[usize; LEVELS], depth: usize) -> Truth
+        requires { Lists self.now w.now s depth }
+        ensures { Evaluates self.now w.now s depth result }
+    {
+        let head = self.parts[s].head;
+        let Head::ListedHead {
+            quantifier,
+            comparison,
+            left,
+            selected,
+            from,
+        } = head
+        else {
+            unreachable!();
+        };
+        let FromClause::Single(table) = from;
+        let empty = over_no_rows(quantifier);
+        let table = cells::table_place(self.layout, table as usize);
+        let mut first = table.first;
+        // The value left of a list is read outside it.
+        let x = look(self.layout, self.file, w, left);
+        let mut v = *w;
+        let mut value = empty;
+        for _ in 0..table.rows {
+            v[depth] = first;
+            let row = self.evaluate_row(comparison, x, selected, empty, s, &v, depth + 1);
+            if row == !empty {
+                return row;
+            }
+            // Once unknown, the value stays so until a row decides.
+            if row == Truth::Unknown {
+                value = row;
+            }
+            first += table.columns;
+        }
+        value
+    }
 }

@@ -5,17 +5,16 @@ use Prim.Native.Nat.{ℕ, zero, suc, ◌<◌, ◌≤◌}
 use native.Mathlib.Omega.{arith}
 use lib.IntN.{ℤ}
 use lib.ListN.{length, get_or}
-use Rattle.tables.specs.Bytes.{signed}
+use Rattle.tables.proofs.Placed.{placed_none, placed_one}
 use Rattle.tables.specs.Tables.{most_columns, Blank, Declined, cell_marked, size_at}
 use Rattle.numerals.specs.Numerals.{numeral}
 use Rattle.lines.specs.Lines.{declined_field, field_text}
 use Rattle.lines.proofs.Written.{rows_count, row_count}
-use Rattle.cells.specs.Code.{words32, from_excess, Sized, seen_cell}
+use Rattle.cells.specs.Code.{Sized, seen_cell}
 use Rattle.cells.specs.declared.Seen.{Seen}
 use Rattle.cells.specs.declared.Place.{Place}
 use Rattle.cells.proofs.Cells.{sized_is}
-use Rattle.cells.proofs.Signed.{excess_small, signed_in}
-use Rattle.window.specs.Window.{cell_number, bits_at, Inside, seen_at}
+use Rattle.window.specs.Window.{Inside, seen_at}
 use Rattle.window.proofs.Shown.{window_claim}
 use Rattle.exporter.specs.Code.{FirstTableAt, first_rows, first_row}
 
@@ -28,17 +27,19 @@ marked_declined (suc zero) k f g = absurd (g refl)
 marked_declined (suc (suc mark)) k f g = refl
 
 module _ (x : Seen) where
-  pub number_field : x.mark ≡ 0 → field_text (seen_cell x) ≡ numeral (from_excess x.number)
+  pub number_field : x.mark ≡ 0 → field_text (seen_cell x) ≡ numeral x.number
   unfolding field_text
-  number_field e = ap (λ (mark : ℕ). field_text (cell_marked mark (from_excess x.number))) e
+  number_field e = ap (λ (mark : ℕ). field_text (cell_marked mark x.number)) e
 
   pub blank_field : x.mark ≡ 1 → field_text (seen_cell x) ≡ []
   unfolding field_text
-  blank_field e = ap (λ (mark : ℕ). field_text (cell_marked mark (from_excess x.number))) e
+  blank_field e = ap (λ (mark : ℕ). field_text (cell_marked mark x.number)) e
 
   pub declined_field_lem : (x.mark ≡ 0 → ⊥) → (x.mark ≡ 1 → ⊥) → field_text (seen_cell x) ≡ declined_field
   unfolding field_text
-  declined_field_lem f g = ap field_text (marked_declined x.mark (from_excess x.number) f g)
+  declined_field_lem f g = ap field_text (marked_declined x.mark x.number f g)
+
+pub ruleset field_texts = (number_field, blank_field, declined_field_lem, placed_none, placed_one)
 
 -- ---- table 1
 
@@ -70,12 +71,6 @@ module _ (file : List ℕ) (at : Place) (table : FirstTableAt file at) where
           rw table.place (window_claim.inside file 0 row column table.fits sized.tables_low (omega (arith, rows_same)) (omega (arith, columns_same)))
 
       module _ (x : Seen) (e : x ≡ seen_at file at row column) where
-        pub cell_small : x.number < words32
-        cell_small =
-            rw e
-            (let raw = bits_at file at.values (cell_number at.first at.columns row column) in
-            excess_small (signed raw) (signed_in raw))
-
         pub cell_is : seen_cell x ≡ get_or (first_row file row) column Blank
         cell_is =
             ap seen_cell e

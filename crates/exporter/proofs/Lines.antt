@@ -17,6 +17,7 @@ use Rattle.lines.specs.Claims.{most_lines}
 use Rattle.lines.proofs.Written.{lines_next, lines_front, table_few, table_most, cells_few}
 use Rattle.cells.specs.declared.Place.{Place}
 use Rattle.exporter.specs.Code.{FirstTableAt, first_rows}
+use Rattle.exporter.proofs.Cells.{rows_long}
 
 -- ---- how long they are at most
 
@@ -106,3 +107,10 @@ module _ {rows : Table} {out₀ : List ℕ} {k : ℕ} {out : List ℕ} {next : �
   put_all h =
       let all-rows = ap lines_text (take_all k rows h) in
       (p.is ∙ ap (placed out₀ 0) all-rows, p.ends ∙ ap length all-rows)
+
+-- what the measuring and the writing of all lines rest on
+pub ruleset lines_measured = (rows_long, lines_most, measured_none, sum_small, measured_line, measured_lines)
+
+pub ruleset lines_put = (rows_long, put_none, line_room, put_line, put_all)
+
+pub ruleset lines_room = (few_cells, room_enough)

@@ -11,7 +11,8 @@ use Rattle.tables.specs.Tables.{Cell, Blank, Row}
 use Rattle.tables.proofs.Placed.{placed_length, placed_none, placed_next, set_next}
 use Rattle.lines.specs.Lines.{comma, line_feed, field_text, line_text}
 use Rattle.lines.specs.Claims.{field_room, line_room}
-use Rattle.lines.proofs.Written.{fields_text, fields_first, fields_next, line_long, room_front, room_next}
+use Rattle.exporter.proofs.Cells.{columns_in, row_long, cell_inside, cell_is}
+use Rattle.lines.proofs.Written.{field_short, fields_text, fields_first, fields_next, line_long, room_front, room_next}
 
 -- ---- measured
 
@@ -119,3 +120,8 @@ module _ {row : Row} {i : ℕ} {out₀ : List ℕ} {next₀ k : ℕ} {out : List
             ∙ ap (λ (t : List ℕ). t ++ (line_feed ∷ [])) (ap (λ (y : Cell). field_text y ++ b.behind) e ∙ sym b.whole ∙ ap fields_text all-fields)),
         omega (arith, b.place, ap line_room all-fields, line_long row (omega arith)),
       )
+
+-- what a row's measuring and its writing rest on
+pub ruleset row_measured = (columns_in, row_long, cell_inside, cell_is, field_short, measured_more, measured_all)
+
+pub ruleset row_put = (columns_in, row_long, cell_inside, cell_is, first_room, begun_first, begun_within, begun_room, begun_more, begun_all)

@@ -2,8 +2,7 @@
 use mathlib.Core.Path.{◌≡◌, refl, sym, ap, ◌∙◌}
 use mathlib.Core.Bool.{Bool, true, false}
 use mathlib.Core.List.{List, [], ◌∷◌, ◌++◌, append-nil}
-use Prim.Native.Nat.{ℕ, zero, suc, ◌+◌, ◌*◌, ◌≤◌, ◌<◌}
-use native.Mathlib.Nat.{suc-mul}
+use Prim.Native.Nat.{ℕ, zero, suc, ◌+◌, ◌≤◌, ◌<◌}
 use native.Mathlib.Numerals.{add-one}
 use native.Mathlib.Omega.{arith}
 use lib.ListN.{length, take, set, length-append, length-set}
@@ -35,9 +34,6 @@ module _ (p : ℕ → Bool) where
     pub few : k ≤ row
     pub rows : take k kept ≡ kept_below row
     pub count : k ≡ length (kept_below row)
-
-  pub kept_none : (kept : List ℕ) → length kept ≡ most_rows → Kept kept 0 0
-  kept_none kept h = record { size = h; few = omega arith; rows = refl; count = refl }
 
   module _ (kept : List ℕ) (k row : ℕ) (h : Kept kept k row) (room : row < most_rows) where
     stored : length (set kept k row) ≡ most_rows
@@ -73,7 +69,3 @@ module _ (p : ℕ → Bool) where
   kept_all file kept k row n h e l m =
       let z : row ≡ row_count file 1 = omega arith in
       (h.rows ∙ ap kept_below z, h.count ∙ ap (λ (n : ℕ). length (kept_below n)) z)
-
--- the first cell of the next row
-pub next_first : (first row columns : ℕ) → first ≡ row * columns → first + columns ≡ (row + 1) * columns
-next_first first row columns p = let z = suc-mul row columns in rw (add-one row) (omega arith)

@@ -1,10 +1,9 @@
 -- What proofs/ shows of these definitions.
-use Rattle.std.specs.Prelude.{◌≡◌}
-use Rattle.gate.specs.Answers.{ran_answer, listed_answer}
-use Rattle.gate.specs.declared.Ran.{Ran}
-use Rattle.gate.specs.declared.Listed.{Listed}
+use Rattle.std.specs.Prelude.{◌≡◌, Bool, ℕ, Result}
+use Rattle.cells.specs.Reasons.{answer_of}
+use Rattle.cells.specs.declared.Reason.{Reason}
 
--- what the enums of RUN and LIST stand for tells their cases
+-- what the answers of RUN and LIST stand for tells their cases
 pub record AnswersClaim : Type 0 where
-  pub ran : (x y : Ran) → ran_answer x ≡ ran_answer y → x ≡ y
-  pub listed : (x y : Listed) → listed_answer x ≡ listed_answer y → x ≡ y
+  pub ran : (x y : Result Bool Reason) → answer_of x ≡ answer_of y → x ≡ y
+  pub listed : (x y : Result ℕ Reason) → answer_of x ≡ answer_of y → x ≡ y

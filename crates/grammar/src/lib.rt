@@ -2,152 +2,101 @@
 // Short names: s, the tokens; at, the place of one; w, how many parts are noted before; out, the noted parts.
 #![tactic(auto)]
 
-ghost use Rattle.std.specs.Prelude.{◌≡◌, ◌++◌, max, ◌+◌, ◌*◌, ◌<◌, ◌≤◌, length, take};
+ghost use Rattle.std.specs.Prelude.{◌≡◌, [], ◌∷◌, ◌++◌, ◌+◌, ◌<◌, ◌≤◌, length, take};
 ghost use Rattle.rule.specs.Names.{most_parts};
-ghost use Rattle.rule.specs.Parts.{join_kind};
 ghost use Rattle.rule.specs.Reader.{condition, conjunction, factor, test, chain, operand, join_word};
 ghost use Rattle.lexer.specs.Code.{most_tokens};
-ghost use Rattle.phrases.specs.Code.{note_numbers, plain_note_numbers};
-ghost use Rattle.grammar.specs.Code.{note_size, notes_size, not_numbers, joined_by, join_parts, join_numbers, NotsTo, StepFits, TestedTo, Ready, ReadsTo, ReadsClosed, ReadsAll};
+ghost use Rattle.grammar.specs.Code.{not_notes, join_parts, join_notes, NotsTo, StepFits, TestedTo, Ready, ReadsTo, ReadsClosed, ReadsAll};
 
-use lexer::{AND, CLOSE, IS, NOT, OPEN, OR};
-use phrases::{
-    NOTED_NUMBERS, Note, Start, TruthRead, left_note, put_noted, read_truth_test, start_test,
-    token, unused_noted,
-};
-use rule::{AND_PART, NOT_PART, OR_PART};
+use phrases::{Note, Start, is_word, read_truth_test, start_test};
+use rule::{Head, Test, Token, Unary, Word, WrittenValue};
+use tables::{Comparison, Connective};
 
 // Limits on a rule.
 pub const MOST_PARTS: usize = 64;
 
 pub const MOST_FROMS: usize = 3;
 
-// Where the fields of a noted part stand: the kind first, then these.
-pub const NOTE_COMPARISON: usize = 1;
+// What stands in an array of notes where none is noted yet. All its bytes are 0, so that one call of memset sets up an array; with another note each was
+// written by itself.
+pub const NO_NOTE: Note = Head::AtomHead(Test::Compare {
+    comparison: Comparison::Eq,
+    left: WrittenValue::Plain(0),
+    right: WrittenValue::Plain(0),
+});
 
-pub const NOTE_TABLE: usize = 2;
-
-pub const NOTE_LETTER: usize = 3;
-
-pub const NOTE_LEFT: usize = 4;
-
-pub const NOTE_RIGHT: usize = NOTE_LEFT + NOTED_NUMBERS;
-
-// How many numbers these are, and those of all parts.
-pub const NOTE_FIELDS: usize = NOTE_RIGHT + NOTED_NUMBERS;
-
-pub const NOTE_NUMBERS: usize = NOTE_FIELDS * MOST_PARTS;
-
-// What a reader answers: the place after what it read, how many parts are noted now, and how many FROMs stand around one another in what it read.
+// What a reader answers, if there is a reading: the place after what it read, how many parts are noted now, and how many FROMs stand around one another in
+// what it read.
 #[derive(Clone, Copy)]
-pub enum Step {
-    Next {
-        at: usize,
-        count: usize,
-        deep: usize,
-    },
-    NoReading,
+pub struct Step {
+    pub at: usize,
+    pub count: usize,
+    pub deep: usize,
 }
 
 // Part number w, as long as there is room: a text may have more parts than a rule may.
-fn note_part(out: &mut [usize; NOTE_NUMBERS], w: usize, note: Note)
-    requires { length out.old ≡ notes_size }
-    ensures noted { w < most_parts → take (note_size * (w + 1)) out.new ≡ take (note_size * w) out.old ++ note_numbers note }
-    ensures size { length out.new ≡ notes_size }
+fn note_part(out: &mut [Note; MOST_PARTS], w: usize, note: Note)
+    ensures { w < most_parts → take (w + 1) out.new ≡ take w out.old ++ (note ∷ []) }
 {
-    if MOST_PARTS <= w {
-        return;
+    if w < MOST_PARTS {
+        out[w] = note;
     }
-    let p = NOTE_FIELDS * w;
-    out[p] = note.kind;
-    out[p + NOTE_COMPARISON] = note.comparison;
-    out[p + NOTE_TABLE] = note.table;
-    out[p + NOTE_LETTER] = note.letter;
-    let left = note.left;
-    let right = note.right;
-    put_noted(out, p + NOTE_LEFT, left);
-    put_noted(out, p + NOTE_RIGHT, right);
-}
-
-// A part that says no more than its kind: AND, OR, NOT and truth tests.
-fn plain_note(kind: usize) -> Note
-    ensures { note_numbers result ≡ plain_note_numbers kind }
-{
-    left_note(kind, unused_noted())
-}
-
-fn larger(a: usize, b: usize) -> usize
-    ensures { result ≡ max a b }
-{
-    if a < b {
-        return b;
-    }
-    a
 }
 
 // The word that joins: OR or AND.
-fn join_word(or: bool) -> usize
-    ensures { result ≡ join_word (joined_by or) }
+fn join_word(connective: Connective) -> Word
+    ensures { result ≡ join_word connective }
 {
-    if or {
-        return OR;
+    match connective {
+        Connective::And => Word::And,
+        Connective::Or => Word::Or,
     }
-    AND
 }
 
-// The kind of the part that it makes of two.
-fn join_part(or: bool) -> usize
-    ensures { result ≡ join_kind (joined_by or) }
-{
-    if or {
-        return OR_PART;
-    }
-    AND_PART
-}
-
-// Conjunctions joined by OR.
+// Conjunctions joined by OR. This reader and the next keep their names beside `read_joined`, which is both: they are the grammar's condition and conjunction.
 #[cycle(reading)]
-fn read_condition(s: &[usize], at: usize, out: &mut [usize; NOTE_NUMBERS], w: usize) -> Step
-    requires { Ready s.now at w out.old }
-    ensures reads { ReadsTo condition s.now at w out.old out.new result }
-    ensures size { length out.new ≡ notes_size }
+fn read_condition(s: &[Token], at: usize, out: &mut [Note; MOST_PARTS], w: usize) -> Option<Step>
+    requires { Ready s.now at w }
+    ensures { ReadsTo condition s.now at w out.old out.new result }
 {
-    read_joined(s, at, out, w, true)
+    read_joined(s, at, out, w, Connective::Or)
 }
 
 // Factors joined by AND.
 #[cycle(reading)]
-fn read_conjunction(s: &[usize], at: usize, out: &mut [usize; NOTE_NUMBERS], w: usize) -> Step
-    requires { Ready s.now at w out.old }
-    ensures reads { ReadsTo conjunction s.now at w out.old out.new result }
-    ensures size { length out.new ≡ notes_size }
+fn read_conjunction(s: &[Token], at: usize, out: &mut [Note; MOST_PARTS], w: usize) -> Option<Step>
+    requires { Ready s.now at w }
+    ensures { ReadsTo conjunction s.now at w out.old out.new result }
 {
-    read_joined(s, at, out, w, false)
+    read_joined(s, at, out, w, Connective::And)
 }
 
 // What is joined: a conjunction by OR, a factor by AND.
 #[cycle(reading)]
-fn read_operand(s: &[usize], at: usize, out: &mut [usize; NOTE_NUMBERS], w: usize, or: bool) -> Step
-    requires { Ready s.now at w out.old }
-    ensures reads { ReadsTo (operand (joined_by or)) s.now at w out.old out.new result }
-    ensures size { length out.new ≡ notes_size }
+fn read_operand(
+    s: &[Token],
+    at: usize,
+    out: &mut [Note; MOST_PARTS],
+    w: usize,
+    connective: Connective,
+) -> Option<Step>
+    requires { Ready s.now at w }
+    ensures { ReadsTo (operand connective) s.now at w out.old out.new result }
 {
-    if or {
-        return read_conjunction(s, at, out, w);
+    match connective {
+        Connective::And => read_factor(s, at, out, w),
+        Connective::Or => read_conjunction(s, at, out, w),
     }
-    read_factor(s, at, out, w)
 }
 
 // The part that joins an operand to those before it, once it is noted; a first operand makes none. How many parts are noted then.
-fn note_join(out: &mut [usize; NOTE_NUMBERS], w: usize, or: bool, joins: bool) -> usize
-    requires fact_1 { length out.old ≡ notes_size }
-    requires fact_2 { w ≤ most_tokens }
+fn note_join(out: &mut [Note; MOST_PARTS], w: usize, connective: Connective, joins: bool) -> usize
+    requires { w ≤ most_tokens }
     ensures count { result ≡ w + join_parts joins }
-    ensures noted { result ≤ most_parts → take (note_size * result) out.new ≡ take (note_size * w) out.old ++ join_numbers joins (joined_by or) }
-    ensures size { length out.new ≡ notes_size }
+    ensures noted { result ≤ most_parts → take result out.new ≡ take w out.old ++ join_notes joins connective }
 {
     if joins {
-        note_part(out, w, plain_note(join_part(or)));
+        note_part(out, w, Head::JoinHead(connective));
         return w + 1;
     }
     w
@@ -156,192 +105,155 @@ fn note_join(out: &mut [usize; NOTE_NUMBERS], w: usize, or: bool, joins: bool) -
 // Operands joined by OR, or by AND. The call for an operand stands here once, so that it is compiled into the loop: with a call before the loop and one
 // inside it READ was slower.
 #[cycle(reading)]
-fn read_joined(s: &[usize], at: usize, out: &mut [usize; NOTE_NUMBERS], w: usize, or: bool) -> Step
-    requires { Ready s.now at w out.old }
-    ensures reads { ReadsTo (chain (joined_by or)) s.now at w out.old out.new result }
-    ensures size { length out.new ≡ notes_size }
+fn read_joined(
+    s: &[Token],
+    at: usize,
+    out: &mut [Note; MOST_PARTS],
+    w: usize,
+    connective: Connective,
+) -> Option<Step>
+    requires { Ready s.now at w }
+    ensures { ReadsTo (chain connective) s.now at w out.old out.new result }
 {
     let mut next = at;
     let mut n = w;
     let mut d: usize = 0;
     let mut joins = false;
     loop {
-        let Step::Next {
-            at: behind,
-            count,
-            deep,
-        } = read_operand(s, next, out, n, or)
-        else {
-            return Step::NoReading;
-        };
-        n = note_join(out, count, or, joins);
-        d = larger(d, deep);
-        if token(s, behind) != join_word(or) {
-            return Step::Next {
-                at: behind,
+        let step = read_operand(s, next, out, n, connective)?;
+        n = note_join(out, step.count, connective, joins);
+        d = d.max(step.deep);
+        if !is_word(s, step.at, join_word(connective)) {
+            return Some(Step {
                 count: n,
                 deep: d,
-            };
+                ..step
+            });
         }
-        next = behind + 1;
+        next = step.at + 1;
         joins = true;
     }
 }
 
 // The place after the NOTs that start at a place.
-fn after_nots(s: &[usize], at: usize) -> usize
+#[tactic(auto, using(crate::proofs::Tests::nots_rules))]
+fn after_nots(s: &[Token], at: usize) -> usize
     requires fact_1 { length s.now ≤ most_tokens }
     requires fact_2 { at ≤ length s.now }
     ensures { NotsTo s.now at result }
 {
-    let mut i: usize = at;
-    while token(s, i) == NOT {
-        i += 1;
+    for i in at..s.len() {
+        if !is_word(s, i, Word::Not) {
+            return i;
+        }
     }
-    i
+    s.len()
 }
 
 // The NOTs around a test, k of them, once its parts are noted.
-fn note_nots(out: &mut [usize; NOTE_NUMBERS], w: usize, k: usize)
-    requires fact_1 { length out.old ≡ notes_size }
-    requires fact_2 { w + k ≤ most_tokens }
-    ensures noted { w + k ≤ most_parts → take (note_size * (w + k)) out.new ≡ take (note_size * w) out.old ++ not_numbers k }
-    ensures size { length out.new ≡ notes_size }
+fn note_nots(out: &mut [Note; MOST_PARTS], w: usize, k: usize)
+    requires { w + k ≤ most_tokens }
+    ensures { w + k ≤ most_parts → take (w + k) out.new ≡ take w out.old ++ not_notes k }
 {
-    let mut j: usize = 0;
-    while j < k {
-        note_part(out, w + j, plain_note(NOT_PART));
-        j += 1;
+    for j in 0..k {
+        note_part(out, w + j, Head::UnaryHead(Unary::Not));
     }
 }
 
 // NOT factor, or a test. The NOTs are counted, so that the depth of calls goes by brackets alone.
 #[cycle(reading)]
-fn read_factor(s: &[usize], at: usize, out: &mut [usize; NOTE_NUMBERS], w: usize) -> Step
-    requires { Ready s.now at w out.old }
-    ensures reads { ReadsTo factor s.now at w out.old out.new result }
-    ensures size { length out.new ≡ notes_size }
+#[tactic(auto, using(crate::proofs::Tests::factor_reads))]
+fn read_factor(s: &[Token], at: usize, out: &mut [Note; MOST_PARTS], w: usize) -> Option<Step>
+    requires { Ready s.now at w }
+    ensures { ReadsTo factor s.now at w out.old out.new result }
 {
     let i = after_nots(s, at);
-    let Step::Next {
-        at: next,
-        count,
-        deep,
-    } = read_test(s, i, out, w)
-    else {
-        return Step::NoReading;
-    };
-    note_nots(out, count, i - at);
-    Step::Next {
-        at: next,
-        count: count + (i - at),
-        deep,
-    }
+    let step = read_test(s, i, out, w)?;
+    note_nots(out, step.count, i - at);
+    Some(Step {
+        count: step.count + (i - at),
+        ..step
+    })
 }
 
 // What was read up to a bracket, with the truth test that follows it, if there is one: a part more, behind those of the condition in the bracket.
-fn note_truth_test(s: &[usize], out: &mut [usize; NOTE_NUMBERS], step: Step) -> Step
+#[tactic(auto, using(crate::proofs::Tests::tested_rules))]
+fn note_truth_test(s: &[Token], out: &mut [Note; MOST_PARTS], step: Step) -> Option<Step>
     requires fact_1 { length s.now ≤ most_tokens }
-    requires fact_2 { length out.old ≡ notes_size }
-    requires fact_3 { StepFits s.now step }
-    ensures tested { TestedTo s.now out.old out.new step result }
-    ensures size { length out.new ≡ notes_size }
+    requires fact_2 { StepFits s.now step }
+    ensures { TestedTo s.now out.old out.new step result }
 {
-    let Step::Next { at, count, deep } = step else {
-        return Step::NoReading;
-    };
-    if token(s, at) != IS {
-        return Step::Next { at, count, deep };
+    if !is_word(s, step.at, Word::Is) {
+        return Some(step);
     }
-    let TruthRead::Truth(kind, next) = read_truth_test(s, at + 1) else {
-        return Step::NoReading;
-    };
-    note_part(out, count, plain_note(kind));
-    Step::Next {
-        at: next,
-        count: count + 1,
-        deep,
-    }
+    let truth = read_truth_test(s, step.at + 1)?;
+    note_part(out, step.count, Head::UnaryHead(truth.unary));
+    Some(Step {
+        at: truth.next,
+        count: step.count + 1,
+        ..step
+    })
 }
 
 // A test: nothing, or a condition and the bracket behind it, follows its start; and brackets alone may be followed by a truth test. A bracket is told before any
 // other start, so that a text of many brackets is read faster.
 #[cycle(reading)]
-fn read_test(s: &[usize], at: usize, out: &mut [usize; NOTE_NUMBERS], w: usize) -> Step
-    requires { Ready s.now at w out.old }
-    ensures reads { ReadsTo test s.now at w out.old out.new result }
-    ensures size { length out.new ≡ notes_size }
+#[tactic(auto, using(crate::proofs::Tests::test_rules))]
+fn read_test(s: &[Token], at: usize, out: &mut [Note; MOST_PARTS], w: usize) -> Option<Step>
+    requires { Ready s.now at w }
+    ensures { ReadsTo test s.now at w out.old out.new result }
 {
-    if token(s, at) == OPEN {
-        let step = read_closed(s, at + 1, out, w);
+    if is_word(s, at, Word::Open) {
+        let step = read_closed(s, at + 1, out, w)?;
         return note_truth_test(s, out, step);
     }
-    match start_test(s, at) {
+    match start_test(s, at)? {
         Start::Whole { note, next } => {
             note_part(out, w, note);
-            Step::Next {
+            Some(Step {
                 at: next,
                 count: w + 1,
                 deep: 0,
-            }
+            })
         }
         Start::Around { note, next } => {
-            let Step::Next {
-                at: behind,
-                count,
-                deep,
-            } = read_closed(s, next, out, w)
-            else {
-                return Step::NoReading;
-            };
-            note_part(out, count, note);
-            Step::Next {
-                at: behind,
-                count: count + 1,
-                deep: deep + 1,
-            }
+            let step = read_closed(s, next, out, w)?;
+            note_part(out, step.count, note);
+            Some(Step {
+                count: step.count + 1,
+                deep: step.deep + 1,
+                ..step
+            })
         }
-        Start::NoTest => Step::NoReading,
     }
 }
 
 // A condition and the bracket that closes behind it.
 #[cycle(reading)]
-fn read_closed(s: &[usize], at: usize, out: &mut [usize; NOTE_NUMBERS], w: usize) -> Step
-    requires { Ready s.now at w out.old }
-    ensures reads { ReadsClosed s.now at w out.old out.new result }
-    ensures size { length out.new ≡ notes_size }
+#[tactic(auto, using(crate::proofs::Tests::closed_rules))]
+fn read_closed(s: &[Token], at: usize, out: &mut [Note; MOST_PARTS], w: usize) -> Option<Step>
+    requires { Ready s.now at w }
+    ensures { ReadsClosed s.now at w out.old out.new result }
 {
-    let Step::Next {
-        at: behind,
-        count,
-        deep,
-    } = read_condition(s, at, out, w)
-    else {
-        return Step::NoReading;
-    };
-    if token(s, behind) != CLOSE {
-        return Step::NoReading;
+    let step = read_condition(s, at, out, w)?;
+    if !is_word(s, step.at, Word::Close) {
+        return None;
     }
-    Step::Next {
-        at: behind + 1,
-        count,
-        deep,
-    }
+    Some(Step {
+        at: step.at + 1,
+        ..step
+    })
 }
 
 // All the tokens as one condition.
-pub fn read_tokens(s: &[usize], out: &mut [usize; NOTE_NUMBERS]) -> Step
-    requires fact_1 { length s.now ≤ most_tokens }
-    requires fact_2 { length out.old ≡ notes_size }
-    ensures reads { ReadsAll s.now out.new result }
-    ensures size { length out.new ≡ notes_size }
+#[tactic(auto, using(crate::proofs::Tests::all_rules))]
+pub fn read_tokens(s: &[Token], out: &mut [Note; MOST_PARTS]) -> Option<Step>
+    requires { length s.now ≤ most_tokens }
+    ensures { ReadsAll s.now out.new result }
 {
-    let Step::Next { at, count, deep } = read_condition(s, 0, out, 0) else {
-        return Step::NoReading;
-    };
-    if at != s.len() {
-        return Step::NoReading;
+    let step = read_condition(s, 0, out, 0)?;
+    if step.at != s.len() {
+        return None;
     }
-    Step::Next { at, count, deep }
+    Some(step)
 }

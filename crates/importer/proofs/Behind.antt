@@ -2,91 +2,98 @@
 use mathlib.Core.Path.{◌≡◌, refl, sym, ap, ◌∙◌}
 use mathlib.Core.Bool.{Bool, true, false, cond}
 use mathlib.Core.List.{List, [], ◌∷◌}
-use mathlib.Core.Option.{Option, none, some}
+use Rattle.std.proofs.Math.Option.{none, some}
 use Prim.Native.Nat.{ℕ, zero, suc, ◌+◌, ◌-◌, ◌<◌, ◌≤◌}
 use native.Mathlib.Omega.{arith}
 use borrow.Author.Tests.{eq-eqb, ne_eqb}
 use lib.Dec.{eqb}
-use lib.ListN.{length, drop, get_or, drop_of_length-le}
-use lib.Seq.{drop-cons}
+use lib.ListN.{length, take, drop, get_or, length-drop}
+use lib.Seq.{take_all}
 use Rattle.tables.specs.Lists.{only}
 use Rattle.lines.specs.Lines.{comma, line_feed, carriage_return}
 use Rattle.importer.specs.Code.{feed_from, end_from, comma_from, behind_from, place_after}
-use Rattle.importer.specs.declared.After.TheVariants.{Place, Bad}
+use Rattle.std.specs.Prelude.{Some, None}
 
--- ---- lists
+-- ---- what is found
 
 pub end_feed : (b : ℕ) (rest : List ℕ) → b ≡ line_feed → end_from (b ∷ rest) ≡ some 1
 unfolding end_from
 end_feed b rest e = rw (eq-eqb b line_feed e)
-
-end_other : (b : ℕ) (rest : List ℕ) → (b ≡ line_feed → ⊥) → (b ≡ carriage_return → ⊥) → end_from (b ∷ rest) ≡ none
-unfolding end_from
-end_other b rest f g = rw (ne_eqb b line_feed f, ne_eqb b carriage_return g)
 
 pub end_return : (b : ℕ) (rest : List ℕ) → b ≡ carriage_return → end_from (b ∷ rest) ≡ feed_from rest
 unfolding end_from
 end_return b rest e = rw (ne_eqb b line_feed (λ z. omega arith), eq-eqb b carriage_return e)
 
 -- behind a CR
-feed_missing : (c : ℕ) (rest : List ℕ) → (c ≡ line_feed → ⊥) → feed_from (c ∷ rest) ≡ none
-unfolding feed_from
-feed_missing c rest f = rw (ne_eqb c line_feed f)
-
 pub feed_there : (c : ℕ) (rest : List ℕ) → c ≡ line_feed → feed_from (c ∷ rest) ≡ some 2
 unfolding feed_from
 feed_there c rest f = rw (eq-eqb c line_feed f)
 
--- ---- at place i of a text
+-- the bytes that are looked at stand before the rest
+pub tail_whole : (text : List ℕ) (i : ℕ) → take (length text - i) (drop i text) ≡ drop i text
+tail_whole text i = take_all (length text - i) (drop i text) (omega (arith, length-drop i text))
 
-module _ (text : List ℕ) (i : ℕ) where
+module _ (i : ℕ) where
   -- the last line may have no end
-  pub no_end_at : length text ≤ i → Place i ≡ place_after i (behind_from 0 (drop i text))
+  pub ended : (rest : List ℕ) → length rest < 1 → Some i ≡ place_after i (behind_from 0 rest)
   unfolding behind_from end_from
-  no_end_at h = let z : i ≡ i + 0 = omega arith in ap Place z ∙ sym (ap (λ (l : List ℕ). place_after i (end_from l)) (drop_of_length-le text h))
+  ended [] h = let z : i ≡ i + 0 = omega arith in ap Some z
+  ended (b ∷ rest) h = absurd (omega arith)
 
-  pub no_comma_at : (left : ℕ) → (left ≡ 0 → ⊥) → length text ≤ i → Bad ≡ place_after i (behind_from left (drop i text))
+  pub fed : (rest : List ℕ) → 1 ≤ length rest → get_or rest 0 0 ≡ line_feed → Some (i + 1) ≡ place_after i (behind_from 0 rest)
+  unfolding behind_from
+  fed [] h e = absurd (omega arith)
+  fed (b ∷ rest) h e = sym (ap (place_after i) (end_feed b rest e))
+
+  pub returned : (rest : List ℕ) → 2 ≤ length rest → get_or rest 0 0 ≡ carriage_return → get_or rest 1 0 ≡ line_feed → Some (i + 2) ≡ place_after i (behind_from 0 rest)
+  unfolding behind_from
+  returned [] h e f = absurd (omega arith)
+  returned (b ∷ []) h e f = absurd (omega arith)
+  returned (b ∷ c ∷ rest) h e f = sym (ap (place_after i) (end_return b (c ∷ rest) e ∙ feed_there c rest f))
+
+  pub other : (rest : List ℕ) → 1 ≤ length rest → (get_or rest 0 0 ≡ line_feed → ⊥) → (get_or rest 0 0 ≡ carriage_return → ⊥) → None ≡ place_after i (behind_from 0 rest)
+  unfolding behind_from end_from
+  other [] h f g = absurd (omega arith)
+  other (b ∷ rest) h f g = rw (ne_eqb b line_feed f, ne_eqb b carriage_return g)
+
+  pub unfed : (rest : List ℕ) → 2 ≤ length rest → get_or rest 0 0 ≡ carriage_return → (get_or rest 1 0 ≡ line_feed → ⊥) → None ≡ place_after i (behind_from 0 rest)
+  unfolding behind_from feed_from
+  unfed [] h e f = absurd (omega arith)
+  unfed (b ∷ []) h e f = absurd (omega arith)
+  unfed (b ∷ c ∷ rest) h e f = rw (end_return b (c ∷ rest) e, ne_eqb c line_feed f)
+
+  pub alone : (rest : List ℕ) → 1 ≤ length rest → length rest < 2 → (get_or rest 0 0 ≡ line_feed → ⊥) → None ≡ place_after i (behind_from 0 rest)
+  unfolding behind_from end_from feed_from
+  alone [] h l f = absurd (omega arith)
+  alone (b ∷ c ∷ rest) h l f = absurd (omega arith)
+  alone (b ∷ []) h l f = rw (ne_eqb b line_feed f) (go (eqb b carriage_return))
+    where
+      go : (t : Bool) → None ≡ place_after i (cond t none none)
+      go true = refl
+      go false = refl
+
+  -- where fields of the line are left
+  pub uncommaed : (left : ℕ) (rest : List ℕ) → (left ≡ 0 → ⊥) → length rest < 1 → None ≡ place_after i (behind_from left rest)
   unfolding behind_from comma_from
-  no_comma_at zero f h = absurd (f refl)
-  no_comma_at (suc left) f h = sym (ap (λ (l : List ℕ). place_after i (comma_from l)) (drop_of_length-le text h))
+  uncommaed zero rest f h = absurd (f refl)
+  uncommaed (suc left) [] f h = refl
+  uncommaed (suc left) (b ∷ rest) f h = absurd (omega arith)
 
-  module _ (b : ℕ) (h : i < length text) (w : b ≡ get_or text i 0) where
-    here : drop i text ≡ b ∷ drop (suc i) text
-    here = drop-cons text i 0 h ∙ ap (λ (x : ℕ). x ∷ drop (suc i) text) (sym w)
+  pub commaed : (left : ℕ) (rest : List ℕ) → (left ≡ 0 → ⊥) → 1 ≤ length rest → get_or rest 0 0 ≡ comma → Some (i + 1) ≡ place_after i (behind_from left rest)
+  unfolding behind_from comma_from
+  commaed zero rest f h e = absurd (f refl)
+  commaed (suc left) [] f h e = absurd (omega arith)
+  commaed (suc left) (b ∷ rest) f h e = rw (eq-eqb b comma e)
 
-    ending : (o : Option ℕ) → end_from (b ∷ drop (suc i) text) ≡ o → place_after i o ≡ place_after i (behind_from 0 (drop i text))
-    unfolding behind_from
-    ending o e = sym (ap (place_after i) (ap end_from here ∙ e))
+  pub other_than_comma : (left : ℕ) (rest : List ℕ) → (left ≡ 0 → ⊥) → 1 ≤ length rest → (get_or rest 0 0 ≡ comma → ⊥) → None ≡ place_after i (behind_from left rest)
+  unfolding behind_from comma_from
+  other_than_comma zero rest f h e = absurd (f refl)
+  other_than_comma (suc left) [] f h e = absurd (omega arith)
+  other_than_comma (suc left) (b ∷ rest) f h e = rw (ne_eqb b comma e)
 
-    pub feed_at : b ≡ line_feed → Place (i + 1) ≡ place_after i (behind_from 0 (drop i text))
-    feed_at e = ending (some 1) (end_feed b _ e)
+pub ruleset line_ends = (tail_whole, ended, fed, returned, other, unfed, alone)
 
-    pub other_at : (b ≡ line_feed → ⊥) → (b ≡ carriage_return → ⊥) → Bad ≡ place_after i (behind_from 0 (drop i text))
-    other_at f g = ending none (end_other b _ f g)
-
-    pub alone_at : b ≡ carriage_return → length text - i < 2 → Bad ≡ place_after i (behind_from 0 (drop i text))
-    unfolding feed_from
-    alone_at e l = ending none (end_return b _ e ∙ ap feed_from (drop_of_length-le text {i = suc i} (omega arith)))
-
-    pub comma_at : (left : ℕ) → (left ≡ 0 → ⊥) → b ≡ comma → Place (i + 1) ≡ place_after i (behind_from left (drop i text))
-    unfolding behind_from comma_from
-    comma_at zero f e = absurd (f refl)
-    comma_at (suc left) f e = sym (ap (λ (l : List ℕ). place_after i (comma_from l)) here ∙ rw (eq-eqb b comma e))
-
-    pub other_comma_at : (left : ℕ) → (left ≡ 0 → ⊥) → (b ≡ comma → ⊥) → Bad ≡ place_after i (behind_from left (drop i text))
-    unfolding behind_from comma_from
-    other_comma_at zero f e = absurd (f refl)
-    other_comma_at (suc left) f e = sym (ap (λ (l : List ℕ). place_after i (comma_from l)) here ∙ rw (ne_eqb b comma e))
-
-    module _ (c : ℕ) (l : suc i < length text) (v : c ≡ get_or text (i + 1) 0) (e : b ≡ carriage_return) where
-      next : drop (suc i) text ≡ c ∷ drop (suc (suc i)) text
-      next = let z : i + 1 ≡ suc i = omega arith in drop-cons text (suc i) 0 l ∙ ap (λ (x : ℕ). x ∷ drop (suc (suc i)) text) (sym (v ∙ ap (λ (k : ℕ). get_or text k 0) z))
-
-      pub unfed_at : (c ≡ line_feed → ⊥) → Bad ≡ place_after i (behind_from 0 (drop i text))
-      unfed_at f = ending none (end_return b _ e ∙ ap feed_from next ∙ feed_missing c _ f)
-
-      pub return_at : c ≡ line_feed → Place (i + 2) ≡ place_after i (behind_from 0 (drop i text))
-      return_at f = ending (some 2) (end_return b _ e ∙ ap feed_from next ∙ feed_there c _ f)
+pub ruleset commas = (tail_whole, uncommaed, commaed, other_than_comma)
 
 -- ---- what stands there is in the text
 

@@ -2,7 +2,7 @@
 use mathlib.Core.Path.{◌≡◌, refl, sym, ap, ap₂, ◌∙◌}
 use mathlib.Core.Bool.{Bool, true, false, not, ◌&&◌}
 use mathlib.Core.List.{List, [], ◌∷◌, ◌++◌, map, flat_map}
-use mathlib.Core.Option.{Option, none, some}
+use Rattle.std.proofs.Math.Option.{Option as MathOption, none, some}
 use Prim.Native.Nat.{ℕ, ◌+◌, ◌*◌, ◌<◌, ◌≤◌}
 use native.Mathlib.Omega.{arith}
 use borrow.Author.Tests.{le-leb, lt-leb}
@@ -15,7 +15,7 @@ use Rattle.tables.proofs.Placed.{placed_start}
 use Rattle.tables.proofs.Tests.{between_yes, between_no}
 use Rattle.tables.proofs.Tabulated.{and_yes}
 use Rattle.tables.proofs.Refusals.{first_one, lend_refused, lend_short}
-use Rattle.files.specs.Files.{size_of, sizes_part, file_bytes}
+use Rattle.files.specs.Files.{RawCell, value_bytes, mark_bytes, size_of, sizes_part, file_bytes}
 use Rattle.lines.specs.Lines.{table_read}
 use Rattle.lines.specs.Calls.{columns_allowed, fields_counted, fields_fit, counts_fit, import_refusals, stored_cell, table_file, imported_file, import_call}
 use Rattle.lines.specs.Claims.{TableLines, imported_length}
@@ -23,8 +23,19 @@ use Rattle.lines.proofs.Grammar.{line_grammar_claim}
 use Rattle.lines.proofs.Rows.{cells_count}
 use Rattle.lines.proofs.Importing.{left_refusal, none_left, file_is, file_long, import_claim}
 use Rattle.importer.specs.Code.{Kept, if_counted, rows_in, rows_counted, Few, all_cells, short_text}
-use Rattle.importer.specs.declared.Rows.{Rows}
-use Rattle.importer.specs.declared.Rows.TheVariants.{Read, Unread}
+use Rattle.std.specs.Prelude.{Option, Some, None, Result, Ok, Err, ok_or, flat_map as bytes_of}
+use Rattle.cells.specs.declared.Reason.{Reason}
+
+-- the bytes of all values, and all marks
+pieces_of : (f : RawCell → List ℕ) (cells : List RawCell) → bytes_of (λ v. v) (map f cells) ≡ flat_map f cells
+unfolding flat_map
+pieces_of f [] = refl
+pieces_of f (c ∷ cells) = ap (λ (l : List ℕ). f c ++ l) (pieces_of f cells)
+
+single_bytes : (cells : List RawCell) → map (λ c. c.mark) cells ≡ flat_map mark_bytes cells
+unfolding flat_map
+single_bytes [] = refl
+single_bytes (c ∷ cells) = ap (λ (l : List ℕ). c.mark ∷ l) (single_bytes cells)
 
 module _ (text : List ℕ) (columns : ℕ) (out : List ℕ) where
   -- an answer, and what the buffer holds then, are the call's
@@ -43,7 +54,7 @@ module _ (text : List ℕ) (columns : ℕ) (out : List ℕ) where
   unfolding fields_fit
   columns_refused f = unfit (go (table_read text))
     where
-      go : (o : Option Table) → fields_fit columns o ≡ false
+      go : (o : MathOption Table) → fields_fit columns o ≡ false
       go none = refl
       go (some rows) = ap (λ (t : Bool). t && fields_counted columns rows) (between_no 1 most_columns columns f)
 
@@ -60,7 +71,7 @@ module _ (text : List ℕ) (columns : ℕ) (out : List ℕ) where
         test true false rows f = refl
         test false false rows f = refl
 
-        go : (o : Option Table) → if_counted columns o ≡ none → fields_fit columns o ≡ false
+        go : (o : MathOption Table) → if_counted columns o ≡ none → fields_fit columns o ≡ false
         go none f = refl
         go (some rows) f = test (columns_allowed columns) (fields_counted columns rows) rows f
 
@@ -69,7 +80,7 @@ module _ (text : List ℕ) (columns : ℕ) (out : List ℕ) where
       unfolding rows_in
       lines_told = go (table_read text) refl e
         where
-          told : (o : Option Table) → table_read text ≡ o → (others : Table) (t : Bool) → fields_counted columns others ≡ t → table_read text ≡ some others
+          told : (o : MathOption Table) → table_read text ≡ o → (others : Table) (t : Bool) → fields_counted columns others ≡ t → table_read text ≡ some others
               → only t others ≡ some rows → TableLines text columns rows
           told o p others true c q f =
               let same : others ≡ rows = cc in
@@ -80,7 +91,7 @@ module _ (text : List ℕ) (columns : ℕ) (out : List ℕ) where
               }
           told o p others false c q f = let z : ◌≡◌ {A = ℕ} 0 1 = cc in absurd (omega arith)
 
-          go : (o : Option Table) → table_read text ≡ o → if_counted columns o ≡ some rows → TableLines text columns rows
+          go : (o : MathOption Table) → table_read text ≡ o → if_counted columns o ≡ some rows → TableLines text columns rows
           go none p f = let z : ◌≡◌ {A = ℕ} 0 1 = cc in absurd (omega arith)
           go (some others) p f = told (some others) p others (fields_counted columns others) refl p f
 
@@ -118,31 +129,37 @@ module _ (text : List ℕ) (columns : ℕ) (out : List ℕ) where
               (omega (arith, file_long text columns rows lines_told, long)))
 
           -- the file
-          pub file_given : (values marks after : List ℕ) → 4 + 5 * (n * columns) ≤ length out → Kept values marks (flat_map (map stored_cell) rows)
-              → after ≡ placed out 0 (sizes_part (size_of columns n ∷ []) ++ (take (4 * (n * columns)) values ++ take (n * columns) marks))
+          pub file_given : (values : List (List ℕ)) (marks after : List ℕ) → 4 + 5 * (n * columns) ≤ length out → Kept values marks (flat_map (map stored_cell) rows)
+              → after ≡ placed out 0 (sizes_part (size_of columns n ∷ []) ++ (bytes_of (λ v. v) (take (n * columns) values) ++ take (n * columns) marks))
               → Imports (Given (4 + 5 * (n * columns))) after
           unfolding file_bytes table_file
           file_given values marks after h kept e =
               let cells = cells_count stored_cell columns rows lines_told.counted in
               let size : n * columns ≡ length (flat_map (map stored_cell) rows) = sym (cells ∙ ap (λ (m : ℕ). m * columns) (sym count)) in
-              let file : sizes_part (size_of columns n ∷ []) ++ (take (4 * (n * columns)) values ++ take (n * columns) marks) ≡ table_file columns rows =
-              ap₂ (λ (m : ℕ) (l : List ℕ). sizes_part (size_of columns m ∷ []) ++ l) count
-              (ap₂ ◌++◌ (ap (λ (m : ℕ). take (4 * m) values) size ∙ kept.values_kept) (ap (λ (m : ℕ). take m marks) size ∙ kept.marks_kept)) in
+              let values_same : bytes_of (λ v. v) (take (n * columns) values) ≡ flat_map value_bytes (flat_map (map stored_cell) rows) =
+              ap (λ (m : ℕ). bytes_of (λ v. v) (take m values)) size ∙ ap (bytes_of (λ v. v)) kept.values_kept ∙ pieces_of value_bytes (flat_map (map stored_cell) rows) in
+              let marks_same : take (n * columns) marks ≡ flat_map mark_bytes (flat_map (map stored_cell) rows) =
+              ap (λ (m : ℕ). take m marks) size ∙ kept.marks_kept ∙ single_bytes (flat_map (map stored_cell) rows) in
+              let file : sizes_part (size_of columns n ∷ []) ++ (bytes_of (λ v. v) (take (n * columns) values) ++ take (n * columns) marks) ≡ table_file columns rows =
+              ap₂ (λ (m : ℕ) (l : List ℕ). sizes_part (size_of columns m ∷ []) ++ l) count (ap₂ ◌++◌ values_same marks_same) in
               let l : length (table_file columns rows) ≡ 4 + 5 * (n * columns) = sym (ap length (file_is text columns rows lines_told)) ∙ file_long text columns rows lines_told ∙ sym long in
               let (result, buffer) = lent (filled_with (table_file columns rows) out) (import_claim.given text out columns rows lines_told fits (omega (arith, long))) in
               (ap Given (sym l) ∙ result, e ∙ ap (placed out 0) file ∙ placed_start out (table_file columns rows) ∙ buffer)
 
 -- ---- what `read_lines` tells
 
-pub unread_told : (o : Option Table) (r : Rows) → r ≡ rows_counted o → r ≡ Unread → o ≡ none
+pub unread_told : (o : MathOption Table) (r : Option ℕ) → r ≡ rows_counted o → r ≡ None → o ≡ none
 unread_told none r e f = refl
-unread_told (some rows) r e f = let z : Read (length rows) ≡ Unread = sym e ∙ f in let y : ◌≡◌ {A = ℕ} 0 1 = cc in absurd (omega arith)
+unread_told (some rows) r e f = let z : Some (length rows) ≡ None = sym e ∙ f in let y : ◌≡◌ {A = ℕ} 0 1 = cc in absurd (omega arith)
 
-pub read_told : (o : Option Table) (r : Rows) (n : ℕ) → r ≡ rows_counted o → r ≡ Read n → (rows : Table) × (o ≡ some rows) × (n ≡ length rows)
-read_told none r n e f = let z : Unread ≡ Read n = sym e ∙ f in let y : ◌≡◌ {A = ℕ} 0 1 = cc in absurd (omega arith)
-read_told (some rows) r n e f = let z : Read (length rows) ≡ Read n = sym e ∙ f in let y : n ≡ length rows = cc in (rows, refl, y)
+pub read_told : (o : MathOption Table) (r : Option ℕ) (x : Reason) (n : ℕ) → r ≡ rows_counted o → Ok n ≡ ok_or r x → (rows : Table) × (o ≡ some rows) × (n ≡ length rows)
+read_told none r x n e f = let z : Ok n ≡ Err x = f ∙ ap (λ (p : Option ℕ). ok_or p x) e in let y : ◌≡◌ {A = ℕ} 0 1 = cc in absurd (omega arith)
+read_told (some rows) r x n e f =
+    let z : ◌≡◌ {A = Result ℕ Reason} (Ok n) (Ok (length rows)) = f ∙ ap (λ (p : Option ℕ). ok_or p x) e in let y : n ≡ length rows = cc in (rows, refl, y)
 
 -- there was room for all cells
-pub cells_kept : (text marks : List ℕ) (cells : ℕ) → Few text marks → cells ≤ length text + 1 → cells ≤ most_cells → cells ≤ length marks
-cells_kept text marks cells (all_cells h) l m = omega arith
-cells_kept text marks cells (short_text h) l m = omega arith
+pub cells_kept : (text : List ℕ) (room cells : ℕ) → Few text room → cells ≤ length text + 1 → cells ≤ most_cells → cells ≤ room
+cells_kept text room cells (all_cells h) l m = omega arith
+cells_kept text room cells (short_text h) l m = omega arith
+
+pub ruleset unread_refused = (fields_refused, unread_told)

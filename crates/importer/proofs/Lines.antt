@@ -2,7 +2,7 @@
 use mathlib.Core.Path.{◌≡◌, refl, sym, ap, ap₂, subst, ◌∙◌}
 use mathlib.Core.Bool.{Bool, true, false}
 use mathlib.Core.List.{List, [], ◌∷◌, ◌++◌, map, flat_map, append_assoc, append-nil}
-use mathlib.Core.Option.{Option, none, some}
+use Rattle.std.proofs.Math.Option.{Option as MathOption, none, some}
 use Prim.Native.Nat.{ℕ, zero, suc, ◌+◌, ◌*◌, ◌<◌, ◌≤◌}
 use native.Mathlib.Nat.{mul-le-mul, suc-mul}
 use native.Mathlib.Numerals.{add-one}
@@ -21,25 +21,23 @@ use Rattle.lines.specs.Calls.{stored_cell, fields_counted}
 use Rattle.lines.proofs.Grammar.{line_exactly, line_grammar_claim, lines_ended, lines_last, lines_none, line_without_feed}
 use Rattle.lines.proofs.Rows.{cells_count}
 use Rattle.importer.specs.Code.{line_from, line_after, Room, Kept, LineKept, if_counted, rows_in, rows_counted, TableKept}
-use Rattle.importer.specs.declared.After.{After}
-use Rattle.importer.specs.declared.After.TheVariants.{Place, Bad}
-use Rattle.importer.specs.declared.Rows.TheVariants.{Read, Unread}
+use Rattle.std.specs.Prelude.{Option, Some, None}
 use Rattle.importer.proofs.Keeping.{kept_none}
 use Rattle.importer.proofs.Productions.{Closes, by_end, by_nothing, LineAt, line_sound, line_some, line_complete}
 
 -- rows before those that are read
-abbrev pub behind : Table → Option Table → Option Table
+abbrev pub behind : Table → MathOption Table → MathOption Table
 behind rows none = none
 behind rows (some more) = some (rows ++ more)
 
-behind_twice : (rows more : Table) (o : Option Table) → behind rows (behind more o) ≡ behind (rows ++ more) o
+behind_twice : (rows more : Table) (o : MathOption Table) → behind rows (behind more o) ≡ behind (rows ++ more) o
 behind_twice rows more none = refl
 behind_twice rows more (some rest) = ap some (sym (append_assoc rows more rest))
 
 -- ---- what the first line tells of all
 
 -- a row of the right count stays before the others
-counted_behind : (columns : ℕ) (row : Row) (o : Option Table) → length row ≡ columns → if_counted columns (behind (row ∷ []) o) ≡ behind (row ∷ []) (if_counted columns o)
+counted_behind : (columns : ℕ) (row : Row) (o : MathOption Table) → length row ≡ columns → if_counted columns (behind (row ∷ []) o) ≡ behind (row ∷ []) (if_counted columns o)
 counted_behind columns row none e = refl
 counted_behind columns row (some rows) e = rw (eq-eqb (length row) columns e) (go (fields_counted columns rows))
   where
@@ -47,7 +45,7 @@ counted_behind columns row (some rows) e = rw (eq-eqb (length row) columns e) (g
     go true = refl
     go false = refl
 
-then_behind : (row : Row) (o : Option Table) → (o >>= λ rows. some (row ∷ rows)) ≡ behind (row ∷ []) o
+then_behind : (row : Row) (o : MathOption Table) → (o >>= λ rows. some (row ∷ rows)) ≡ behind (row ∷ []) o
 then_behind row none = refl
 then_behind row (some rows) = refl
 
@@ -55,7 +53,7 @@ table_behind : (text line : List ℕ) (lines : List (List ℕ)) (row : Row) → 
     → table_read text ≡ behind (row ∷ []) (each line_read lines)
 unfolding table_read each
 table_behind text line lines row e l =
-    ap (each line_read) e ∙ ap (λ (o : Option Row). o >>= λ y. each line_read lines >>= λ ys. some (y ∷ ys)) ((line_exactly line row).1 l)
+    ap (each line_read) e ∙ ap (λ (o : MathOption Row). o >>= λ y. each line_read lines >>= λ ys. some (y ∷ ys)) ((line_exactly line row).1 l)
     ∙ then_behind row (each line_read lines)
 
 -- a line with its end is read: its row, and the rows of the rest
@@ -86,7 +84,7 @@ module _ (left b : ℕ) (text : List ℕ) where
   rows_bad e = go (table_read (b ∷ text)) refl
     where
       refute : (t : List ℕ) (row : Row) (n : ℕ) → line_from (suc left) t ≡ none → line_from (suc left) t ≡ some (row, n) → ⊥
-      refute t row n e f = let z : ◌≡◌ {A = Option (Row × ℕ)} none (some (row, n)) = sym e ∙ f in let y : ◌≡◌ {A = ℕ} 0 1 = cc in absurd (omega arith)
+      refute t row n e f = let z : ◌≡◌ {A = MathOption (Row × ℕ)} none (some (row, n)) = sym e ∙ f in let y : ◌≡◌ {A = ℕ} 0 1 = cc in absurd (omega arith)
 
       first : (t : List ℕ) (rows : Table) → IsLines t rows → fields_counted (suc left) rows ≡ true → line_from (suc left) t ≡ none → 1 ≤ length t → ⊥
       first t rows no_line h e l = omega arith
@@ -101,7 +99,7 @@ module _ (left b : ℕ) (text : List ℕ) where
       count rows l true h = absurd (first (b ∷ text) rows l h e (omega arith))
       count rows l false h = refl
 
-      go : (o : Option Table) → table_read (b ∷ text) ≡ o → if_counted (suc left) o ≡ none
+      go : (o : MathOption Table) → table_read (b ∷ text) ≡ o → if_counted (suc left) o ≡ none
       go none f = refl
       go (some rows) f = count rows ((line_grammar_claim.exactly (b ∷ text) rows).0 f) (fields_counted (suc left) rows) refl
 
@@ -112,7 +110,7 @@ rows_none columns = ap (λ (ls : List (List ℕ)). if_counted columns (each line
 -- ---- the loop over the lines
 
 -- so many lines were read, up to the place `at`, and their cells are kept, unless they are too many
-pub record TableSoFar (text : List ℕ) (columns : ℕ) (marks₀ values marks : List ℕ) (at rows : ℕ) : Type 0 where
+pub record TableSoFar (text : List ℕ) (columns : ℕ) (marks₀ : List ℕ) (values : List (List ℕ)) (marks : List ℕ) (at rows : ℕ) : Type 0 where
   pub done : Table
   pub count : length done ≡ rows
   pub counted : fields_counted columns done ≡ true
@@ -125,7 +123,7 @@ pub record TableSoFar (text : List ℕ) (columns : ℕ) (marks₀ values marks :
   pub long : length marks ≡ length marks₀
   pub kept : rows ≤ most_rows → rows * columns ≤ length marks₀ → Kept values marks (flat_map (map stored_cell) done)
 
-pub table_begun : (text : List ℕ) (columns : ℕ) (values marks : List ℕ) → Room values marks → TableSoFar text columns marks values marks 0 0
+pub table_begun : (text : List ℕ) (columns : ℕ) (values : List (List ℕ)) (marks : List ℕ) → Room values marks → TableSoFar text columns marks values marks 0 0
 unfolding flat_map
 table_begun text columns values marks room =
     record {
@@ -142,7 +140,7 @@ table_begun text columns values marks room =
       kept = λ h l. kept_none values marks;
     }
   where
-    whole : (o : Option Table) → behind [] o ≡ o
+    whole : (o : MathOption Table) → behind [] o ≡ o
     whole none = refl
     whole (some rows) = refl
 
@@ -198,11 +196,11 @@ module _ (text : List ℕ) (at : ℕ) (here : at < length text) where
       ap (rows_in (suc left)) begins ∙ rows_bad left (get_or text at 0) (drop (suc at) text) (sym (ap (line_from (suc left)) begins) ∙ e)
 
 -- what the answer of a line tells
-after_line_place : (i j : ℕ) (o : Option (Row × ℕ)) → Place j ≡ line_after i o → (x : Row × ℕ) × (o ≡ some x) × (j ≡ i + x.1)
+after_line_place : (i j : ℕ) (o : MathOption (Row × ℕ)) → Some j ≡ line_after i o → (x : Row × ℕ) × (o ≡ some x) × (j ≡ i + x.1)
 after_line_place i j none e = let z : ◌≡◌ {A = ℕ} 0 1 = cc in absurd (omega arith)
 after_line_place i j (some x) e = let z : j ≡ i + x.1 = cc in (x, refl, z)
 
-after_line_bad : (i : ℕ) (o : Option (Row × ℕ)) → Bad ≡ line_after i o → o ≡ none
+after_line_bad : (i : ℕ) (o : MathOption (Row × ℕ)) → None ≡ line_after i o → o ≡ none
 after_line_bad i none e = refl
 after_line_bad i (some x) e = let z : ◌≡◌ {A = ℕ} 0 1 = cc in absurd (omega arith)
 
@@ -221,10 +219,10 @@ one_row_more rows columns = ap (λ (n : ℕ). n * columns) (add-one rows) ∙ su
 pub product_small : (rows columns : ℕ) → rows ≤ most_rows → columns ≤ most_columns → rows * columns ≤ 16000
 product_small rows columns h l = mul-le-mul h l
 
-module _ {text : List ℕ} {columns : ℕ} {marks₀ values marks : List ℕ} {at rows : ℕ} (so_far : TableSoFar text columns marks₀ values marks at rows)
+module _ {text : List ℕ} {columns : ℕ} {marks₀ : List ℕ} {values : List (List ℕ)} {marks : List ℕ} {at rows : ℕ} (so_far : TableSoFar text columns marks₀ values marks at rows)
     (here : at < length text) (some_column : 1 ≤ columns) where
-  module _ {k : ℕ} {values' marks' : List ℕ} {r : After} (line : LineKept text at columns k values marks r values' marks')
-      (place : rows < most_rows → k ≡ rows * columns) (next : ℕ) (goes_on : r ≡ Place next) where
+  module _ {k : ℕ} {values' : List (List ℕ)} {marks' : List ℕ} {r : Option ℕ} (line : LineKept text at columns k values marks r values' marks')
+      (place : rows < most_rows → k ≡ rows * columns) (next : ℕ) (goes_on : r ≡ Some next) where
     told : (x : Row × ℕ) × (line_from columns (drop at text) ≡ some x) × (next ≡ at + x.1)
     told = after_line_place at next _ (sym goes_on ∙ line.after)
 
@@ -270,11 +268,11 @@ module _ {text : List ℕ} {columns : ℕ} {marks₀ values marks : List ℕ} {a
         )
 
   -- a line that cannot be read
-  module _ {k : ℕ} {values' marks' : List ℕ} {r : After} (line : LineKept text at columns k values marks r values' marks') (fails : r ≡ Bad) where
+  module _ {k : ℕ} {values' : List (List ℕ)} {marks' : List ℕ} {r : Option ℕ} (line : LineKept text at columns k values marks r values' marks') (fails : r ≡ None) where
     unread : rows_in columns text ≡ none
     unread = so_far.read ∙ ap (behind so_far.done) (rows_bad_at text at here columns some_column (after_line_bad at _ (sym fails ∙ line.after)))
 
-    pub table_unread : (values₀ : List ℕ) → TableKept text columns values₀ marks₀ Unread values' marks'
+    pub table_unread : (values₀ : List (List ℕ)) → TableKept text columns values₀ marks₀ None values' marks'
     table_unread values₀ =
         record {
           counted = sym (ap rows_counted unread);
@@ -284,11 +282,11 @@ module _ {text : List ℕ} {columns : ℕ} {marks₀ values marks : List ℕ} {a
           long = line.long ∙ so_far.long;
         }
       where
-        none_some : (rows : Table) → ◌≡◌ {A = Option Table} none (some rows) → ⊥
+        none_some : (rows : Table) → ◌≡◌ {A = MathOption Table} none (some rows) → ⊥
         none_some rows e = let z : ◌≡◌ {A = ℕ} 0 1 = cc in absurd (omega arith)
 
 -- all lines
-module _ {text : List ℕ} {columns : ℕ} {marks₀ values marks : List ℕ} {at rows : ℕ} (so_far : TableSoFar text columns marks₀ values marks at rows)
+module _ {text : List ℕ} {columns : ℕ} {marks₀ : List ℕ} {values : List (List ℕ)} {marks : List ℕ} {at rows : ℕ} (so_far : TableSoFar text columns marks₀ values marks at rows)
     (there : length text ≤ at) where
   all_read : rows_in columns text ≡ some so_far.done
   all_read =
@@ -298,10 +296,10 @@ module _ {text : List ℕ} {columns : ℕ} {marks₀ values marks : List ℕ} {a
   same_rows : (others : Table) → rows_in columns text ≡ some others → so_far.done ≡ others
   same_rows others e = let z : some so_far.done ≡ some others = sym all_read ∙ e in cc
 
-  pub table_read_lem : (values₀ : List ℕ) → TableKept text columns values₀ marks₀ (Read rows) values marks
+  pub table_read_lem : (values₀ : List (List ℕ)) → TableKept text columns values₀ marks₀ (Some rows) values marks
   table_read_lem values₀ =
       record {
-        counted = sym (ap rows_counted all_read ∙ ap Read so_far.count);
+        counted = sym (ap rows_counted all_read ∙ ap Some so_far.count);
         kept = λ others e h l.
             let count = so_far.count in
             let same = same_rows others e in

@@ -1,7 +1,7 @@
 -- A line read field by field.
 use mathlib.Core.Path.{◌≡◌, refl, sym, ap, ap₂, subst, ◌∙◌}
 use mathlib.Core.List.{List, [], ◌∷◌, ◌++◌, map, append_assoc, append-nil}
-use mathlib.Core.Option.{Option, none, some}
+use Rattle.std.proofs.Math.Option.{Option as MathOption, none, some}
 use Prim.Native.Nat.{ℕ, suc, ◌+◌, ◌-◌, ◌<◌, ◌≤◌}
 use native.Mathlib.Omega.{arith}
 use lib.ListN.{length, drop, length-append, length-map, length-drop}
@@ -12,16 +12,16 @@ use Rattle.files.specs.Files.{RawCell, raw_cell}
 use Rattle.lines.specs.Calls.{stored_cell}
 use Rattle.importer.specs.Code.{field_from, FieldAt, behind_from, place_after, line_from, line_after, Room, MoreKept, LineKept}
 use Rattle.importer.specs.declared.Field.{Field}
-use Rattle.importer.specs.declared.After.TheVariants.{Place, Bad}
+use Rattle.std.specs.Prelude.{Some, None}
 use Rattle.importer.proofs.Behind.{behind_within}
 use Rattle.importer.proofs.Keeping.{more_none, more_kept}
 
 -- cells, and so many bytes, before the rest of a line
-abbrev pub continued : Row → ℕ → Option (Row × ℕ) → Option (Row × ℕ)
+abbrev pub continued : Row → ℕ → MathOption (Row × ℕ) → MathOption (Row × ℕ)
 continued row n none = none
 continued row n (some r) = some (row ++ r.0, n + r.1)
 
-continued_twice : (row more : Row) (m n : ℕ) (o : Option (Row × ℕ)) → continued row m (continued more n o) ≡ continued (row ++ more) (m + n) o
+continued_twice : (row more : Row) (m n : ℕ) (o : MathOption (Row × ℕ)) → continued row m (continued more n o) ≡ continued (row ++ more) (m + n) o
 continued_twice row more m n none = refl
 continued_twice row more m n (some r) =
     let z : m + (n + r.1) ≡ m + n + r.1 = omega arith in
@@ -29,36 +29,36 @@ continued_twice row more m n (some r) =
 
 -- ---- one field of a line
 
-field_then : (x : ℕ → Option (Row × ℕ)) (o : Option ℕ) (n : ℕ) → o ≡ some n → (o >>= x) ≡ x n
-field_then x o n e = ap (λ (p : Option ℕ). p >>= x) e
+field_then : (x : ℕ → MathOption (Row × ℕ)) (o : MathOption ℕ) (n : ℕ) → o ≡ some n → (o >>= x) ≡ x n
+field_then x o n e = ap (λ (p : MathOption ℕ). p >>= x) e
 
 pub line_step : (text : List ℕ) (left n : ℕ) → behind_from left (drop (field_from text).1 text) ≡ some n
     → line_from (suc left) text ≡ continued ((field_from text).0 ∷ []) ((field_from text).1 + n) (line_from left (drop ((field_from text).1 + n) text))
 unfolding line_from
 line_step text left n e = field_then _ _ n e ∙ go (line_from left (drop ((field_from text).1 + n) text))
   where
-    go : (o : Option (Row × ℕ)) → (o >>= λ r. some ((field_from text).0 ∷ r.0, (field_from text).1 + n + r.1)) ≡ continued ((field_from text).0 ∷ []) ((field_from text).1 + n) o
+    go : (o : MathOption (Row × ℕ)) → (o >>= λ r. some ((field_from text).0 ∷ r.0, (field_from text).1 + n + r.1)) ≡ continued ((field_from text).0 ∷ []) ((field_from text).1 + n) o
     go none = refl
     go (some r) = refl
 
 pub line_bad : (text : List ℕ) (left : ℕ) → behind_from left (drop (field_from text).1 text) ≡ none → line_from (suc left) text ≡ none
 unfolding line_from
-line_bad text left e = ap (λ (p : Option ℕ). p >>= λ n. (line_from left (drop ((field_from text).1 + n) text) >>= λ r. some ((field_from text).0 ∷ r.0, (field_from text).1 + n + r.1))) e
+line_bad text left e = ap (λ (p : MathOption ℕ). p >>= λ n. (line_from left (drop ((field_from text).1 + n) text) >>= λ r. some ((field_from text).0 ∷ r.0, (field_from text).1 + n + r.1))) e
 
 -- ---- what `after` tells
 
-pub after_place : (i j : ℕ) (o : Option ℕ) → Place j ≡ place_after i o → (o ≡ some (j - i)) × (i ≤ j)
+pub after_place : (i j : ℕ) (o : MathOption ℕ) → Some j ≡ place_after i o → (o ≡ some (j - i)) × (i ≤ j)
 after_place i j none e = let z : ◌≡◌ {A = ℕ} 0 1 = cc in absurd (omega arith)
 after_place i j (some n) e = let z : j ≡ i + n = cc in (ap some (omega arith), omega arith)
 
-pub after_bad : (i : ℕ) (o : Option ℕ) → Bad ≡ place_after i o → o ≡ none
+pub after_bad : (i : ℕ) (o : MathOption ℕ) → None ≡ place_after i o → o ≡ none
 after_bad i none e = refl
 after_bad i (some n) e = let z : ◌≡◌ {A = ℕ} 0 1 = cc in absurd (omega arith)
 
 -- ---- the loop over the fields of a line
 
 -- so many fields of the line at place i were read, up to the place `at`, and their cells are kept
-pub record LineSoFar (text : List ℕ) (i columns : ℕ) (values₀ marks₀ : List ℕ) (k : ℕ) (values marks : List ℕ) (at column : ℕ) : Type 0 where
+pub record LineSoFar (text : List ℕ) (i columns : ℕ) (values₀ : List (List ℕ)) (marks₀ : List ℕ) (k : ℕ) (values : List (List ℕ)) (marks : List ℕ) (at column : ℕ) : Type 0 where
   pub row : Row
   pub count : length row ≡ column
   pub few : column ≤ columns
@@ -67,7 +67,7 @@ pub record LineSoFar (text : List ℕ) (i columns : ℕ) (values₀ marks₀ : L
   pub line : line_from columns (drop i text) ≡ continued row (at - i) (line_from (columns - column) (drop at text))
   pub kept : MoreKept values₀ marks₀ k (map stored_cell row) values marks
 
-pub line_begun : (text : List ℕ) (i columns : ℕ) (values marks : List ℕ) (k : ℕ) → i ≤ length text → Room values marks
+pub line_begun : (text : List ℕ) (i columns : ℕ) (values : List (List ℕ)) (marks : List ℕ) (k : ℕ) → i ≤ length text → Room values marks
     → LineSoFar text i columns values marks k values marks i 0
 line_begun text i columns values marks k h room =
     record {
@@ -83,11 +83,11 @@ line_begun text i columns values marks k h room =
       kept = more_none values marks room k;
     }
   where
-    whole : (o : Option (Row × ℕ)) → continued [] 0 o ≡ o
+    whole : (o : MathOption (Row × ℕ)) → continued [] 0 o ≡ o
     whole none = refl
     whole (some r) = let z : 0 + r.1 ≡ r.1 = omega arith in ap (λ (n : ℕ). some (r.0, n)) z
 
-module _ {text : List ℕ} {i columns : ℕ} {values₀ marks₀ : List ℕ} {k : ℕ} {values marks : List ℕ} {at column : ℕ}
+module _ {text : List ℕ} {i columns : ℕ} {values₀ : List (List ℕ)} {marks₀ : List ℕ} {k : ℕ} {values : List (List ℕ)} {marks : List ℕ} {at column : ℕ}
     (so_far : LineSoFar text i columns values₀ marks₀ k values marks at column) where
   module _ (more : column < columns) (field : Field) (found : FieldAt text at field) where
     abbrev left : ℕ
@@ -100,7 +100,7 @@ module _ {text : List ℕ} {i columns : ℕ} {values₀ marks₀ : List ℕ} {k 
     one_more = omega arith
 
     -- something else than a comma or a line end stands behind the field
-    pub line_fails : Bad ≡ place_after field.end (behind_from left (drop field.end text)) → line_from columns (drop i text) ≡ none
+    pub line_fails : None ≡ place_after field.end (behind_from left (drop field.end text)) → line_from columns (drop i text) ≡ none
     line_fails e =
         so_far.line
         ∙ ap (continued so_far.row (at - i))
@@ -108,8 +108,8 @@ module _ {text : List ℕ} {i columns : ℕ} {values₀ marks₀ : List ℕ} {k 
         ∙ line_bad (drop at text) left (sym (ap (behind_from left) from_field) ∙ after_bad field.end _ e))
 
     -- a field more, its cell kept
-    module _ (values' marks' : List ℕ) (kept : MoreKept values marks (k + column) (raw_cell field.bits field.mark ∷ []) values' marks') (next : ℕ)
-        (after : Place next ≡ place_after field.end (behind_from left (drop field.end text))) where
+    module _ (values' : List (List ℕ)) (marks' : List ℕ) (kept : MoreKept values marks (k + column) (raw_cell field.bits field.mark ∷ []) values' marks') (next : ℕ)
+        (after : Some next ≡ place_after field.end (behind_from left (drop field.end text))) where
       abbrev cell_length : ℕ
       cell_length = (field_from (drop at text)).1
 
@@ -158,13 +158,13 @@ module _ {text : List ℕ} {i columns : ℕ} {values₀ marks₀ : List ℕ} {k 
       let z : columns - column ≡ 0 = omega arith in
       so_far.line ∙ ap (λ (n : ℕ). continued so_far.row (at - i) (line_from n (drop at text))) z
 
-  pub line_done : columns ≤ column → LineKept text i columns k values₀ marks₀ (Place at) values marks
+  pub line_done : columns ≤ column → LineKept text i columns k values₀ marks₀ (Some at) values marks
   line_done h =
       let later = so_far.later in
       let z : at ≡ i + (at - i + 0) = omega arith in
       let is = line_ends h in
       record {
-        after = ap Place z ∙ sym (ap (line_after i) is);
+        after = ap Some z ∙ sym (ap (line_after i) is);
         room = so_far.kept.room;
         long = so_far.kept.long;
         more = λ x e.
@@ -176,8 +176,8 @@ module _ {text : List ℕ} {i columns : ℕ} {values₀ marks₀ : List ℕ} {k 
       cc_row x e = let z : x ≡ (so_far.row ++ [], at - i + 0) = cc in ap (λ (y : Row × ℕ). y.0) z ∙ append-nil so_far.row
 
 -- a line that could not be read
-pub line_failed : (text : List ℕ) (i columns k : ℕ) (values marks values' marks' : List ℕ) → line_from columns (drop i text) ≡ none
-    → Room values' marks' → length marks' ≡ length marks → LineKept text i columns k values marks Bad values' marks'
+pub line_failed : (text : List ℕ) (i columns k : ℕ) (values : List (List ℕ)) (marks : List ℕ) (values' : List (List ℕ)) (marks' : List ℕ) → line_from columns (drop i text) ≡ none
+    → Room values' marks' → length marks' ≡ length marks → LineKept text i columns k values marks None values' marks'
 line_failed text i columns k values marks values' marks' e room long =
     record {
       after = sym (ap (line_after i) e);
@@ -186,5 +186,7 @@ line_failed text i columns k values marks values' marks' e room long =
       more = λ x f. let z : ◌≡◌ {A = ℕ} 0 1 = absurd_some x (sym e ∙ f) in absurd (omega arith);
     }
   where
-    absurd_some : (x : Row × ℕ) → ◌≡◌ {A = Option (Row × ℕ)} none (some x) → ◌≡◌ {A = ℕ} 0 1
+    absurd_some : (x : Row × ℕ) → ◌≡◌ {A = MathOption (Row × ℕ)} none (some x) → ◌≡◌ {A = ℕ} 0 1
     absurd_some x e = cc
+
+pub ruleset line_read_so = (line_begun, line_fails, line_failed, line_goes_on, line_done)

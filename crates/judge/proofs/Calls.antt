@@ -1,44 +1,30 @@
 -- JUDGE by cases: a refusal of reading, a row that is missing, and the rule's value on the row.
 use mathlib.Core.Path.{◌≡◌, refl, sym, ap, subst, ◌∙◌}
 use mathlib.Core.List.{List, ◌∷◌, []}
-use Prim.Native.Nat.{ℕ, zero, suc, ◌*◌, ◌≤◌, ◌<◌}
+use Prim.Native.Nat.{ℕ, ◌*◌, ◌≤◌, ◌<◌}
 use native.Mathlib.Omega.{arith}
-use lib.ListN.{length, take}
+use lib.ListN.{take}
 use Rattle.tables.specs.Tables.{most_cells, tables_of}
 use Rattle.tables.specs.Values.{judged_levels, judged_row}
 use Rattle.tables.specs.Refusals.{Refused, Given}
 use Rattle.cells.specs.Code.{Sized, Places, place_in}
 use Rattle.cells.specs.declared.Place.{Place}
+use Rattle.cells.specs.declared.Layout.{Layout}
 use Rattle.cells.specs.Reasons.{reason_number}
 use Rattle.cells.specs.declared.Reason.{Reason}
 use Rattle.values.proofs.Ranging.{columns_at, rows_at}
 use Rattle.values.proofs.Judged.{one_rows, row_room, row_readable}
-use Rattle.rule.specs.Truth.{Truth, False, Unknown, True, truth_number}
-use Rattle.rule.specs.Meaning.{judged}
+use Rattle.rule.specs.declared.Truth.{Truth}
+use Rattle.rule.specs.Meaning.{meaning, judged}
 use Rattle.rule.specs.Calls.{judge_call}
 use Rattle.rule.proofs.Calls.{calls_claim}
-use Rattle.names.specs.Code.{part_size, parts_size}
+use Rattle.names.specs.declared.RulePart.{RulePart}
 use Rattle.parser.specs.Code.{parsed_answer, parse_call, Parsing, ParsedTo, refusal_in}
 use Rattle.parser.specs.declared.Parsed.{Parsed}
 use Rattle.parser.proofs.Known.{Known, known, parse_refused, parse_given}
 use Rattle.parts.proofs.Parts.{rule_stands}
 use Rattle.evaluator.specs.Code.{Evaluable, Evaluates}
-use Rattle.judge.specs.Answers.{judged_answer}
-use Rattle.judge.specs.Code.{judged_by}
-use Rattle.judge.specs.declared.Judged.{Judged}
-use Rattle.judge.specs.declared.Judged.TheVariants.{True as JudgedTrue}
-
--- ---- a truth value as JUDGE answers it
-
-pub judged_true : (n : ℕ) → (n ≡ truth_number False → ⊥) → (n ≡ truth_number Unknown → ⊥) → JudgedTrue ≡ judged_by n
-judged_true zero f g = absurd (f refl)
-judged_true (suc zero) f g = absurd (g refl)
-judged_true (suc (suc n)) f g = refl
-
-judged_rank : (t : Truth) → judged_answer (judged_by (truth_number t)) ≡ Given t
-judged_rank False = refl
-judged_rank Unknown = refl
-judged_rank True = refl
+use Rattle.evaluator.specs.declared.Evaluation.{Evaluation}
 
 -- ---- the call
 
@@ -47,7 +33,7 @@ module _ (text file : List ℕ) (row : ℕ) (r : Parsed) where
       → Refused (reason_number y) ≡ judge_call text file row
   judge_refused x y p e u = sym (calls_claim.judge_refused text file row _ (parse_refused text file r x y p e u))
 
-  module _ (new : List ℕ) (n m : ℕ) (told : ParsedTo text file new r) (e : r ≡ Parsed.Rule n m) where
+  module _ (new : List RulePart) (n m : ℕ) (told : ParsedTo text file new r) (e : r ≡ Parsed.Rule n m) where
     parsing : Parsing text file new n m
     parsing = parse_given text file r new n m told e
 
@@ -58,7 +44,7 @@ module _ (text file : List ℕ) (row : ℕ) (r : Parsed) where
     file_sized = rule_known.sized
 
     -- at is where table 1 stands
-    module _ (g : List ℕ) (places : Places file g) {at : Place} (there : at ≡ place_in g 1) where
+    module _ (g : Layout) (places : Places file g) {at : Place} (there : at ≡ place_in g 1) where
       pub judge_no_row : at.rows ≤ row → Refused 11 ≡ judge_call text file row
       judge_no_row h =
           let z : at.rows ≡ rows_at g 1 = ap (λ o. o.rows) there in
@@ -74,11 +60,12 @@ module _ (text file : List ℕ) (row : ℕ) (r : Parsed) where
         pub judge_room : row * at.columns ≤ most_cells
         judge_room = omega (arith, row_room file g file_sized places row (row * at.columns) below_here starts)
 
-        module _ (size : length new ≡ parts_size) where
-          abbrev firsts : List ℕ
-          firsts = row * at.columns ∷ 0 ∷ 0 ∷ 0 ∷ []
+        abbrev firsts : List ℕ
+        firsts = row * at.columns ∷ 0 ∷ 0 ∷ 0 ∷ []
 
-          pub whole_rule : Evaluable new g file firsts 0 1
+        -- the rule's parts, with these tables
+        module _ (here : Evaluation) (parts_are : here.parts.now ≡ new) (layout_is : here.layout.now ≡ g) (file_is : here.file.now ≡ file) where
+          pub whole_rule : Evaluable here firsts 0 1
           whole_rule =
               let q = parsing in
               let k = rule_known in
@@ -86,19 +73,17 @@ module _ (text file : List ℕ) (row : ℕ) (r : Parsed) where
                 levels = judged_levels;
                 env = judged_row (tables_of file) row;
                 rule = q.rule;
-                readable = row_readable file g file_sized places row (row * at.columns) below_here starts firsts refl refl;
-                size = size;
+                readable = rw (layout_is, file_is) (row_readable file g file_sized places row (row * at.columns) below_here starts firsts refl refl);
                 few = omega (arith, k.few_parts);
-                stands = rule_stands new q.rule (sym (ap (λ (m : ℕ). take (part_size * m) new) q.count) ∙ q.written);
+                stands = rw parts_are (rule_stands new q.rule (sym (ap (λ (m : ℕ). take m new) q.count) ∙ q.written));
                 deep = refl;
                 room = omega (arith, k.few_froms);
-                fits = k.fits;
+                fits = rw file_is k.fits;
               }
 
-          pub judge_given : (v : ℕ) → Evaluates new g file firsts 0 1 v → (a : Judged) → a ≡ judged_by v → judged_answer a ≡ judge_call text file row
+          pub judge_given : (v : Truth) → Evaluates here firsts 0 1 v → Given v ≡ judge_call text file row
           unfolding whole_rule judged
-          judge_given v evaluates a is =
+          judge_given v evaluates =
               let q = parsing in
-              ap judged_answer (is ∙ ap judged_by (evaluates whole_rule))
-              ∙ judged_rank (judged (tables_of file) row q.rule)
+              ap Given (evaluates whole_rule ∙ ap (λ (f : List ℕ). meaning (tables_of f) (judged_row (tables_of file) row) q.rule) file_is)
               ∙ sym (calls_claim.judge_given text file row q.accepted q.rule q.is_rule (omega (arith, below_here, one_rows file g file_sized places)))

@@ -1,8 +1,9 @@
--- What proofs/ shows of these definitions.
-use Rattle.std.specs.Prelude.{◌≡◌}
-use Rattle.judge.specs.Answers.{judged_answer}
-use Rattle.judge.specs.declared.Judged.{Judged}
+-- What proofs/ shows of the answer that the code gives.
+use Rattle.std.specs.Prelude.{◌≡◌, Result}
+use Rattle.cells.specs.Reasons.{answer_of}
+use Rattle.cells.specs.declared.Reason.{Reason}
+use Rattle.rule.specs.declared.Truth.{Truth}
 
--- what the enum of JUDGE stands for tells its cases apart
+-- what the answer of JUDGE stands for tells its cases apart
 abbrev pub JudgedClaim : Type 0
-JudgedClaim = (x y : Judged) → judged_answer x ≡ judged_answer y → x ≡ y
+JudgedClaim = (x y : Result Truth Reason) → answer_of x ≡ answer_of y → x ≡ y

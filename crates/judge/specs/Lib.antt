@@ -1,3 +1,1 @@
-pub mod Answers
-pub mod Code
 pub mod Claims

@@ -5,14 +5,17 @@ use mathlib.Core.List.{[], ◌∷◌, ◌++◌, append-nil, append_assoc}
 use mathlib.Core.Logic.{◌⊎◌, inl, inr}
 use Prim.Native.Nat.{ℕ, suc, ◌+◌, ◌-◌, ◌≤◌, ◌<◌}
 use native.Mathlib.Omega.{arith}
-use borrow.Author.Tests.{ltb-true, ltb-false, lt-ltb, le-ltb, ne_eqb}
+use borrow.Author.Tests.{ltb-true, ltb-false, lt-ltb, le-ltb}
 use lib.Dec.{ltb}
 use lib.IntN.{ℤ, pos, negsuc, sub_ℕ, ◌+ℤ◌, +ℤ_idr}
 use lib.Signed.{lt_z}
-use Rattle.rule.specs.Tokens.{most_open, Fixed, Open, Close, bracket_step, opens_fit}
+use Rattle.rule.specs.Tokens.{most_open, Open, Close, is_fixed, bracket_step, opens_fit}
+use Rattle.rule.specs.declared.Token.{Token}
+use Rattle.rule.specs.declared.Token.TheVariants.{Fixed, Compares, Letter, Number}
+use Rattle.rule.specs.declared.Word.{Word}
+use Rattle.rule.specs.declared.Word.TheVariants.{Open as OpenWord, Close as CloseWord}
+use Rattle.rule.proofs.Words.{same_word_is}
 use Rattle.rule.specs.Grammar.{Tokens}
-use Rattle.lexer.specs.Code.{code_of, token_of}
-use Rattle.lexer.proofs.Codes.{by_code}
 
 -- ---- a difference of two counts
 
@@ -47,31 +50,21 @@ few a b h = go (ltb a b) refl
     go true e = rw (e)
     go false e = let l = ltb-false a b e in rw (e) (le-ltb most_open (a - b) (omega arith))
 
--- ---- what a token counts for
+-- ---- what other tokens count for
 
-step_open : (t : ℕ) → t ≡ code_of Open → bracket_step (token_of t) ≡ pos 1
-unfolding token_of
-step_open t e = rw (e)
+pub step_word : {t : Token} {k : Word} → t ≡ Fixed k → (k ≡ OpenWord → ⊥) → (k ≡ CloseWord → ⊥) → bracket_step t ≡ pos 0
+step_word {k = k} is f g = rw is (go (is_fixed Open k) refl (is_fixed Close k) refl)
+  where
+    go : (x : Bool) → is_fixed Open k ≡ x → (y : Bool) → is_fixed Close k ≡ y → elim x [ true ↦ pos 1 | false ↦ elim y [ true ↦ negsuc 0 | false ↦ pos 0 ] ] ≡ pos 0
+    go true e y d = absurd (f (sym (same_word_is OpenWord k e)))
+    go false e true d = absurd (g (sym (same_word_is CloseWord k d)))
+    go false e false d = refl
 
-step_close : (t : ℕ) → t ≡ code_of Close → bracket_step (token_of t) ≡ negsuc 0
-unfolding token_of
-step_close t e = rw (e)
-
-step_fixed : (k : ℕ) → (k ≡ code_of Open → ⊥) → (k ≡ code_of Close → ⊥) → bracket_step (Fixed k) ≡ pos 0
-step_fixed k f g = rw (bracket_step, ne_eqb (code_of Open) k (λ z. f (sym z)), ne_eqb (code_of Close) k (λ z. g (sym z)))
-
-step_other : (t : ℕ) → (t ≡ code_of Open → ⊥) → (t ≡ code_of Close → ⊥) → bracket_step (token_of t) ≡ pos 0
-step_other t f g = by_code t (λ x. bracket_step x ≡ pos 0) (λ h. step_fixed t f g) (λ h l. refl) (λ h l. refl) (λ h. refl)
-
--- the count o is kept as p: one more if the token t is the one with the number k
-abbrev pub Kept : ℕ → ℕ → ℕ → ℕ → Type 0
-Kept k t o p = ((t ≡ k) × (p ≡ o + 1)) ⊎ ((t ≡ k → ⊥) × (p ≡ o))
-
-counted : (t o c p d : ℕ) → Kept (code_of Open) t o p → Kept (code_of Close) t c d → sub_ℕ o c +ℤ bracket_step (token_of t) ≡ sub_ℕ p d
-counted t o c p d (inl v) (inl w) = absurd (omega (arith, v.0, w.0))
-counted t o c p d (inl v) (inr w) = rw (step_open t v.0, v.1, w.1) (one_more o c)
-counted t o c p d (inr v) (inl w) = rw (step_close t w.0, v.1, w.1) (one_less o c)
-counted t o c p d (inr v) (inr w) = rw (step_other t v.0 w.0, v.1, w.1) (+ℤ_idr (sub_ℕ o c))
+pub step_other : (t : Token) → ((k : Word) → t ≡ Fixed k → ⊥) → bracket_step t ≡ pos 0
+step_other (Fixed k) f = absurd (f k refl)
+step_other (Compares op) f = refl
+step_other (Letter x) f = refl
+step_other (Number n) f = refl
 
 -- ---- the tokens up to a place, of which o are ( and c are ): whether they fit decides over them and all that follow, or the rest decides from the difference on
 
@@ -87,45 +80,46 @@ unfolding opens_fit
 counted_all ts o c true h = sym (ap (opens_fit (pos 0)) (sym (append-nil ts)) ∙ h.rest [])
 counted_all ts o c false h = sym (ap (opens_fit (pos 0)) (sym (append-nil ts)) ∙ h.rest [])
 
-module _ (ts : Tokens) (t o c p d : ℕ) (u : Kept (code_of Open) t o p) (v : Kept (code_of Close) t c d) where
+-- a token t behind ts, with which the counts o and c become p and d
+module _ (ts : Tokens) (t : Token) (o c p d : ℕ) (e : sub_ℕ o c +ℤ bracket_step t ≡ sub_ℕ p d) where
   -- the tokens behind ts are t and others
-  behind : (us : Tokens) → opens_fit (pos 0) ((ts ++ (token_of t ∷ [])) ++ us) ≡ opens_fit (pos 0) (ts ++ (token_of t ∷ us))
-  behind us = ap (opens_fit (pos 0)) (append_assoc ts (token_of t ∷ []) us)
+  behind : (us : Tokens) → opens_fit (pos 0) ((ts ++ (t ∷ [])) ++ us) ≡ opens_fit (pos 0) (ts ++ (t ∷ us))
+  behind us = ap (opens_fit (pos 0)) (append_assoc ts (t ∷ []) us)
 
-  over : d + most_open < p → (us : Tokens) → opens_fit (sub_ℕ o c) (token_of t ∷ us) ≡ false
+  over : d + most_open < p → (us : Tokens) → opens_fit (sub_ℕ o c) (t ∷ us) ≡ false
   unfolding opens_fit
-  over m us = rw (opens_fit, counted t o c p d u v, too_many p d m) refl
+  over m us = rw (opens_fit, e, too_many p d m) refl
 
-  under : p ≤ d + most_open → (us : Tokens) → opens_fit (sub_ℕ o c) (token_of t ∷ us) ≡ opens_fit (sub_ℕ p d) us
+  under : p ≤ d + most_open → (us : Tokens) → opens_fit (sub_ℕ o c) (t ∷ us) ≡ opens_fit (sub_ℕ p d) us
   unfolding opens_fit
-  under m us = rw (opens_fit, counted t o c p d u v, few p d m) (ap (λ (z : ℤ). opens_fit z us) (counted t o c p d u v))
+  under m us = rw (opens_fit, e, few p d m) (ap (λ (z : ℤ). opens_fit z us) e)
 
   -- t opens one too many
-  pub counted_over : (fit : Bool) → BracketsCounted ts o c fit → d + most_open < p → BracketsCounted (ts ++ (token_of t ∷ [])) p d false
-  counted_over true h m = record { few_open = λ e. absurd (false≢true e); rest = λ us. behind us ∙ h.rest (token_of t ∷ us) ∙ over m us }
-  counted_over false h m = record { few_open = λ e. absurd (false≢true e); rest = λ us. behind us ∙ h.rest (token_of t ∷ us) }
+  pub counted_over : (fit : Bool) → BracketsCounted ts o c fit → d + most_open < p → BracketsCounted (ts ++ (t ∷ [])) p d false
+  counted_over true h m = record { few_open = λ e. absurd (false≢true e); rest = λ us. behind us ∙ h.rest (t ∷ us) ∙ over m us }
+  counted_over false h m = record { few_open = λ e. absurd (false≢true e); rest = λ us. behind us ∙ h.rest (t ∷ us) }
 
   -- t changes nothing about it
-  pub counted_on : (fit : Bool) → BracketsCounted ts o c fit → (fit ≡ true → p ≤ d + most_open) → BracketsCounted (ts ++ (token_of t ∷ [])) p d fit
-  counted_on true h m = record { few_open = m; rest = λ us. behind us ∙ h.rest (token_of t ∷ us) ∙ under (m refl) us }
-  counted_on false h m = record { few_open = m; rest = λ us. behind us ∙ h.rest (token_of t ∷ us) }
+  pub counted_on : (fit : Bool) → BracketsCounted ts o c fit → (fit ≡ true → p ≤ d + most_open) → BracketsCounted (ts ++ (t ∷ [])) p d fit
+  counted_on true h m = record { few_open = m; rest = λ us. behind us ∙ h.rest (t ∷ us) ∙ under (m refl) us }
+  counted_on false h m = record { few_open = m; rest = λ us. behind us ∙ h.rest (t ∷ us) }
 
 -- what the code does at a token t: the counts o and c become p and d, and fit becomes still
-abbrev pub Counts : (t o c p d : ℕ) (fit still : Bool) → Type 0
+abbrev pub Counts : (t : Token) (o c p d : ℕ) (fit still : Bool) → Type 0
 Counts t o c p d fit still =
-    ((t ≡ code_of Open) × (c + most_open < o + 1) × (p ≡ o + 1) × (d ≡ c) × (still ≡ false))
-    ⊎ (((t ≡ code_of Open) × (o + 1 ≤ c + most_open) × (p ≡ o + 1) × (d ≡ c) × (still ≡ fit))
-    ⊎ (((t ≡ code_of Open → ⊥) × (t ≡ code_of Close) × (p ≡ o) × (d ≡ c + 1) × (still ≡ fit))
-    ⊎ ((t ≡ code_of Open → ⊥) × (t ≡ code_of Close → ⊥) × (p ≡ o) × (d ≡ c) × (still ≡ fit))))
+    ((t ≡ Open) × (c + most_open < o + 1) × (p ≡ o + 1) × (d ≡ c) × (still ≡ false))
+    ⊎ (((t ≡ Open) × (o + 1 ≤ c + most_open) × (p ≡ o + 1) × (d ≡ c) × (still ≡ fit))
+    ⊎ (((t ≡ Close) × (p ≡ o) × (d ≡ c + 1) × (still ≡ fit))
+    ⊎ ((bracket_step t ≡ pos 0) × (p ≡ o) × (d ≡ c) × (still ≡ fit))))
 
 -- that is right, and each count grows by one at most
-module _ (ts : Tokens) (t o c p d : ℕ) (fit still : Bool) (h : BracketsCounted ts o c fit) where
-  pub counted_more : Counts t o c p d fit still → (p ≤ o + 1) × (d ≤ c + 1) × BracketsCounted (ts ++ (token_of t ∷ [])) p d still
+module _ (ts : Tokens) (t : Token) (o c p d : ℕ) (fit still : Bool) (h : BracketsCounted ts o c fit) where
+  pub counted_more : Counts t o c p d fit still → (p ≤ o + 1) × (d ≤ c + 1) × BracketsCounted (ts ++ (t ∷ [])) p d still
   counted_more (inl (e, m, f, g, w)) =
-      (omega arith, omega arith, rw (w) (counted_over ts t o c p d (inl (e, f)) (inr (λ z. omega (arith, e, z), g)) fit h (omega arith)))
+      (omega arith, omega arith, rw (w) (counted_over ts t o c p d (rw (e, f, g) (one_more o c)) fit h (omega arith)))
   counted_more (inr (inl (e, m, f, g, w))) =
-      (omega arith, omega arith, rw (w) (counted_on ts t o c p d (inl (e, f)) (inr (λ z. omega (arith, e, z), g)) fit h (λ z. omega arith)))
-  counted_more (inr (inr (inl (x, e, f, g, w)))) =
-      (omega arith, omega arith, rw (w) (counted_on ts t o c p d (inr (x, f)) (inl (e, g)) fit h (λ z. omega (arith, h.few_open z))))
-  counted_more (inr (inr (inr (x, y, f, g, w)))) =
-      (omega arith, omega arith, rw (w) (counted_on ts t o c p d (inr (x, f)) (inr (y, g)) fit h (λ z. omega (arith, h.few_open z))))
+      (omega arith, omega arith, rw (w) (counted_on ts t o c p d (rw (e, f, g) (one_more o c)) fit h (λ z. omega arith)))
+  counted_more (inr (inr (inl (e, f, g, w)))) =
+      (omega arith, omega arith, rw (w) (counted_on ts t o c p d (rw (e, f, g) (one_less o c)) fit h (λ z. omega (arith, h.few_open z))))
+  counted_more (inr (inr (inr (e, f, g, w)))) =
+      (omega arith, omega arith, rw (w) (counted_on ts t o c p d (rw (e, f, g) (+ℤ_idr (sub_ℕ o c))) fit h (λ z. omega (arith, h.few_open z))))

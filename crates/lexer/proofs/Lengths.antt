@@ -14,7 +14,8 @@ use Rattle.numerals.specs.Texts.{bytes, take_while}
 use Rattle.numerals.specs.Numerals.{is_digit, minus, first_number}
 use Rattle.numerals.proofs.Runs.{run_length}
 use Rattle.numerals.proofs.Reading.{first_told}
-use Rattle.rule.specs.Tokens.{Letter, Lexed, Spelling, begins, words, word_in, signs, sign_in, number_token, number_from, first_token, is_capital, is_small}
+use Rattle.rule.specs.Tokens.{Lexed, Spelling, begins, words, word_in, signs, sign_in, number_token, number_from, first_token, is_capital, is_small}
+use Rattle.rule.specs.declared.Token.TheVariants.{Letter}
 
 -- the token found, if any, takes at least one byte and at most so many
 abbrev pub Takes : ℕ → Option Lexed → Type 0

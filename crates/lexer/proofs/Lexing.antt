@@ -1,7 +1,7 @@
 -- The tokens of a text, one after the other.
 use mathlib.Core.Path.{◌≡◌, refl, sym, ap, subst, ◌∙◌}
 use mathlib.Core.Bool.{Bool, true, false}
-use mathlib.Core.List.{List, [], ◌∷◌, ◌++◌, map-append, append-nil, append_assoc}
+use mathlib.Core.List.{List, [], ◌∷◌, ◌++◌, append-nil, append_assoc}
 use mathlib.Core.Option.{Option, none, some, map}
 use Prim.Native.Nat.{ℕ, zero, suc, ◌+◌, ◌-◌, ◌≤◌, ◌<◌, pred}
 use native.Mathlib.Numerals.{add-one}
@@ -9,9 +9,9 @@ use native.Mathlib.Omega.{arith}
 use lib.ListN.{length, take, drop, get_or, set, length-set, length-drop, drop_of_length-le}
 use lib.Seq.{drop-cons, drop-drop, get_or-drop, take-suc-set}
 use Rattle.numerals.specs.Texts.{take_while}
-use Rattle.rule.specs.Tokens.{Token, Lexed, is_gap, first_token, and_then, tokens_after, tokens_of}
+use Rattle.rule.specs.Tokens.{Lexed, is_gap, first_token, and_then, tokens_after, tokens_of}
+use Rattle.rule.specs.declared.Token.{Token}
 use Rattle.rule.specs.Grammar.{Tokens}
-use Rattle.lexer.specs.Code.{token_of, tokens_in}
 use Rattle.numerals.proofs.Runs.{run_cons, run_nil, after_run, run_within}
 use Rattle.lexer.proofs.Lengths.{Takes, first_takes}
 
@@ -81,75 +81,71 @@ module _ (text : List ℕ) (i : ℕ) (h : i < length text) (g : is_gap (get_or t
   no_token : none ≡ first_token (get_or text i 0) (drop (1 + i) text) → tokens_after 0 (drop i text) ≡ none
   no_token e = token_here ∙ ap (λ (o : Option Lexed). and_then o (λ n. tokens_after n (drop (1 + i) text))) (sym e)
 
-  module _ (c e : ℕ) (f : some (token_of c, e - i) ≡ first_token (get_or text i 0) (drop (1 + i) text)) where
+  module _ (t : Token) (e : ℕ) (f : some (t, e - i) ≡ first_token (get_or text i 0) (drop (1 + i) text)) where
     token_takes : (1 ≤ e - i) × (e - i ≤ suc (length (drop (1 + i) text)))
     token_takes = subst (Takes (suc (length (drop (1 + i) text)))) (sym f) (first_takes (get_or text i 0) (drop (1 + i) text))
 
     token_end : (i < e) × (e ≤ length text)
     token_end = let (p, q) = token_takes in (omega arith, omega (arith, length-drop (1 + i) text))
 
-    token_then : tokens_after 0 (drop i text) ≡ map (λ ts. token_of c ∷ ts) (tokens_after 0 (drop e text))
+    token_then : tokens_after 0 (drop i text) ≡ map (λ ts. t ∷ ts) (tokens_after 0 (drop e text))
     token_then =
         let (p, q) = token_end in
         let z : 1 + i + pred (e - i) ≡ e = omega arith in
         let rest : drop (pred (e - i)) (drop (1 + i) text) ≡ drop e text = drop-drop (pred (e - i)) (1 + i) text ∙ ap (λ (k : ℕ). drop k text) z in
         token_here
         ∙ ap (λ (o : Option Lexed). and_then o (λ n. tokens_after n (drop (1 + i) text))) (sym f)
-        ∙ ap (map (λ ts. token_of c ∷ ts)) (after_drop (pred (e - i)) (drop (1 + i) text) ∙ ap (tokens_after 0) rest)
+        ∙ ap (map (λ ts. t ∷ ts)) (after_drop (pred (e - i)) (drop (1 + i) text) ∙ ap (tokens_after 0) rest)
 
 -- ---- what the lexer has done: n tokens are found, of the many that there is room for, and place i is reached, where no gap is
-pub record LexedTo (text tokens : List ℕ) (many n i : ℕ) : Type 0 where
+pub record LexedTo (text : List ℕ) (tokens : Tokens) (many n i : ℕ) : Type 0 where
   pub within : i ≤ length text
   pub fewer : n ≤ i
   pub room : length tokens ≡ many
   pub enough : length text ≤ many
   pub no_gap : i < length text → is_gap (get_or text i 0) ≡ false
-  pub still : tokens_of text ≡ put_before (tokens_in (take n tokens)) (tokens_after 0 (drop i text))
+  pub still : tokens_of text ≡ put_before (take n tokens) (tokens_after 0 (drop i text))
 
-pub lexed_none : (text tokens : List ℕ) (r : ℕ) → length text ≤ length tokens → r ≡ 0 + length (take_while is_gap (drop 0 text)) → LexedTo text tokens (length tokens) 0 r
+pub lexed_none : (text : List ℕ) (tokens : Tokens) (r : ℕ) → length text ≤ length tokens → r ≡ 0 + length (take_while is_gap (drop 0 text)) → LexedTo text tokens (length tokens) 0 r
 unfolding tokens_of
 lexed_none text tokens r enough w =
     let (from, upto, gap, rest) = gaps_passed text 0 r (omega arith) w in
     record { within = upto; fewer = omega arith; room = refl; enough = enough; no_gap = gap; still = rest ∙ sym (put_none (tokens_after 0 (drop r text))) }
 
-module _ (text tokens : List ℕ) (many n i : ℕ) (h : LexedTo text tokens many n i) where
+module _ (text : List ℕ) (tokens : Tokens) (many n i : ℕ) (h : LexedTo text tokens many n i) where
   -- one token more
-  pub one_taken : (c : ℕ) → i < length text → tokens_in (take (n + 1) (set tokens n c)) ≡ tokens_in (take n tokens) ++ (token_of c ∷ [])
-  one_taken c l =
-      let one : n + 1 ≡ suc n = add-one n in
-      ap (λ (k : ℕ). tokens_in (take k (set tokens n c))) one
-      ∙ ap tokens_in (take-suc-set tokens n c (omega (arith, h.room, h.fewer, h.enough)))
-      ∙ map-append token_of (take n tokens) (c ∷ [])
+  pub one_taken : (t : Token) → i < length text → take (n + 1) (set tokens n t) ≡ take n tokens ++ (t ∷ [])
+  one_taken t l = rw (add-one n) (take-suc-set tokens n t (omega (arith, h.room, h.fewer, h.enough)))
 
   -- and the gaps behind it
-  pub lexed_more : (c e r : ℕ) → i < length text → some (token_of c, e - i) ≡ first_token (get_or text i 0) (drop (1 + i) text)
-      → r ≡ e + length (take_while is_gap (drop e text)) → LexedTo text (set tokens n c) many (n + 1) r
-  lexed_more c e r l f w =
-      let (after, upto) = token_end text i l (h.no_gap l) c e f in
+  pub lexed_more : (t : Token) (e r : ℕ) → i < length text → some (t, e - i) ≡ first_token (get_or text i 0) (drop (1 + i) text)
+      → r ≡ e + length (take_while is_gap (drop e text)) → LexedTo text (set tokens n t) many (n + 1) r
+  lexed_more t e r l f w =
+      let (after, upto) = token_end text i l (h.no_gap l) t e f in
       let (from, within, gap, rest) = gaps_passed text e r upto w in
       record {
         within = within;
         fewer = omega (arith, h.fewer);
-        room = length-set tokens n c ∙ h.room;
+        room = length-set tokens n t ∙ h.room;
         enough = h.enough;
         no_gap = gap;
         still =
             h.still
-            ∙ ap (put_before (tokens_in (take n tokens))) (token_then text i l (h.no_gap l) c e f)
-            ∙ put_one (tokens_in (take n tokens)) (token_of c) (tokens_after 0 (drop e text))
-            ∙ ap (put_before (tokens_in (take n tokens) ++ (token_of c ∷ []))) rest
-            ∙ ap (λ (ts : Tokens). put_before ts (tokens_after 0 (drop r text))) (sym (one_taken c l));
+            ∙ ap (put_before (take n tokens)) (token_then text i l (h.no_gap l) t e f)
+            ∙ put_one (take n tokens) t (tokens_after 0 (drop e text))
+            ∙ ap (put_before (take n tokens ++ (t ∷ []))) rest
+            ∙ ap (λ (ts : Tokens). put_before ts (tokens_after 0 (drop r text))) (sym (one_taken t l));
       }
 
   -- where the token at place i ends
-  pub token_ends : (c e : ℕ) → i < length text → some (token_of c, e - i) ≡ first_token (get_or text i 0) (drop (1 + i) text) → (i < e) × (e ≤ length text)
-  token_ends c e l f = token_end text i l (h.no_gap l) c e f
+  pub token_ends : (t : Token) (e : ℕ) → i < length text → some (t, e - i) ≡ first_token (get_or text i 0) (drop (1 + i) text) → (i < e) × (e ≤ length text)
+  token_ends t e l f = token_end text i l (h.no_gap l) t e f
 
   pub lexed_stop : i < length text → none ≡ first_token (get_or text i 0) (drop (1 + i) text) → none ≡ tokens_of text
-  lexed_stop l f = sym (h.still ∙ ap (put_before (tokens_in (take n tokens))) (no_token text i l (h.no_gap l) f))
+  lexed_stop l f = sym (h.still ∙ ap (put_before (take n tokens)) (no_token text i l (h.no_gap l) f))
 
-  pub lexed_all : length text ≤ i → some (tokens_in (take n tokens)) ≡ tokens_of text
+  pub lexed_all : length text ≤ i → some (take n tokens) ≡ tokens_of text
   unfolding tokens_after
   lexed_all l =
-      sym (h.still ∙ ap (λ (r : List ℕ). put_before (tokens_in (take n tokens)) (tokens_after 0 r)) (drop_of_length-le text l)
-      ∙ ap {B = Option Tokens} some (append-nil (tokens_in (take n tokens))))
+      sym (h.still ∙ ap (λ (r : List ℕ). put_before (take n tokens) (tokens_after 0 r)) (drop_of_length-le text l)
+      ∙ ap {B = Option Tokens} some (append-nil (take n tokens)))

@@ -1,5 +1,3 @@
-pub mod Codes
-pub mod Coded
 pub mod Counting
 pub mod Signs
 pub mod Words

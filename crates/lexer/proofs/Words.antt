@@ -2,10 +2,11 @@
 use mathlib.Core.Path.{◌≡◌, refl, sym, ap, ap₂, subst, ◌∙◌}
 use mathlib.Core.Bool.{Bool, true, false, cond, ◌&&◌}
 use mathlib.Core.List.{List, [], ◌∷◌, ◌++◌}
-use mathlib.Core.Option.{Option, none, some}
+use mathlib.Core.Option.{Option as MathOption, none, some, map}
+use Rattle.std.specs.Prelude.{Option, Some, None}
 use Prim.Native.Nat.{ℕ, ◌+◌, ◌*◌, ◌-◌, ◌≤◌, ◌<◌}
 use native.Mathlib.Omega.{arith}
-use borrow.Author.Tests.{eqb-true, eqb-false, eq-eqb, ne_eqb, leb-true, leb-false}
+use borrow.Author.Tests.{eqb-true, eqb-false, leb-true, leb-false}
 use lib.Ieee.Fits.{and_i}
 use lib.Dec.{T, eqb, leb, leb→le}
 use lib.ListN.{length, take, drop, take-append-drop, length-drop}
@@ -14,13 +15,17 @@ use Rattle.tables.specs.Bytes.{between}
 use Rattle.tables.proofs.Tests.{both, bounds, between_yes, is_so, is_true, refuted}
 use Rattle.tables.proofs.Sizes.{same_is, same_refl}
 use Rattle.numerals.specs.Texts.{bytes, take_while}
-use Rattle.rule.specs.Tokens.{Token, Fixed, Compares, Letter, Number, Spelling, Lexed, words, word_in, is_capital}
+use Rattle.rule.specs.Tokens.{Spelling, Lexed, words, word_in, is_capital}
+use Rattle.rule.specs.declared.Token.{Token}
+use Rattle.rule.specs.declared.Token.TheVariants.{Fixed}
+use Rattle.rule.specs.declared.Word.{Word}
+use Rattle.tables.specs.Options.{found}
 use Rattle.numerals.specs.Numerals.{in_base}
 use Rattle.numerals.proofs.Digits.{in_base_append}
-use Rattle.lexer.specs.Code.{compares_code, token_of, code_of, most_capitals, word_base, word_code}
+use Rattle.lexer.specs.Code.{most_capitals, word_base, token_spelled, token_to, lexed_as}
+use Rattle.lexer.specs.declared.Lexeme.{Lexeme}
 use Rattle.digits.specs.Code.{RunAt}
 use Rattle.digits.specs.declared.Run.{Run}
-use Rattle.lexer.proofs.Codes.{fixed_token}
 
 abbrev value : ℕ → List ℕ → ℕ
 value n l = in_base word_base 0 n l
@@ -92,54 +97,39 @@ same_by_value a b da db = go (eqb (value 0 a) (value 0 b)) refl
     go false e = refuted (same a b) (λ t. eqb-false (value 0 a) (value 0 b) e (ap (value 0) (same_is a b t)))
 
 -- what the laws below ask of a word
-abbrev word_token : Token → Bool
-word_token (Fixed k) = between 1 compares_code k
-word_token (Compares op) = false
-word_token (Letter x) = false
-word_token (Number n) = false
-
 abbrev fits_word : Spelling → Bool
-fits_word s = word_token s.token && (all is_byte s.text && leb (length s.text) most_capitals)
+fits_word s = all is_byte s.text && leb (length s.text) most_capitals
 
 every_word_fits : T (all fits_word words)
 unfolding words bytes
 every_word_fits = tt
 
-word_code_back : (t : Token) → T (word_token t) → (token_of (code_of t) ≡ t) × (0 < code_of t)
-word_code_back (Fixed k) h = let (p, q) = bounds 1 compares_code k h in (fixed_token k (omega arith), p)
-word_code_back (Compares op) h = absurd h
-word_code_back (Letter x) h = absurd h
-word_code_back (Number n) h = absurd h
-
-first_word : (s : Spelling) (ss : List Spelling) → T (all fits_word (s ∷ ss)) → T (word_token s.token) × Digits s.text × (length s.text ≤ most_capitals) × T (all fits_word ss)
+first_word : (s : Spelling) (ss : List Spelling) → T (all fits_word (s ∷ ss)) → Digits s.text × (length s.text ≤ most_capitals) × T (all fits_word ss)
 first_word s ss h =
     let (p, rest) = both (fits_word s) (all fits_word ss) h in
-    let (t, q) = both (word_token s.token) (all is_byte s.text && leb (length s.text) most_capitals) p in
-    let (d, l) = both (all is_byte s.text) (leb (length s.text) most_capitals) q in (t, d, leb→le (length s.text) most_capitals l, rest)
+    let (d, l) = both (all is_byte s.text) (leb (length s.text) most_capitals) p in (d, leb→le (length s.text) most_capitals l, rest)
 
--- the word with a number; 0: none
-abbrev numbered_word : ℕ → ℕ → Option Lexed
-numbered_word c n = cond (eqb c 0) none (some (token_of c, n))
+-- the word that was found, which takes n bytes
+abbrev word_lexed : MathOption Token → ℕ → MathOption Lexed
+word_lexed o n = map (λ t. (t, n)) o
 
-word_by_value : (ss : List Spelling) (w : List ℕ) → T (all fits_word ss) → Digits w → word_in ss w ≡ numbered_word (word_code ss (value 0 w)) (length w)
-unfolding word_in word_code
+word_by_value : (ss : List Spelling) (w : List ℕ) → T (all fits_word ss) → Digits w → word_in ss w ≡ word_lexed (token_spelled ss (value 0 w)) (length w)
+unfolding word_in token_spelled
 word_by_value [] w f d = refl
 word_by_value (s ∷ ss) w f d =
-    let (t, ds, short, rest) = first_word s ss f in
-    let (is, low) = word_code_back s.token t in
-    go (eqb (value 0 s.text) (value 0 w)) (same_by_value s.text w ds d) is low (word_by_value ss w rest d)
+    let (ds, short, rest) = first_word s ss f in
+    go (eqb (value 0 s.text) (value 0 w)) (same_by_value s.text w ds d) (word_by_value ss w rest d)
   where
-    go : (t : Bool) → same s.text w ≡ t → token_of (code_of s.token) ≡ s.token → 0 < code_of s.token
-        → word_in ss w ≡ numbered_word (word_code ss (value 0 w)) (length w)
-        → elim (same s.text w) [ true ↦ some (s.token, length w) | false ↦ word_in ss w ] ≡ numbered_word (cond t (code_of s.token) (word_code ss (value 0 w))) (length w)
-    go true e is low r = rw (e, ne_eqb (code_of s.token) 0 (λ z. omega (arith, z, low)), is)
-    go false e is low r = rw (e) r
+    go : (t : Bool) → same s.text w ≡ t → word_in ss w ≡ word_lexed (token_spelled ss (value 0 w)) (length w)
+        → elim (same s.text w) [ true ↦ some (s.token, length w) | false ↦ word_in ss w ] ≡ word_lexed (cond t (some s.token) (token_spelled ss (value 0 w))) (length w)
+    go true is r = rw is
+    go false is r = rw (is) r
 
 too_long : (ss : List Spelling) (w : List ℕ) → T (all fits_word ss) → most_capitals < length w → none ≡ word_in ss w
 unfolding word_in
 too_long [] w f h = refl
 too_long (s ∷ ss) w f h =
-    let (t, ds, short, rest) = first_word s ss f in
+    let (ds, short, rest) = first_word s ss f in
     let differ = refuted (same s.text w) (λ u. omega (arith, h, short, ap length (same_is s.text w u))) in
     rw (word_in, differ) (too_long ss w rest h)
 
@@ -166,13 +156,16 @@ module _ (text : List ℕ) (i : ℕ) (r : Run) (run : RunAt text i 65 90 word_ba
   pub word_long : most_capitals < r.end - i → none ≡ word_in words capitals
   word_long m = too_long words capitals every_word_fits (omega (arith, long))
 
-  module _ (c : ℕ) (short : r.end - i ≤ most_capitals) (w : c ≡ word_code words r.number) where
-    by_value : word_in words capitals ≡ numbered_word c (r.end - i)
-    by_value =
-        word_by_value words capitals every_word_fits (digits_run (drop i text)) ∙ sym (ap₂ numbered_word (w ∙ ap (word_code words) (run.spells short)) long)
+  module _ (o : Option Word) (short : r.end - i ≤ most_capitals) (w : map Fixed (found o) ≡ token_spelled words r.number) where
+    word_known : word_lexed (map Fixed (found o)) (r.end - i) ≡ word_in words capitals
+    word_known =
+        sym (word_by_value words capitals every_word_fits (digits_run (drop i text)) ∙ sym (ap₂ word_lexed (w ∙ ap (token_spelled words) (run.spells short)) long))
 
-    pub word_none : c ≡ 0 → none ≡ word_in words capitals
-    word_none z = sym (by_value ∙ rw (eq-eqb c 0 z) refl)
+    pub word_none : o ≡ None → none ≡ word_in words capitals
+    word_none e = rw e at word_known
 
-    pub word_found : (c ≡ 0 → ⊥) → some (token_of c, r.end - i) ≡ word_in words capitals
-    word_found z = sym (by_value ∙ rw (ne_eqb c 0 z) refl)
+    pub word_found : (c : Word) (x : Lexeme) → o ≡ Some c → x ≡ token_to (Fixed c) r.end → lexed_as i (Some x) ≡ word_in words capitals
+    word_found c x e t = rw t (rw e at word_known)
+
+-- what word answers
+pub ruleset word_rules = (word_long, word_none, word_found)

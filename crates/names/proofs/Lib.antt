@@ -1,4 +1,3 @@
-pub mod Putting
+pub mod Published
 pub mod Notes
 pub mod Placing
-pub mod Keeping

@@ -1,138 +1,179 @@
--- What the functions of src/ promise one another and their callers, in the terms of the code: parts and bound letters as numbers. The contract of a
--- public call cites nothing of this file.
-use Rattle.std.specs.Prelude.{◌≡◌, Bool, true, false, List, [], ◌∷◌, ◌++◌, ℕ, ◌+◌, ◌*◌, ◌-◌, ◌≤◌, ℤ, length, take, drop, get_or}
-use Rattle.std.proofs.Math.Option.{none, some}
+-- What the functions of src/ promise one another and their callers, in the terms of the code: the parts of a rule and bound letters as they are held. The
+-- contract of a public call cites nothing of this file.
+use Rattle.std.specs.Prelude.{◌≡◌, Bool, true, false, List, [], ◌∷◌, ◌++◌, map, ℕ, ◌+◌, ◌≤◌, max, length, take, drop, Option, Some, None}
+use Rattle.std.proofs.Math.Option.{Option as MathOption, none, some}
+use Rattle.tables.specs.Lists.{◌>>=◌}
 use Rattle.tables.specs.Tables.{columns_of}
 use Rattle.tables.specs.Values.{most_levels}
-use Rattle.cells.specs.Code.{from_excess, to_excess, Sized}
-use Rattle.rule.specs.Condition.{WrittenValue, Plain, Named, Source, Over, WrittenCondition, Rule, parts, froms_deep}
-use Rattle.rule.specs.Throughout.{Throughout}
-use Rattle.rule.specs.Names.{most_parts, most_froms, outermost, rule_in}
-use Rattle.rule.specs.Parts.{parts_from, parts_of}
+use Rattle.cells.specs.Code.{Sized}
+use Rattle.rule.specs.Condition.{Condition, Atom, Join, Apply, Exists, Listed, WrittenCondition, Rule, parts, froms_deep}
+use Rattle.rule.specs.Names.{most_parts, most_froms, Scope, outermost, rule_in}
+use Rattle.rule.specs.Parts.{Head, part_of, parts_from}
+use Rattle.rule.specs.declared.Head.{Head as HeadOver}
+use Rattle.rule.specs.declared.Head.TheVariants.{AtomHead, JoinHead, UnaryHead, ExistsHead, ListedHead}
 use Rattle.rule.specs.declared.Part.{Part}
-use Rattle.values.specs.Code.{held_size}
-use Rattle.phrases.specs.Code.{noted}
-use Rattle.grammar.specs.Code.{note_size, notes_size}
-use Rattle.scopes.specs.Code.{tagged_numbers, scope_in, ScopeFits}
-use Rattle.names.specs.declared.Placed.{Placed}
-use Rattle.names.specs.declared.Placed.TheVariants.{At, Unplaced}
+use Rattle.phrases.specs.Code.{Note, noted}
+use Rattle.scopes.specs.Code.{scope_in, ScopeFits}
+use Rattle.scopes.specs.declared.HeldScope.{HeldScope}
+use Rattle.names.specs.declared.RulePart.{RulePart}
 
--- ---- where the fields of a part stand, the kind first, and how many numbers they are
+-- ---- the parts of a rule
 
-abbrev pub part_comparison : ℕ
-part_comparison = 1
+-- a part with this end, which says this; and as it is published
+abbrev pub rule_part : ℕ → Head → RulePart
+rule_part e head = record { end = e; head = head }
 
-abbrev pub part_table : ℕ
-part_table = 2
+abbrev pub published : RulePart → Part
+published p = part_of p.end p.head
 
-abbrev pub part_end : ℕ
-part_end = 3
+-- the parts of a rule, the first of which has the number k: those of `parts_from`, before they are published (PublishedClaim)
+unfoldable pub placed_from : ℕ → Rule → List RulePart
+placed_from k (Atom x) = rule_part (k + 1) (AtomHead x) ∷ []
+placed_from k (Join j a b) = rule_part (k + (1 + parts a + parts b)) (JoinHead j) ∷ (placed_from (k + 1) a ++ placed_from (k + 1 + parts a) b)
+placed_from k (Apply u a) = rule_part (k + (1 + parts a)) (UnaryHead u) ∷ placed_from (k + 1) a
+placed_from k (Exists f w) = rule_part (k + (1 + parts w)) (ExistsHead f) ∷ placed_from (k + 1) w
+placed_from k (Listed q op l s f w) = rule_part (k + (1 + parts w)) (ListedHead q op l s f) ∷ placed_from (k + 1) w
 
-abbrev pub part_left : ℕ
-part_left = 4
+-- publishing them gives the published parts
+abbrev pub PublishedClaim : Type 0
+PublishedClaim = (k : ℕ) (r : Rule) → map published (placed_from k r) ≡ parts_from k r
 
-abbrev pub part_right : ℕ
-part_right = part_left + held_size
+-- the first part of a whole rule is number 0
+abbrev pub placed_of : Rule → List RulePart
+placed_of r = placed_from 0 r
 
-abbrev pub part_size : ℕ
-part_size = part_right + held_size
+-- ---- the conditions in a condition
 
--- the room for as many parts as a rule may have: that of their notes, which stand in the same array before; a part has no more numbers than a note
-abbrev pub parts_size : ℕ
-parts_size = notes_size
+module _ {A S : Type 0} where
+  -- what a condition says by itself
+  abbrev pub own_head : Condition A S → HeadOver A S
+  own_head (Atom x) = AtomHead x
+  own_head (Join j a b) = JoinHead j
+  own_head (Apply u a) = UnaryHead u
+  own_head (Exists f w) = ExistsHead f
+  own_head (Listed q op l s f w) = ListedHead q op l s f
 
--- ---- parts as numbers
+  -- and the conditions in it
+  abbrev pub inner : Condition A S → List (Condition A S)
+  inner (Atom x) = []
+  inner (Join j a b) = a ∷ b ∷ []
+  inner (Apply u a) = a ∷ []
+  inner (Exists f w) = w ∷ []
+  inner (Listed q op l s f w) = w ∷ []
 
--- a part of a rule, and several, one after the other
-abbrev pub part_numbers : Part → List ℕ
-part_numbers p = p.kind ∷ p.comparison ∷ p.table ∷ p.end ∷ (tagged_numbers p.left ++ tagged_numbers p.right)
+  -- how many there are in one that says this
+  abbrev pub inner_count : HeadOver A S → ℕ
+  inner_count (AtomHead x) = 0
+  inner_count (JoinHead j) = 2
+  inner_count (UnaryHead u) = 1
+  inner_count (ExistsHead f) = 1
+  inner_count (ListedHead q op l s f) = 1
 
-unfoldable pub parts_numbers : List Part → List ℕ
-parts_numbers [] = []
-parts_numbers (p ∷ ps) = part_numbers p ++ parts_numbers ps
+  -- how many parts some conditions have together, and how many FROMs stand around one another in one of them
+  abbrev pub parts_all : List (Condition A S) → ℕ
+  parts_all [] = 0
+  parts_all (a ∷ as') = parts a + parts_all as'
 
--- ---- what notes keep of a condition
+  abbrev pub deep_all : List (Condition A S) → ℕ
+  deep_all [] = 0
+  deep_all (a ∷ as') = max (froms_deep a) (deep_all as')
 
--- a number comes back from its note: it is not below −2 ^ 31
-abbrev pub NumberKept : ℤ → Type 0
-NumberKept k = from_excess (to_excess k) ≡ k
+-- the notes of some conditions, one after the other; the rules that they stand for; and the parts of these, the first of which has the number k
+abbrev pub noted_all : List WrittenCondition → List Note
+noted_all [] = []
+noted_all (a ∷ as') = noted a ++ noted_all as'
 
--- and so does a value: a letter is not 0, which stands for none
-abbrev pub ValueKept : WrittenValue → Type 0
-ValueKept (Plain k) = NumberKept k
-ValueKept (Named x k) = (1 ≤ x) × NumberKept k
+abbrev pub rules_in : List ℕ → Scope → List WrittenCondition → MathOption (List Rule)
+rules_in columns scope [] = some []
+rules_in columns scope (a ∷ as') = rule_in columns scope a >>= (λ r. rules_in columns scope as' >>= (λ rs. some (r ∷ rs)))
 
--- and so does a table of a FROM
-abbrev pub SourceKept : Source → Type 0
-SourceKept (Over n x) = NumberKept n
-
--- and so do all values and FROMs of a condition
-abbrev pub Kept : WrittenCondition → Type 0
-Kept = Throughout ValueKept SourceKept
+abbrev pub placed_all : ℕ → List Rule → List RulePart
+placed_all k [] = []
+placed_all k (r ∷ rs) = placed_from k r ++ placed_all (k + parts r) rs
 
 -- ---- placing parts
 
--- the kind of the last of the first h notes
-abbrev pub kind_at : List ℕ → ℕ → ℕ
-kind_at notes h = get_or notes (note_size * (h - 1)) 0
-
 -- the last of the first h notes are those of a condition, and there is room for its parts before number e and for the letters that it binds
-pub record Placeable (file notes : List ℕ) (h : ℕ) (room : List ℕ) (e : ℕ) (scope : List ℕ) (levels : ℕ) : Type 0 where
+pub record Placeable (file : List ℕ) (notes : List Note) (h e : ℕ) (scope : HeldScope) : Type 0 where
   pub sized : Sized file
-  pub scope_fits : ScopeFits file scope levels
-  pub notes_room : note_size * h ≤ length notes
-  pub parts_size_lem : length room ≡ parts_size
+  pub scope_fits : ScopeFits file scope
+  pub notes_room : h ≤ length notes
   pub few_notes : h ≤ most_parts
   pub few_parts : e ≤ most_parts
-  pub before : List ℕ
+  pub before : List Note
   pub tree : WrittenCondition
-  pub notes_are : take (note_size * h) notes ≡ before ++ noted tree
+  pub notes_are : take h notes ≡ before ++ noted tree
   pub fits : parts tree ≤ e
-  pub deep : levels + froms_deep tree ≤ most_levels
-  pub kept : Kept tree
+  pub deep : scope.levels + froms_deep tree ≤ most_levels
 
 -- they are written, from number p up to e
-pub record PlacedAt (file scope : List ℕ) (levels : ℕ) (tree : WrittenCondition) (old new : List ℕ) (p e : ℕ) : Type 0 where
+pub record PlacedAt (file : List ℕ) (scope : HeldScope) (tree : WrittenCondition) (old new : List RulePart) (p e : ℕ) : Type 0 where
   pub rule : Rule
-  pub named : rule_in (columns_of file) (scope_in scope levels) tree ≡ some rule
+  pub named : rule_in (columns_of file) (scope_in scope) tree ≡ some rule
   pub same_parts : parts rule ≡ parts tree
   pub start : p + parts tree ≡ e
-  pub written : drop (part_size * p) new ≡ parts_numbers (parts_from p rule) ++ drop (part_size * e) old
+  pub written : drop p new ≡ placed_from p rule ++ drop e old
 
 -- or some name means nothing
-abbrev pub PlacedAs : (file scope : List ℕ) (levels : ℕ) → WrittenCondition → (old new : List ℕ) (e : ℕ) → Placed → Type 0
-PlacedAs file scope levels tree old new e (At p) = PlacedAt file scope levels tree old new p e
-PlacedAs file scope levels tree old new e Unplaced = rule_in (columns_of file) (scope_in scope levels) tree ≡ none
+abbrev pub PlacedAs : (file : List ℕ) (scope : HeldScope) → WrittenCondition → (old new : List RulePart) (e : ℕ) → Option ℕ → Type 0
+PlacedAs file scope tree old new e (Some p) = PlacedAt file scope tree old new p e
+PlacedAs file scope tree old new e None = rule_in (columns_of file) (scope_in scope) tree ≡ none
 
 -- and so it is for whatever condition the notes are of
-abbrev pub PlacedTo : (file notes : List ℕ) (h : ℕ) (old new : List ℕ) (e : ℕ) (scope : List ℕ) (levels : ℕ) → Placed → Type 0
-PlacedTo file notes h old new e scope levels r =
-    (q : Placeable file notes h old e scope levels) → PlacedAs file scope levels q.tree old new e r
+abbrev pub PlacedTo : (file : List ℕ) (notes : List Note) (h : ℕ) (old new : List RulePart) (e : ℕ) (scope : HeldScope) → Option ℕ → Type 0
+PlacedTo file notes h old new e scope r = (q : Placeable file notes h e scope) → PlacedAs file scope q.tree old new e r
+
+-- the same of the conditions in one that says this
+pub record InnerPlaceable (file : List ℕ) (notes : List Note) (h e : ℕ) (scope : HeldScope) (head : Head) : Type 0 where
+  pub sized : Sized file
+  pub scope_fits : ScopeFits file scope
+  pub notes_room : h ≤ length notes
+  pub few_notes : h ≤ most_parts
+  pub few_parts : e ≤ most_parts
+  pub before : List Note
+  pub trees : List WrittenCondition
+  pub count : length trees ≡ inner_count head
+  pub notes_are : take h notes ≡ before ++ noted_all trees
+  pub fits : parts_all trees ≤ e
+  pub deep : scope.levels + deep_all trees ≤ most_levels
+
+pub record InnerPlacedAt (file : List ℕ) (scope : HeldScope) (trees : List WrittenCondition) (old new : List RulePart) (p e : ℕ) : Type 0 where
+  pub rules : List Rule
+  pub named : rules_in (columns_of file) (scope_in scope) trees ≡ some rules
+  pub same_parts : parts_all rules ≡ parts_all trees
+  pub start : p + parts_all trees ≡ e
+  pub written : drop p new ≡ placed_all p rules ++ drop e old
+
+abbrev pub InnerPlacedAs : (file : List ℕ) (scope : HeldScope) → List WrittenCondition → (old new : List RulePart) (e : ℕ) → Option ℕ → Type 0
+InnerPlacedAs file scope trees old new e (Some p) = InnerPlacedAt file scope trees old new p e
+InnerPlacedAs file scope trees old new e None = rules_in (columns_of file) (scope_in scope) trees ≡ none
+
+abbrev pub InnerPlacedTo : (file : List ℕ) (notes : List Note) (h : ℕ) (old new : List RulePart) (e : ℕ) (scope : HeldScope) (head : Head) → Option ℕ → Type 0
+InnerPlacedTo file notes h old new e scope head r = (q : InnerPlaceable file notes h e scope head) → InnerPlacedAs file scope q.trees old new e r
 
 -- ---- a whole rule
 
 -- the first n notes are those of a condition that is within the limits
-pub record Nameable (file notes : List ℕ) (n : ℕ) : Type 0 where
+pub record Nameable (file : List ℕ) (notes : List Note) (n : ℕ) : Type 0 where
   pub sized : Sized file
-  pub notes_room : note_size * n ≤ length notes
+  pub notes_room : n ≤ length notes
   pub few_notes : n ≤ most_parts
   pub tree : WrittenCondition
   pub count : n ≡ parts tree
   pub shallow : froms_deep tree ≤ most_froms
-  pub notes_are : take (note_size * n) notes ≡ noted tree
-  pub kept : Kept tree
+  pub notes_are : take n notes ≡ noted tree
 
 -- the first n parts are those of the rule that the condition stands for
-pub record NamedAt (file : List ℕ) (tree : WrittenCondition) (n : ℕ) (new : List ℕ) : Type 0 where
+pub record NamedAt (file : List ℕ) (tree : WrittenCondition) (n : ℕ) (new : List RulePart) : Type 0 where
   pub rule : Rule
   pub named : rule_in (columns_of file) outermost tree ≡ some rule
-  pub written : take (part_size * n) new ≡ parts_numbers (parts_of rule)
+  pub written : take n new ≡ placed_of rule
 
 -- or some name means nothing
-abbrev pub NamedAs : List ℕ → WrittenCondition → ℕ → List ℕ → Bool → Type 0
+abbrev pub NamedAs : List ℕ → WrittenCondition → ℕ → List RulePart → Bool → Type 0
 NamedAs file tree n new true = NamedAt file tree n new
 NamedAs file tree n new false = rule_in (columns_of file) outermost tree ≡ none
 
 -- and so it is for whatever condition the notes are of
-abbrev pub NamedTo : (file notes : List ℕ) (n : ℕ) → List ℕ → Bool → Type 0
+abbrev pub NamedTo : (file : List ℕ) (notes : List Note) (n : ℕ) → List RulePart → Bool → Type 0
 NamedTo file notes n new r = (q : Nameable file notes n) → NamedAs file q.tree n new r

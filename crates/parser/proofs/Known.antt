@@ -1,10 +1,11 @@
 -- What is known of a text that was read, for whoever goes on with its rule.
 use mathlib.Core.Path.{◌≡◌, sym, ap, subst, ◌∙◌}
-use mathlib.Core.List.{List}
+use mathlib.Core.List.{List, map}
 use mathlib.Core.Option.{some}
-use Prim.Native.Nat.{ℕ, ◌*◌, ◌≤◌}
+use Prim.Native.Nat.{ℕ, ◌≤◌}
 use native.Mathlib.Omega.{arith}
-use lib.ListN.{take}
+use lib.ListN.{get_or, take}
+use Rattle.std.proofs.lemmas.List.{get_or-take}
 use Rattle.tables.specs.Tables.{columns_of}
 use Rattle.tables.specs.Values.{most_entries, judged_levels}
 use Rattle.tables.specs.Refusals.{first_applying}
@@ -15,16 +16,17 @@ use Rattle.cells.proofs.Cells.{sized_is}
 use Rattle.cells.proofs.Valid.{refused_some}
 use Rattle.rule.specs.Condition.{Rule, parts, froms_deep}
 use Rattle.rule.specs.Names.{most_parts, Fits}
-use Rattle.rule.specs.Parts.{parts_of}
 use Rattle.rule.specs.Sum.{entry_sum}
 use Rattle.rule.specs.Calls.{rule_of, reading_refusals, Accepted}
-use Rattle.rule.proofs.Parts.{parts_length}
 use Rattle.rule.proofs.Accepted.{accepted_named, parts_claim}
-use Rattle.names.specs.Code.{part_size, parts_numbers}
+use Rattle.rule.specs.Parts.{parts_of}
+use Rattle.names.specs.Code.{placed_of, published}
+use Rattle.names.proofs.Published.{published_from, placed_length}
+use Rattle.parts.specs.Parts.{parts_in, SmallPart, SmallParts}
+use Rattle.parser.proofs.Small.{each_at, rule_small, few_columns}
+use Rattle.names.specs.declared.RulePart.{RulePart}
 use Rattle.parser.specs.Code.{parsed_answer, refusal_in, parse_call, Parsing, ParsedTo}
-use Rattle.parts.specs.Parts.{parts_in, SmallParts}
 use Rattle.parser.specs.declared.Parsed.{Parsed}
-use Rattle.parts.proofs.Small.{rule_small, few_tables, few_columns, written_parts}
 
 -- the rule of an accepted text
 pub record Known (file : List ℕ) (rule : Rule) : Type 0 where
@@ -57,16 +59,16 @@ module _ (text file : List ℕ) (r : Parsed) where
   unfolding parse_call
   parse_refused x y p e u = rw (u ∙ ap refusal_in e) (refused_some _ (first_applying (reading_refusals text file)) (sym (ap parsed_answer e) ∙ p))
 
-  pub parse_given : (new : List ℕ) (n m : ℕ) → ParsedTo text file new r → r ≡ Parsed.Rule n m → Parsing text file new n m
+  pub parse_given : (new : List RulePart) (n m : ℕ) → ParsedTo text file new r → r ≡ Parsed.Rule n m → Parsing text file new n m
   parse_given new n m told e = rw e at told
 
 -- a rule that it gave, with its n parts at the front of an array and the m entries of its card
-pub record Read (text file new : List ℕ) (n m : ℕ) : Type 0 where
+pub record Read (text file : List ℕ) (new : List RulePart) (n m : ℕ) : Type 0 where
   pub accepted : Accepted text file
   pub rule : Rule
   pub is_rule : rule_of text (columns_of file) ≡ some rule
   pub count : n ≡ parts rule
-  pub written : take (part_size * parts rule) new ≡ parts_numbers (parts_of rule)
+  pub written : take (parts rule) new ≡ placed_of rule
   pub sum : m ≡ entry_sum rule
   pub sized : Sized file
   pub fits : Fits (columns_of file) judged_levels rule
@@ -74,7 +76,7 @@ pub record Read (text file new : List ℕ) (n m : ℕ) : Type 0 where
   pub few_froms : froms_deep rule ≤ 3
   pub few_entries : m ≤ most_entries
 
-pub rule_read : (text file new : List ℕ) {r : Parsed} {n m : ℕ} → r ≡ Parsed.Rule n m → ParsedTo text file new r → Read text file new n m
+pub rule_read : (text file : List ℕ) (new : List RulePart) {r : Parsed} {n m : ℕ} → r ≡ Parsed.Rule n m → ParsedTo text file new r → Read text file new n m
 rule_read text file new {r} {n} {m} e told =
     let q = parse_given text file r new n m told e in
     let k = known text file q.rule q.accepted q.is_rule in
@@ -85,7 +87,7 @@ rule_read text file new {r} {n} {m} e told =
       rule = q.rule;
       is_rule = q.is_rule;
       count = q.count;
-      written = sym (ap (λ (k : ℕ). take (part_size * k) new) q.count) ∙ q.written;
+      written = sym (ap (λ (k : ℕ). take k new) q.count) ∙ q.written;
       sum = q.sum;
       sized = k.sized;
       fits = k.fits;
@@ -94,9 +96,12 @@ rule_read text file new {r} {n} {m} e told =
       few_entries = omega (arith, q.sum);
     }
 
--- the parts of a rule that fits its tables, as READ and CARD want them
-pub rule_parts : (file p : List ℕ) (rule : Rule) → Sized file → parts rule ≤ most_parts → froms_deep rule ≤ 3 → Fits (columns_of file) judged_levels rule
-    → take (part_size * parts rule) p ≡ parts_numbers (parts_of rule) → SmallParts p (parts rule) × (parts_in p (parts rule) ≡ parts_of rule)
-rule_parts file p rule sized few deep fits written =
-    let each = rule_small (columns_of file) (few_tables file sized) (few_columns file sized) rule 0 judged_levels (omega arith) (omega arith) fits in
-    written_parts p (parts_of rule) (parts rule) (sym (parts_length rule 0)) each written
+-- the parts of a rule that fits its tables, as READ publishes them
+pub rule_parts : (file : List ℕ) (p : List RulePart) (rule : Rule) → Sized file → parts rule ≤ most_parts → Fits (columns_of file) judged_levels rule
+    → take (parts rule) p ≡ placed_of rule → SmallParts p (parts rule) × (parts_in p (parts rule) ≡ parts_of rule)
+rule_parts file p rule sized few fits written = (
+  λ i h d.
+      let each = each_at (placed_of rule) (rule_small (columns_of file) (few_columns file sized) rule 0 judged_levels (omega arith) fits) in
+      subst SmallPart (ap (λ (l : List RulePart). get_or l i d) (sym written) ∙ get_or-take (parts rule) p i d h) (each i (omega (arith, placed_length 0 rule)) d),
+  ap (map published) written ∙ published_from 0 rule,
+)

@@ -1,5 +1,5 @@
 -- What the functions of src/ promise one another and their callers. The contract of a public call cites nothing of this file.
-use Rattle.std.specs.Prelude.{◌≡◌, true, List, ℕ, ◌*◌, ◌≤◌, pos, length, take}
+use Rattle.std.specs.Prelude.{◌≡◌, true, List, ℕ, ◌≤◌, pos, length, take}
 use Rattle.std.proofs.Math.Option.{none, some}
 use Rattle.tables.specs.Tables.{columns_of}
 use Rattle.tables.specs.Values.{most_entries}
@@ -10,24 +10,15 @@ use Rattle.cells.specs.declared.Reason.TheVariants.{Short}
 use Rattle.cells.specs.Code.{Sized}
 use Rattle.rule.specs.Tokens.{opens_fit}
 use Rattle.rule.specs.Condition.{WrittenCondition, Rule, parts}
+use Rattle.rule.specs.Grammar.{Tokens}
 use Rattle.rule.specs.Reader.{read_all}
 use Rattle.rule.specs.Names.{limits_fit, outermost, rule_in}
-use Rattle.rule.specs.Parts.{parts_of}
 use Rattle.rule.specs.Sum.{entry_sum}
 use Rattle.rule.specs.Calls.{most_bytes, tokens_refusals, rule_of, reading_refusals, Accepted, with_rule}
-use Rattle.lexer.specs.Code.{tokens_in}
-use Rattle.grammar.specs.Code.{note_size}
-use Rattle.names.specs.Code.{part_size, parts_numbers}
+use Rattle.names.specs.Code.{placed_of}
+use Rattle.names.specs.declared.RulePart.{RulePart}
 use Rattle.parser.specs.declared.Parsed.{Parsed}
 use Rattle.parser.specs.declared.Parsed.TheVariants.{Rule as ParsedRule, Refused as ParsedRefused}
-
--- ---- the room for the notes of a rule of few parts
-
-abbrev pub few_parts : ℕ
-few_parts = 16
-
-abbrev pub few_notes : ℕ
-few_notes = note_size * few_parts
 
 -- ---- reading step by step
 
@@ -38,21 +29,21 @@ pub record TextReady (text file : List ℕ) : Type 0 where
   pub tables_pass : first_applying (tables_refusals file) ≡ none
 
 -- the rule of some tokens, its n parts at the front of an array, and m, how many entries its card has
-pub record TokensParsing (s file new : List ℕ) (n m : ℕ) : Type 0 where
-  pub brackets : opens_fit (pos 0) (tokens_in s) ≡ true
+pub record TokensParsing (s : Tokens) (file : List ℕ) (new : List RulePart) (n m : ℕ) : Type 0 where
+  pub brackets : opens_fit (pos 0) s ≡ true
   pub tree : WrittenCondition
-  pub reads : read_all (tokens_in s) ≡ some tree
+  pub reads : read_all s ≡ some tree
   pub limits : limits_fit tree ≡ true
   pub rule : Rule
   pub named : rule_in (columns_of file) outermost tree ≡ some rule
   pub count : n ≡ parts rule
-  pub written : take (part_size * n) new ≡ parts_numbers (parts_of rule)
+  pub written : take n new ≡ placed_of rule
   pub sum : m ≡ entry_sum rule
   pub few_entries : entry_sum rule ≤ most_entries
 
-abbrev pub TokensParsedTo : (s file new : List ℕ) → Parsed → Type 0
+abbrev pub TokensParsedTo : (s : Tokens) (file : List ℕ) (new : List RulePart) → Parsed → Type 0
 TokensParsedTo s file new (ParsedRule n m) = TokensParsing s file new n m
-TokensParsedTo s file new (ParsedRefused x) = first_applying (tokens_refusals (columns_of file) (some (tokens_in s))) ≡ some (reason_number x)
+TokensParsedTo s file new (ParsedRefused x) = first_applying (tokens_refusals (columns_of file) (some s)) ≡ some (reason_number x)
 
 -- ---- reading as a whole
 
@@ -70,14 +61,14 @@ unfoldable pub parse_call : List ℕ → List ℕ → Answer ℕ
 parse_call text file = unless (first_applying (reading_refusals text file)) (λ _. with_rule (rule_of text (columns_of file)) 0 parts)
 
 -- the rule of a text, its n parts at the front of an array, and m, how many entries its card has
-pub record Parsing (text file new : List ℕ) (n m : ℕ) : Type 0 where
+pub record Parsing (text file : List ℕ) (new : List RulePart) (n m : ℕ) : Type 0 where
   pub accepted : Accepted text file
   pub rule : Rule
   pub is_rule : rule_of text (columns_of file) ≡ some rule
   pub count : n ≡ parts rule
-  pub written : take (part_size * n) new ≡ parts_numbers (parts_of rule)
+  pub written : take n new ≡ placed_of rule
   pub sum : m ≡ entry_sum rule
 
-abbrev pub ParsedTo : (text file new : List ℕ) → Parsed → Type 0
+abbrev pub ParsedTo : (text file : List ℕ) (new : List RulePart) → Parsed → Type 0
 ParsedTo text file new (ParsedRule n m) = Parsing text file new n m
 ParsedTo text file new (ParsedRefused x) = Unit {0}

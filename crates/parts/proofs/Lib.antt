@@ -1,4 +1,2 @@
-pub mod Arms
 pub mod Parts
-pub mod Small
 pub mod Counting

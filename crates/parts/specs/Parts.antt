@@ -1,65 +1,48 @@
--- The parts of a rule in an array, as `parse` leaves them, `part_size` numbers for each: for READ, JUDGE and CARD. The contract of a public
--- call cites nothing of this file.
-use Rattle.std.specs.Prelude.{◌≡◌, cond, List, [], ◌∷◌, ◌++◌, ℕ, zero, suc, ◌+◌, ◌*◌, ◌<◌, eqb, ℤ, pos, get_or}
-use Rattle.tables.specs.Values.{constant_tag}
-use Rattle.cells.specs.Code.{from_excess}
-use Rattle.values.specs.Code.{held_at, FitsBytes}
-use Rattle.values.specs.declared.HeldValue.{HeldValue}
+-- The parts of a rule in an array, as `parse` leaves them: for READ, JUDGE and CARD. The contract of a public call cites nothing of this file.
+use Rattle.std.specs.Prelude.{◌≡◌, List, map, ℕ, ◌+◌, ◌<◌, get_or, take}
+use Rattle.tables.specs.declared.Value.{Value}
+use Rattle.tables.specs.declared.Value.TheVariants.{Constant, Column}
 use Rattle.rule.specs.Condition.{Atom, Join, Apply, Exists, Listed, Rule, parts}
-use Rattle.rule.specs.Parts.{AtomHead, JoinHead, UnaryHead, ExistsHead, ListedHead, part_of}
-use Rattle.rule.specs.declared.TaggedValue.{TaggedValue}
+use Rattle.rule.specs.Parts.{Head}
+use Rattle.rule.specs.Throughout.{TestThroughout}
+use Rattle.rule.specs.declared.Head.TheVariants.{AtomHead, JoinHead, UnaryHead, ExistsHead, ListedHead}
 use Rattle.rule.specs.declared.Part.{Part}
-use Rattle.names.specs.Code.{part_size, part_comparison, part_table, part_end, part_left, part_right, part_numbers}
+use Rattle.names.specs.Code.{rule_part, published}
+use Rattle.names.specs.declared.RulePart.{RulePart}
 
--- part s is this one
-pub record PartAt (p : List ℕ) (s : ℕ) (x : Part) : Type 0 where
-  pub field : (k : ℕ) → k < part_size → get_or p (part_size * s + k) 0 ≡ get_or (part_numbers x) k 0
+-- part s is this one, whatever is taken where there is none
+abbrev pub PartAt : List RulePart → ℕ → RulePart → Type 0
+PartAt p s x = (d : RulePart) → get_or p s d ≡ x
 
 -- the parts from number s on are those of a rule
-unfoldable pub Stands : List ℕ → ℕ → Rule → Type 0
-Stands p s (Atom x) = PartAt p s (part_of (s + 1) (AtomHead x))
-Stands p s (Join j a b) = PartAt p s (part_of (s + (1 + parts a + parts b)) (JoinHead j)) × Stands p (s + 1) a × Stands p (s + 1 + parts a) b
-Stands p s (Apply u a) = PartAt p s (part_of (s + (1 + parts a)) (UnaryHead u)) × Stands p (s + 1) a
-Stands p s (Exists f w) = PartAt p s (part_of (s + (1 + parts w)) (ExistsHead f)) × Stands p (s + 1) w
-Stands p s (Listed q op l r f w) = PartAt p s (part_of (s + (1 + parts w)) (ListedHead q op l r f)) × Stands p (s + 1) w
+unfoldable pub Stands : List RulePart → ℕ → Rule → Type 0
+Stands p s (Atom x) = PartAt p s (rule_part (s + 1) (AtomHead x))
+Stands p s (Join j a b) = PartAt p s (rule_part (s + (1 + parts a + parts b)) (JoinHead j)) × Stands p (s + 1) a × Stands p (s + 1 + parts a) b
+Stands p s (Apply u a) = PartAt p s (rule_part (s + (1 + parts a)) (UnaryHead u)) × Stands p (s + 1) a
+Stands p s (Exists f w) = PartAt p s (rule_part (s + (1 + parts w)) (ExistsHead f)) × Stands p (s + 1) w
+Stands p s (Listed q op l r f w) = PartAt p s (rule_part (s + (1 + parts w)) (ListedHead q op l r f)) × Stands p (s + 1) w
 
 -- ---- as they are published
 
--- a value, from how it is held: its number is a constant less 2 ^ 31, or a column
-abbrev pub signed_of : HeldValue → ℤ
-signed_of v = cond (eqb v.tag constant_tag) (from_excess v.number) (pos v.number)
+-- the first n
+abbrev pub parts_in : List RulePart → ℕ → List Part
+parts_in l n = map published (take n l)
 
-abbrev pub tagged_from : HeldValue → TaggedValue
-tagged_from v = record { tag = v.tag; number = signed_of v }
+-- a value that can be published: a column has a byte
+abbrev pub SmallValue : Value → Type 0
+SmallValue (Constant k) = Unit {0}
+SmallValue (Column l c) = c < 256
 
--- the part that stands at number i, and the first n
-abbrev pub part_in : List ℕ → ℕ → Part
-part_in l i = record {
-  kind = get_or l (part_size * i) 0;
-  comparison = get_or l (part_size * i + part_comparison) 0;
-  table = get_or l (part_size * i + part_table) 0;
-  end = get_or l (part_size * i + part_end) 0;
-  left = tagged_from (held_at l (part_size * i + part_left));
-  right = tagged_from (held_at l (part_size * i + part_right));
-}
+abbrev pub SmallHead : Head → Type 0
+SmallHead (AtomHead x) = TestThroughout SmallValue x
+SmallHead (JoinHead j) = Unit {0}
+SmallHead (UnaryHead u) = Unit {0}
+SmallHead (ExistsHead f) = Unit {0}
+SmallHead (ListedHead q op l s f) = SmallValue l × SmallValue s
 
-unfoldable pub parts_in : List ℕ → ℕ → List Part
-parts_in l zero = []
-parts_in l (suc n) = parts_in l n ++ (part_in l n ∷ [])
+-- and a part: its end has a byte too
+abbrev pub SmallPart : RulePart → Type 0
+SmallPart p = (p.end < 256) × SmallHead p.head
 
--- a value that can be published: its tag has a byte, its number 32 bits, and a byte where it is a column
-pub record Publishable (v : HeldValue) : Type 0 where
-  pub bytes : FitsBytes v
-  pub column : (v.tag ≡ constant_tag → ⊥) → v.number < 256
-
--- its fields have a byte each, but for the numbers of its values
-pub record SmallPart (l : List ℕ) (i : ℕ) : Type 0 where
-  pub kind : get_or l (part_size * i) 0 < 256
-  pub comparison : get_or l (part_size * i + part_comparison) 0 < 256
-  pub table : get_or l (part_size * i + part_table) 0 < 256
-  pub end : get_or l (part_size * i + part_end) 0 < 256
-  pub left : Publishable (held_at l (part_size * i + part_left))
-  pub right : Publishable (held_at l (part_size * i + part_right))
-
-abbrev pub SmallParts : List ℕ → ℕ → Type 0
-SmallParts l n = (i : ℕ) → i < n → SmallPart l i
+abbrev pub SmallParts : List RulePart → ℕ → Type 0
+SmallParts l n = (i : ℕ) → i < n → (d : RulePart) → SmallPart (get_or l i d)

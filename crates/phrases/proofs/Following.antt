@@ -1,343 +1,207 @@
--- What start_value finds behind a value, and start at a test, by the numbers that stand there.
-use mathlib.Core.Path.{◌≡◌, refl, subst}
-use mathlib.Core.List.{List, ◌∷◌, ◌++◌}
-use mathlib.Core.Option.{Option, none, some}
-use Prim.Native.Nat.{ℕ, ◌+◌, ◌-◌, ◌<◌, ◌≤◌}
+-- What start_value finds behind a value, and start at a test, by the tokens that stand there.
+use mathlib.Core.Path.{◌≡◌, refl}
+use mathlib.Core.List.{[]}
+use mathlib.Core.Option.{Option as MathOption, none, some}
+use Rattle.std.specs.Prelude.{Option, Some as Found, None}
+use Prim.Native.Nat.{ℕ, ◌+◌, ◌≤◌}
 use native.Mathlib.Omega.{arith}
-use lib.ListN.{get_or}
-use Rattle.tables.specs.Lists.{◌>>=◌, ◌<|>◌}
-use Rattle.tables.specs.Values.{Comparison, Eq, Ne, comparison_number, comparison_of, Quantifier, Some, All, MarkTest, Null, NotNull, IsDeclined, NotDeclined}
-use Rattle.tables.proofs.Values.{comparison_number_lem}
-use Rattle.cells.proofs.Signed.{to_from}
-use Rattle.rule.specs.Tokens.{Token, NOT, EXISTS, IN, SOME, ALL, IS, NULL, DECLINED, Open}
-use Rattle.rule.specs.Condition.{Compare, Mark, Atom, WrittenValue, parts, froms_deep}
-use Rattle.rule.specs.Parts.{compare_kind, mark_kind, exists_kind, list_kind}
-use Rattle.rule.specs.Reader.{expect, read_value, read_from, Bracket, Start, Whole, Around, OfExists, start_list, start_value, start}
-use Rattle.lexer.specs.Code.{compares_code, letter_code, code_of}
-use Rattle.phrases.specs.Code.{tokens_from, noted_numbers, written_of, unused_noted, from_of, note_numbers, left_numbers, noted, Moved, ValueIs, FromIs, WholeIs, AroundIs, Starts, ListAt, compared_with, ComparisonAt, FollowedAt, IsComparison, ListBehind, ValueBehind, BehindAt, TestAt}
-use Rattle.phrases.specs.declared.NotedValue.{NotedValue}
-use Rattle.phrases.specs.declared.Note.{Note}
+use Rattle.tables.specs.declared.Comparison.{Comparison}
+use Rattle.tables.specs.declared.Comparison.TheVariants.{Eq, Ne}
+use Rattle.tables.specs.declared.Quantifier.TheVariants.{Some, All}
+use Rattle.tables.specs.declared.MarkTest.{MarkTest}
+use Rattle.tables.specs.declared.MarkTest.TheVariants.{Null, NotNull, IsDeclined, NotDeclined}
+use Rattle.rule.specs.Tokens.{NOT, EXISTS, IN, SOME, ALL, IS, NULL, DECLINED, Open}
+use Rattle.rule.specs.declared.Token.{Token}
+use Rattle.rule.specs.declared.Token.TheVariants.{Fixed, Compares, Letter, Number}
+use Rattle.rule.specs.declared.Word.{Word}
+use Rattle.rule.specs.declared.Word.TheVariants.{Not as NotWord, In as InWord, Null as NullWord, Declined as DeclinedWord}
+use Rattle.rule.specs.Condition.{Atom, parts, froms_deep}
+use Rattle.rule.specs.declared.FromClause.{FromClause}
+use Rattle.rule.specs.declared.Head.TheVariants.{AtomHead, ExistsHead}
+use Rattle.rule.specs.declared.Source.{Source}
+use Rattle.rule.specs.declared.Test.TheVariants.{Compare, Mark}
+use Rattle.rule.specs.declared.WrittenValue.{WrittenValue}
+use Rattle.rule.specs.Grammar.{Tokens}
+use Rattle.rule.specs.Reader.{expect, read_comparison, read_value, read_from, Bracket, Start, Whole, Around, OfExists, start_value, start}
+use Rattle.phrases.specs.Code.{tokens_from, noted, Moved, Stands, ValueIs, FromIs, WholeIs, AroundIs, Starts, started_whole, compared_with, FollowedAt, ListBehind, ValueBehind, TestAt}
 use Rattle.phrases.specs.declared.Start.{Start as Started}
-use Rattle.phrases.specs.declared.Start.TheVariants.{Whole as StartedWhole, Around as StartedAround, NoTest}
-use Rattle.phrases.specs.declared.Behind.{Behind}
-use Rattle.phrases.specs.declared.Behind.TheVariants.{List as BehindList, Value as BehindValue, Nothing}
-use Rattle.phrases.proofs.Tokens.{expect_to, expect_no, comparison_to, comparison_no}
-use Rattle.phrases.proofs.Runs.{moved, no_value}
-use Rattle.phrases.proofs.Begun.{value_noted}
+use Rattle.phrases.specs.declared.Start.TheVariants.{Whole as StartedWhole, Around as StartedAround}
+use Rattle.phrases.proofs.Tokens.{here_to, moved_to, or_none, expect_other}
+use Rattle.phrases.proofs.Begun.{one_letter}
 
 -- ---- a start that is found farther on is the start here
 
-pub earlier : {s : List ℕ} {at later next : ℕ} → at ≤ later → Moved s later next → Moved s at next
+pub earlier : {s : Tokens} {at later next : ℕ} → at ≤ later → Moved s later next → Moved s at next
 earlier p m = record { later = omega (arith, m.later); within = m.within }
 
-pub starts_as : (s : List ℕ) (at later : ℕ) (found begun : Option Start) (r : Started) → at ≤ later → begun ≡ found → Starts s later found r → Starts s at begun r
-starts_as s at later found begun (StartedWhole note next) p e h =
+pub starts_as : (s : Tokens) (at later : ℕ) (found begun : MathOption Start) (r : Option Started) → at ≤ later → begun ≡ found → Starts s later found r → Starts s at begun r
+starts_as s at later found begun (Found (StartedWhole note next)) p e h =
     record { whole = h.whole; found = rw (e) h.found; notes = h.notes; one = h.one; flat = h.flat; moved = earlier p h.moved }
-starts_as s at later found begun (StartedAround note next) p e h =
+starts_as s at later found begun (Found (StartedAround note next)) p e h =
     record { opening = h.opening; found = rw (e) h.found; notes = h.notes; one = h.one; deeper = h.deeper; untested = h.untested; moved = earlier p h.moved }
-starts_as s at later found begun NoTest p e h = rw (e) h
+starts_as s at later found begun None p e h = rw (e) h
 
--- alternatives behind one that are none
-pub or_none : {A : Type 0} (o : Option A) → (o <|> none) ≡ o
-or_none none = refl
-or_none (some x) = refl
+-- ---- behind a value: a test by the mark
 
--- ---- behind a value
-
--- the word before a list
-abbrev list_word : Quantifier → Token
-list_word Some = SOME
-list_word All = ALL
-
-word_positive : (q : Quantifier) → 0 < code_of (list_word q)
-word_positive Some = omega arith
-word_positive All = omega arith
-
-module _ (l : WrittenValue) (s : List ℕ) (at : ℕ) where
-  -- IS NULL, IS DECLINED, IS NOT NULL, IS NOT DECLINED
-  module _ (is : get_or s at 0 ≡ code_of IS) where
-    behind_is :
-        start_value l (tokens_from s at)
-        ≡ ((expect NULL (tokens_from s (at + 1)) >>= (λ rest. some (Whole (Atom (Mark Null l)) rest)))
-        <|> (expect NOT (tokens_from s (at + 1)) >>= (λ vs. expect NULL vs >>= (λ rest. some (Whole (Atom (Mark NotNull l)) rest))))
-        <|> (expect DECLINED (tokens_from s (at + 1)) >>= (λ rest. some (Whole (Atom (Mark IsDeclined l)) rest)))
-        <|> (expect NOT (tokens_from s (at + 1)) >>= (λ vs. expect DECLINED vs >>= (λ rest. some (Whole (Atom (Mark NotDeclined l)) rest)))))
-    unfolding start_value
-    behind_is =
-        rw (
-          expect_to s at (code_of IS) (at + 1) tt refl is,
-          comparison_no s at (λ a b. omega arith),
-          expect_no s at (code_of IN) (λ e. omega arith),
-          expect_no s at (code_of NOT) (λ e. omega arith),
-        )
-        (simp or_none)
-
-    pub null_found : get_or s (at + 1) 0 ≡ code_of NULL → start_value l (tokens_from s at) ≡ some (Whole (Atom (Mark Null l)) (tokens_from s (at + 2)))
-    null_found u = rw (behind_is, expect_to s (at + 1) (code_of NULL) (at + 2) tt (omega arith) u)
-
-    pub declined_found : get_or s (at + 1) 0 ≡ code_of DECLINED → start_value l (tokens_from s at) ≡ some (Whole (Atom (Mark IsDeclined l)) (tokens_from s (at + 2)))
-    declined_found u =
-        rw (
-          behind_is,
-          expect_no s (at + 1) (code_of NULL) (λ e. omega arith),
-          expect_no s (at + 1) (code_of NOT) (λ e. omega arith),
-          expect_to s (at + 1) (code_of DECLINED) (at + 2) tt (omega arith) u,
-        )
-
-    pub no_mark : (get_or s (at + 1) 0 ≡ code_of NULL → ⊥) → (get_or s (at + 1) 0 ≡ code_of DECLINED → ⊥) → (get_or s (at + 1) 0 ≡ code_of NOT → ⊥)
-        → start_value l (tokens_from s at) ≡ none
-    no_mark f g h = rw (behind_is, expect_no s (at + 1) (code_of NULL) f, expect_no s (at + 1) (code_of DECLINED) g, expect_no s (at + 1) (code_of NOT) h)
-
-    module _ (u : get_or s (at + 1) 0 ≡ code_of NOT) where
-      behind_not_is :
-          start_value l (tokens_from s at)
-          ≡ ((expect NULL (tokens_from s (at + 2)) >>= (λ rest. some (Whole (Atom (Mark NotNull l)) rest)))
-          <|> (expect DECLINED (tokens_from s (at + 2)) >>= (λ rest. some (Whole (Atom (Mark NotDeclined l)) rest))))
-      behind_not_is =
-          rw (
-            behind_is,
-            expect_no s (at + 1) (code_of NULL) (λ e. omega arith),
-            expect_no s (at + 1) (code_of DECLINED) (λ e. omega arith),
-            expect_to s (at + 1) (code_of NOT) (at + 2) tt (omega arith) u,
-          )
-          (simp or_none)
-
-      pub no_not_mark : (get_or s (at + 2) 0 ≡ code_of NULL → ⊥) → (get_or s (at + 2) 0 ≡ code_of DECLINED → ⊥) → start_value l (tokens_from s at) ≡ none
-      no_not_mark f g = rw (behind_not_is, expect_no s (at + 2) (code_of NULL) f, expect_no s (at + 2) (code_of DECLINED) g)
-
-      pub not_null_found : get_or s (at + 2) 0 ≡ code_of NULL → start_value l (tokens_from s at) ≡ some (Whole (Atom (Mark NotNull l)) (tokens_from s (at + 3)))
-      not_null_found w = rw (behind_not_is, expect_to s (at + 2) (code_of NULL) (at + 3) tt (omega arith) w)
-
-      pub not_declined_found : get_or s (at + 2) 0 ≡ code_of DECLINED → start_value l (tokens_from s at) ≡ some (Whole (Atom (Mark NotDeclined l)) (tokens_from s (at + 3)))
-      not_declined_found w =
-          rw (behind_not_is, expect_no s (at + 2) (code_of NULL) (λ e. omega arith), expect_to s (at + 2) (code_of DECLINED) (at + 3) tt (omega arith) w)
-
-  -- a comparison
-  module _ (low : compares_code < get_or s at 0) (high : get_or s at 0 < letter_code) where
-    abbrev op : Comparison
-    op = comparison_of (get_or s at 0 - compares_code)
-
-    behind_comparison :
-        start_value l (tokens_from s at)
-        ≡ ((read_value (tokens_from s (at + 1)) >>= (λ r. some (Whole (Atom (Compare op l r.0)) r.1)))
-        <|> (expect SOME (tokens_from s (at + 1)) >>= (λ us. start_list Some op l us))
-        <|> (expect ALL (tokens_from s (at + 1)) >>= (λ us. start_list All op l us)))
-    unfolding start_value
-    behind_comparison =
-        rw (
-          expect_no s at (code_of IS) (λ e. omega arith),
-          comparison_to s at (at + 1) refl low high,
-          expect_no s at (code_of IN) (λ e. omega arith),
-          expect_no s at (code_of NOT) (λ e. omega arith),
-        )
-        (simp or_none)
-
-    pub listed_found : (q : Quantifier) → get_or s (at + 1) 0 ≡ code_of (list_word q) → start_value l (tokens_from s at) ≡ start_list q op l (tokens_from s (at + 2))
-    listed_found Some u =
-        rw (
-          behind_comparison,
-          no_value s (at + 1) (get_or s (at + 1) 0) refl (omega arith),
-          expect_to s (at + 1) (code_of SOME) (at + 2) tt (omega arith) u,
-          expect_no s (at + 1) (code_of ALL) (λ e. omega arith),
-        )
-        (simp or_none)
-    listed_found All u =
-        rw (
-          behind_comparison,
-          no_value s (at + 1) (get_or s (at + 1) 0) refl (omega arith),
-          expect_no s (at + 1) (code_of SOME) (λ e. omega arith),
-          expect_to s (at + 1) (code_of ALL) (at + 2) tt (omega arith) u,
-        )
-
-    pub compared_found : (get_or s (at + 1) 0 ≡ code_of SOME → ⊥) → (get_or s (at + 1) 0 ≡ code_of ALL → ⊥) → start_value l (tokens_from s at) ≡ compared_with op l (tokens_from s (at + 1))
-    compared_found f g = rw (behind_comparison, expect_no s (at + 1) (code_of SOME) f, expect_no s (at + 1) (code_of ALL) g) (simp or_none)
-
-  -- IN, NOT IN, and nothing of all
-  pub in_found : get_or s at 0 ≡ code_of IN → start_value l (tokens_from s at) ≡ start_list Some Eq l (tokens_from s (at + 1))
-  unfolding start_value
-  in_found is =
-      rw (
-        expect_no s at (code_of IS) (λ e. omega arith),
-        comparison_no s at (λ a b. omega arith),
-        expect_to s at (code_of IN) (at + 1) tt refl is,
-        expect_no s at (code_of NOT) (λ e. omega arith),
-      )
-      (simp or_none)
-
-  module _ (is : get_or s at 0 ≡ code_of NOT) where
-    behind_not : start_value l (tokens_from s at) ≡ (expect IN (tokens_from s (at + 1)) >>= (λ vs. start_list All Ne l vs))
-    unfolding start_value
-    behind_not =
-        rw (
-          expect_no s at (code_of IS) (λ e. omega arith),
-          comparison_no s at (λ a b. omega arith),
-          expect_no s at (code_of IN) (λ e. omega arith),
-          expect_to s at (code_of NOT) (at + 1) tt refl is,
-        )
-
-    pub no_in : (get_or s (at + 1) 0 ≡ code_of IN → ⊥) → start_value l (tokens_from s at) ≡ none
-    no_in f = rw (behind_not, expect_no s (at + 1) (code_of IN) f)
-
-    pub not_in_found : get_or s (at + 1) 0 ≡ code_of IN → start_value l (tokens_from s at) ≡ start_list All Ne l (tokens_from s (at + 2))
-    not_in_found u = rw (behind_not, expect_to s (at + 1) (code_of IN) (at + 2) tt (omega arith) u)
-
-  pub nothing_behind :
-      (get_or s at 0 ≡ code_of IS → ⊥) → (get_or s at 0 ≡ code_of IN → ⊥) → (get_or s at 0 ≡ code_of NOT → ⊥) → (compares_code < get_or s at 0 → get_or s at 0 < letter_code → ⊥)
-      → start_value l (tokens_from s at) ≡ none
-  unfolding start_value
-  nothing_behind f g h k = rw (expect_no s at (code_of IS) f, comparison_no s at k, expect_no s at (code_of IN) g, expect_no s at (code_of NOT) h)
-
--- the same, as what the functions answer: l is the value
-module _ (l : NotedValue) (s : List ℕ) (at : ℕ) where
-  -- a test by the mark, up to the place behind it
-  a_mark : (m : MarkTest) (note : Note) (next : ℕ) → start_value (written_of l) (tokens_from s at) ≡ some (Whole (Atom (Mark m (written_of l))) (tokens_from s next))
-      → note_numbers note ≡ left_numbers (mark_kind m) l → Moved s at next → WholeIs s at (start_value (written_of l) (tokens_from s at)) note next
+module _ (l : WrittenValue) (s : Tokens) (at : ℕ) where
+  a_mark : (m : MarkTest) (r : Started) (next : ℕ) → start_value l (tokens_from s at) ≡ some (Whole (Atom (Mark m l)) (tokens_from s next))
+      → r ≡ started_whole (Mark m l) next → Moved s at next → FollowedAt s at l (Found r)
   unfolding noted parts froms_deep
-  a_mark m note next found e h =
-      record { whole = Atom (Mark m (written_of l)); found = found; notes = rw (e, value_noted l); one = refl; flat = refl; moved = h }
+  a_mark m r next found e d = rw (e) (record { whole = Atom (Mark m l); found = found; notes = refl; one = refl; flat = refl; moved = d })
 
-  module _ (is : get_or s at 0 ≡ code_of IS) (note : Note) where
-    pub a_null : get_or s (at + 1) 0 ≡ code_of NULL → note_numbers note ≡ left_numbers (mark_kind Null) l → WholeIs s at (start_value (written_of l) (tokens_from s at)) note (at + 2)
-    a_null u e = a_mark Null note (at + 2) (null_found (written_of l) s at is u) e (moved s at (at + 1) (at + 2) (omega arith) (omega arith) (omega arith))
+  module _ (is : Stands s at IS) where
+    no_mark_by : expect NULL (tokens_from s (at + 1)) ≡ none → expect NOT (tokens_from s (at + 1)) ≡ none → expect DECLINED (tokens_from s (at + 1)) ≡ none
+        → start_value l (tokens_from s at) ≡ none
+    unfolding start_value expect read_comparison
+    no_mark_by d e f = rw (is.here, d, e, f)
 
-    pub a_declined :
-        get_or s (at + 1) 0 ≡ code_of DECLINED → note_numbers note ≡ left_numbers (mark_kind IsDeclined) l → WholeIs s at (start_value (written_of l) (tokens_from s at)) note (at + 2)
-    a_declined u e =
-        a_mark IsDeclined note (at + 2) (declined_found (written_of l) s at is u) e (moved s at (at + 1) (at + 2) (omega arith) (omega arith) (omega arith))
+    pub no_mark_at_end : ((w : Word) → expect (Fixed w) (tokens_from s (at + 1)) ≡ none) → start_value l (tokens_from s at) ≡ none
+    no_mark_at_end f = no_mark_by (f NullWord) (f NotWord) (f DeclinedWord)
 
-    module _ (u : get_or s (at + 1) 0 ≡ code_of NOT) where
-      pub a_not_null : get_or s (at + 2) 0 ≡ code_of NULL → note_numbers note ≡ left_numbers (mark_kind NotNull) l → WholeIs s at (start_value (written_of l) (tokens_from s at)) note (at + 3)
-      a_not_null w e =
-          a_mark NotNull note (at + 3) (not_null_found (written_of l) s at is u w) e (moved s at (at + 2) (at + 3) (omega arith) (omega arith) (omega arith))
+    pub no_mark : (w : Word) → Stands s (at + 1) (Fixed w) → (w ≡ NullWord → ⊥) → (w ≡ DeclinedWord → ⊥) → (w ≡ NotWord → ⊥) → start_value l (tokens_from s at) ≡ none
+    no_mark w h f g k =
+        no_mark_by (expect_other s (at + 1) NullWord w h f) (expect_other s (at + 1) NotWord w h k) (expect_other s (at + 1) DeclinedWord w h g)
 
-      pub a_not_declined :
-          get_or s (at + 2) 0 ≡ code_of DECLINED → note_numbers note ≡ left_numbers (mark_kind NotDeclined) l → WholeIs s at (start_value (written_of l) (tokens_from s at)) note (at + 3)
-      a_not_declined w e =
-          a_mark NotDeclined note (at + 3) (not_declined_found (written_of l) s at is u w) e (moved s at (at + 2) (at + 3) (omega arith) (omega arith) (omega arith))
+    pub a_null : (r : Started) → Stands s (at + 1) NULL → r ≡ started_whole (Mark Null l) (at + 2) → FollowedAt s at l (Found r)
+    unfolding start_value expect read_comparison
+    a_null r h e = a_mark Null r (at + 2) (rw (is.here, here_to (at + 2) (omega arith) h)) e (moved_to (at + 2) (omega arith) (omega arith) h)
 
-  -- a comparison with the value that stands here
-  module _ (c : ℕ) (op : IsComparison c) (r : NotedValue) (next : ℕ) (v : ValueIs s at r next) where
-    pub a_comparison : (note : Note) → note_numbers note ≡ compare_kind ∷ c ∷ 0 ∷ 0 ∷ (noted_numbers l ++ noted_numbers r)
-        → WholeIs s at (compared_with (comparison_of c) (written_of l) (tokens_from s at)) note next
-    unfolding noted parts froms_deep
-    a_comparison note e = record {
-      whole = Atom (Compare (comparison_of c) (written_of l) (written_of r));
-      found = rw v.found;
-      notes = rw (e, comparison_number_lem c op.0 op.1, value_noted l, value_noted r);
-      one = refl;
-      flat = refl;
-      moved = v.moved;
-    }
+    pub a_declined : (r : Started) → Stands s (at + 1) DECLINED → r ≡ started_whole (Mark IsDeclined l) (at + 2) → FollowedAt s at l (Found r)
+    unfolding start_value expect read_comparison
+    a_declined r h e = a_mark IsDeclined r (at + 2) (rw (is.here, here_to (at + 2) (omega arith) h)) e (moved_to (at + 2) (omega arith) (omega arith) h)
 
-  -- a list, or a value, that is found behind
-  pub a_listed : {kind c next : ℕ} → ListBehind s at kind c next → (r : Started) → ListAt s next kind c l r → FollowedAt s at l r
-  a_listed {next} b r h = starts_as s at next _ _ r (omega (arith, b.moved.later)) (b.found (written_of l)) (h b.quantifier b.kind_is)
+    module _ (no : Stands s (at + 1) NOT) where
+      no_not_mark_by : expect NULL (tokens_from s (at + 2)) ≡ none → expect DECLINED (tokens_from s (at + 2)) ≡ none → start_value l (tokens_from s at) ≡ none
+      unfolding start_value expect read_comparison
+      no_not_mark_by d e = rw (is.here, here_to (at + 2) (omega arith) no, d, e)
 
-  pub a_compared : {c next : ℕ} → ValueBehind s at c next → (r : Started) → ComparisonAt s next c l r → FollowedAt s at l r
-  a_compared {next} b r h = starts_as s at next _ _ r (omega (arith, b.moved.later)) (b.found (written_of l)) h
+      pub no_not_mark_at_end : ((w : Word) → expect (Fixed w) (tokens_from s (at + 2)) ≡ none) → start_value l (tokens_from s at) ≡ none
+      no_not_mark_at_end f = no_not_mark_by (f NullWord) (f DeclinedWord)
+
+      pub no_not_mark : (w : Word) → Stands s (at + 2) (Fixed w) → (w ≡ NullWord → ⊥) → (w ≡ DeclinedWord → ⊥) → start_value l (tokens_from s at) ≡ none
+      no_not_mark w h f g = no_not_mark_by (expect_other s (at + 2) NullWord w h f) (expect_other s (at + 2) DeclinedWord w h g)
+
+      pub a_not_null : (r : Started) → Stands s (at + 2) NULL → r ≡ started_whole (Mark NotNull l) (at + 3) → FollowedAt s at l (Found r)
+      unfolding start_value expect read_comparison
+      a_not_null r h e =
+          a_mark NotNull r (at + 3) (rw (is.here, here_to (at + 2) (omega arith) no, here_to (at + 3) (omega arith) h)) e (moved_to (at + 3) (omega arith) (omega arith) h)
+
+      pub a_not_declined : (r : Started) → Stands s (at + 2) DECLINED → r ≡ started_whole (Mark NotDeclined l) (at + 3) → FollowedAt s at l (Found r)
+      unfolding start_value expect read_comparison
+      a_not_declined r h e =
+          a_mark NotDeclined r (at + 3) (rw (is.here, here_to (at + 2) (omega arith) no, here_to (at + 3) (omega arith) h)) e (moved_to (at + 3) (omega arith) (omega arith) h)
+
+-- a comparison with the value that stands at a place
+pub a_comparison : (s : Tokens) (at : ℕ) (op : Comparison) (l r : WrittenValue) (next : ℕ) → ValueIs s at r next
+    → WholeIs s at (compared_with op l (tokens_from s at)) (AtomHead (Compare op l r)) next
+unfolding noted parts froms_deep
+a_comparison s at op l r next v = record { whole = Atom (Compare op l r); found = rw v.found; notes = refl; one = refl; flat = refl; moved = v.moved }
 
 -- ---- what stands behind any value
 
-module _ (s : List ℕ) (at : ℕ) where
-  -- what a call answered
-  pub list_is : {r : Behind} {kind c next : ℕ} → r ≡ BehindList kind c next → BehindAt s at r → ListBehind s at kind c next
-  list_is e h = subst (BehindAt s at) e h
+module _ (s : Tokens) (at : ℕ) where
+  pub an_in : Stands s at IN → ListBehind s at Some Eq (at + 1)
+  unfolding start_value expect read_comparison
+  an_in h = record { found = λ l. rw (h.here) (simp or_none); moved = moved_to (at + 1) (omega arith) refl h }
 
-  pub compared_is : {r : Behind} {c next : ℕ} → r ≡ BehindValue c next → BehindAt s at r → ValueBehind s at c next
-  compared_is e h = subst (BehindAt s at) e h
+  module _ (h : Stands s at NOT) where
+    pub no_in : expect IN (tokens_from s (at + 1)) ≡ none → (l : WrittenValue) → start_value l (tokens_from s at) ≡ none
+    unfolding start_value expect read_comparison
+    no_in e l = rw (h.here, e)
 
-  pub nothing_is : {r : Behind} → r ≡ Nothing → BehindAt s at r → (l : WrittenValue) → start_value l (tokens_from s at) ≡ none
-  nothing_is e h = subst (BehindAt s at) e h
+    pub a_not_in : Stands s (at + 1) IN → ListBehind s at All Ne (at + 2)
+    unfolding start_value expect read_comparison
+    a_not_in k = record { found = λ l. rw (h.here, here_to (at + 2) (omega arith) k); moved = moved_to (at + 2) (omega arith) (omega arith) k }
 
-  pub an_in : get_or s at 0 ≡ code_of IN → ListBehind s at (list_kind Some) (comparison_number Eq) (at + 1)
-  an_in is = record {
-    quantifier = Some;
-    kind_is = refl;
-    compares = (omega arith, omega arith);
-    found = λ l. in_found l s at is;
-    moved = moved s at at (at + 1) (omega arith) refl (omega arith);
-  }
+  module _ (op : Comparison) (h : Stands s at (Compares op)) where
+    pub a_some : Stands s (at + 1) SOME → ListBehind s at Some op (at + 2)
+    unfolding start_value expect read_comparison read_value
+    a_some k = record { found = λ l. rw (h.here, here_to (at + 2) (omega arith) k) (simp or_none); moved = moved_to (at + 2) (omega arith) (omega arith) k }
 
-  pub a_not_in : get_or s at 0 ≡ code_of NOT → get_or s (at + 1) 0 ≡ code_of IN → ListBehind s at (list_kind All) (comparison_number Ne) (at + 2)
-  a_not_in is u = record {
-    quantifier = All;
-    kind_is = refl;
-    compares = (omega arith, omega arith);
-    found = λ l. not_in_found l s at is u;
-    moved = moved s at (at + 1) (at + 2) (omega arith) (omega arith) (omega arith);
-  }
+    pub an_all : Stands s (at + 1) ALL → ListBehind s at All op (at + 2)
+    unfolding start_value expect read_comparison read_value
+    an_all k = record { found = λ l. rw (h.here, here_to (at + 2) (omega arith) k) (simp or_none); moved = moved_to (at + 2) (omega arith) (omega arith) k }
 
-  -- t is the number of a comparison
-  module _ (t : ℕ) (is : t ≡ get_or s at 0) (low : compares_code < t) (high : t < letter_code) where
-    pub a_quantified : (q : Quantifier) → get_or s (at + 1) 0 ≡ code_of (list_word q) → ListBehind s at (list_kind q) (t - compares_code) (at + 2)
-    a_quantified q u = record {
-      quantifier = q;
-      kind_is = refl;
-      compares = (omega arith, omega arith);
-      found = λ l. rw (is) (listed_found l s at (omega arith) (omega arith) q u);
-      moved = moved s at (at + 1) (at + 2) (omega arith) (omega arith) (rw (u) (word_positive q));
-    }
+    pub a_second : expect SOME (tokens_from s (at + 1)) ≡ none → expect ALL (tokens_from s (at + 1)) ≡ none → ValueBehind s at op (at + 1)
+    unfolding start_value expect read_comparison
+    a_second d e = record { found = λ l. rw (h.here, d, e) (simp or_none); moved = moved_to (at + 1) (omega arith) refl h }
 
-    pub a_second : (get_or s (at + 1) 0 ≡ code_of SOME → ⊥) → (get_or s (at + 1) 0 ≡ code_of ALL → ⊥) → ValueBehind s at (t - compares_code) (at + 1)
-    a_second f g = record {
-      compares = (omega arith, omega arith);
-      found = λ l. rw (is) (compared_found l s at (omega arith) (omega arith) f g);
-      moved = moved s at at (at + 1) (omega arith) refl (omega arith);
-    }
+  pub nothing_at_end : tokens_from s at ≡ [] → (l : WrittenValue) → start_value l (tokens_from s at) ≡ none
+  unfolding start_value expect read_comparison
+  nothing_at_end e l = rw e
+
+  no_comparison : (w : Word) → Stands s at (Fixed w) → read_comparison (tokens_from s at) ≡ none
+  unfolding read_comparison
+  no_comparison w h = rw h.here
+
+  no_word_by : expect IS (tokens_from s at) ≡ none → expect IN (tokens_from s at) ≡ none → expect NOT (tokens_from s at) ≡ none → read_comparison (tokens_from s at) ≡ none
+      → (l : WrittenValue) → start_value l (tokens_from s at) ≡ none
+  unfolding start_value
+  no_word_by d e f g l = rw (d, e, f, g)
+
+  pub no_word_behind : (w : Word) → Stands s at (Fixed w) → expect IS (tokens_from s at) ≡ none → (w ≡ InWord → ⊥) → (w ≡ NotWord → ⊥)
+      → (l : WrittenValue) → start_value l (tokens_from s at) ≡ none
+  no_word_behind w h d f g l = no_word_by d (expect_other s at InWord w h f) (expect_other s at NotWord w h g) (no_comparison w h) l
+
+  pub nothing_behind : (t : Token) → Stands s at t → ((k : Word) → t ≡ Fixed k → ⊥) → ((op : Comparison) → t ≡ Compares op → ⊥)
+      → (l : WrittenValue) → start_value l (tokens_from s at) ≡ none
+  unfolding start_value expect read_comparison
+  nothing_behind (Fixed k) h f g l = absurd (f k refl)
+  nothing_behind (Compares op) h f g l = absurd (g op refl)
+  nothing_behind (Letter x) h f g l = rw h.here
+  nothing_behind (Number n) h f g l = rw h.here
 
 -- ---- a test
 
-module _ (s : List ℕ) (at : ℕ) where
-  -- a bracket alone makes no part
-  pub record BracketIs (next : ℕ) : Type 0 where
-    pub found : start (tokens_from s at) ≡ some (Around Bracket (tokens_from s next))
-    pub moved : Moved s at next
+-- a bracket alone makes no part
+pub record BracketIs (s : Tokens) (at next : ℕ) : Type 0 where
+  pub found : start (tokens_from s at) ≡ some (Around Bracket (tokens_from s next))
+  pub moved : Moved s at next
 
-  pub a_bracket : get_or s at 0 ≡ code_of Open → BracketIs (at + 1)
-  unfolding start
-  a_bracket is = record {
-    found = rw (expect_to s at (code_of Open) (at + 1) tt refl is);
-    moved = moved s at at (at + 1) (omega arith) refl (omega arith);
-  }
+pub a_bracket : {s : Tokens} {at : ℕ} → Stands s at Open → BracketIs s at (at + 1)
+unfolding start expect
+a_bracket {at = at} h = record { found = rw h.here; moved = moved_to (at + 1) (omega arith) refl h }
 
-  module _ (is : get_or s at 0 ≡ code_of EXISTS) where
-    behind_exists : start (tokens_from s at) ≡ (expect Open (tokens_from s (at + 1)) >>= (λ vs. read_from vs >>= (λ f. some (Around (OfExists f.0) f.1))))
-    unfolding start
-    behind_exists =
-        rw (expect_no s at (code_of Open) (λ e. omega arith), expect_to s at (code_of EXISTS) (at + 1) tt refl is, no_value s at (get_or s at 0) refl (omega arith))
-        (simp or_none)
+module _ (s : Tokens) (at : ℕ) where
+  module _ (h : Stands s at EXISTS) where
+    pub no_exists : expect Open (tokens_from s (at + 1)) ≡ none → start (tokens_from s at) ≡ none
+    unfolding start expect read_value
+    no_exists e = rw (h.here, e)
 
-    pub no_exists : (get_or s (at + 1) 0 ≡ code_of Open → ⊥) → start (tokens_from s at) ≡ none
-    no_exists f = rw (behind_exists, expect_no s (at + 1) (code_of Open) f)
-
-    module _ (u : get_or s (at + 1) 0 ≡ code_of Open) where
-      behind_bracket : start (tokens_from s at) ≡ (read_from (tokens_from s (at + 2)) >>= (λ f. some (Around (OfExists f.0) f.1)))
-      behind_bracket = rw (behind_exists, expect_to s (at + 1) (code_of Open) (at + 2) tt (omega arith) u)
-
+    module _ (k : Stands s (at + 1) Open) where
       pub no_rows : read_from (tokens_from s (at + 2)) ≡ none → start (tokens_from s at) ≡ none
-      no_rows e = rw (behind_bracket, e)
+      unfolding start expect read_value
+      no_rows e = rw (h.here, here_to (at + 2) (omega arith) k, e)
 
-      pub an_exists :
-          (t y next : ℕ) → FromIs s (at + 2) t y next → (note : Note) → note_numbers note ≡ exists_kind ∷ 0 ∷ t ∷ y ∷ (noted_numbers unused_noted ++ noted_numbers unused_noted)
-          → AroundIs s at (start (tokens_from s at)) note next
-      unfolding noted parts froms_deep
-      an_exists t y next f note e = record {
-        opening = OfExists (from_of t y);
-        found = rw (behind_bracket, f.found);
-        notes = λ w. rw (e, to_from t);
+      pub an_exists : (f : FromClause Source) (next : ℕ) → FromIs s (at + 2) f next → AroundIs s at (start (tokens_from s at)) (ExistsHead f) next
+      unfolding start expect read_value noted parts froms_deep
+      an_exists f next g = record {
+        opening = OfExists f;
+        found = rw (h.here, here_to (at + 2) (omega arith) k, g.found);
+        notes = λ w. refl;
         one = λ w. refl;
-        deeper = λ w. refl;
+        deeper = λ w. rw (one_letter f);
         untested = λ a rest. refl;
-        moved = earlier (omega arith) f.moved;
+        moved = earlier (omega arith) g.moved;
       }
 
-  module _ (f : get_or s at 0 ≡ code_of Open → ⊥) (g : get_or s at 0 ≡ code_of EXISTS → ⊥) where
-    value_first : start (tokens_from s at) ≡ (read_value (tokens_from s at) >>= (λ l. start_value l.0 l.1))
-    unfolding start
-    value_first = rw (expect_no s at (code_of Open) f, expect_no s at (code_of EXISTS) g)
-
+  module _ (d : expect Open (tokens_from s at) ≡ none) (e : expect EXISTS (tokens_from s at) ≡ none) where
     pub no_test : read_value (tokens_from s at) ≡ none → start (tokens_from s at) ≡ none
-    no_test e = rw (value_first, e)
+    unfolding start
+    no_test f = rw (d, e, f)
 
-    pub a_value_test : (l : NotedValue) (next : ℕ) → ValueIs s at l next → (r : Started) → FollowedAt s next l r → TestAt s at r
-    a_value_test l next v r h = starts_as s at next _ _ r (omega (arith, v.moved.later)) (rw (value_first, v.found)) h
+    pub a_value_test : (l : WrittenValue) (next : ℕ) → ValueIs s at l next → (r : Option Started) → FollowedAt s next l r → TestAt s at r
+    unfolding start
+    a_value_test l next v r h = starts_as s at next _ _ r (omega (arith, v.moved.later)) (rw (d, e, v.found)) h
+
+-- ---- what the functions answer
+
+pub ruleset mark_rules = (no_mark_at_end, no_mark, no_not_mark_at_end, no_not_mark, a_null, a_declined, a_not_null, a_not_declined)
+
+pub ruleset comparison_rules = (a_some, an_all, a_second)
+
+pub ruleset behind_rules = (an_in, no_in, a_not_in, nothing_at_end, no_word_behind, nothing_behind)
+
+pub ruleset exists_rules = (no_exists, no_rows, an_exists)
+
+pub ruleset test_rules = (no_test, a_value_test)

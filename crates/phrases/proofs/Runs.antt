@@ -1,90 +1,86 @@
--- What read_value and read_from find at a place, by the numbers that stand there.
+-- A value and a FROM at a place, by the tokens that stand there.
 use mathlib.Core.Path.{◌≡◌, refl}
-use mathlib.Core.List.{List}
-use mathlib.Core.Option.{none, some}
-use Prim.Native.Nat.{ℕ, ◌+◌, ◌-◌, ◌<◌, ◌≤◌}
+use mathlib.Core.List.{[]}
+use mathlib.Core.Option.{none}
+use Prim.Native.Nat.{ℕ, ◌+◌}
 use native.Mathlib.Omega.{arith}
-use borrow.Author.Tests.{ne_eqb}
-use lib.ListN.{get_or}
-use Rattle.tables.specs.Lists.{◌>>=◌}
+use lib.IntN.{ℤ}
 use Rattle.rule.specs.Tokens.{FROM, WHERE, Point}
-use Rattle.rule.specs.Condition.{Named}
+use Rattle.rule.specs.declared.Token.{Token}
+use Rattle.rule.specs.declared.Token.TheVariants.{Fixed, Compares, Letter, Number}
+use Rattle.rule.specs.declared.FromClause.TheVariants.{Single}
+use Rattle.rule.specs.declared.WrittenValue.TheVariants.{Plain, Named}
+use Rattle.rule.specs.declared.Source.TheVariants.{Over}
+use Rattle.rule.specs.Grammar.{Tokens}
 use Rattle.rule.specs.Reader.{expect, read_number, read_letter, read_value, read_from}
-use Rattle.lexer.specs.Code.{letter_code, number_code, code_of}
-use Rattle.phrases.specs.Code.{from_of, tokens_from, Moved, ValueIs, FromIs}
-use Rattle.phrases.proofs.Tokens.{there, by_kind, number_here, letter_here, expect_to, expect_no, number_to, number_no, letter_to, letter_no}
+use Rattle.phrases.specs.Code.{tokens_from, Stands, ValueIs, FromIs}
+use Rattle.phrases.proofs.Tokens.{here_to, moved_to}
 
--- a place before one whose number is not 0
-pub moved : (s : List ℕ) (at last next : ℕ) → at ≤ last → next ≡ last + 1 → 0 < get_or s last 0 → Moved s at next
-moved s at last next p e h = let l = there s last h in record { later = omega arith; within = omega arith }
+-- ---- a value
 
--- ---- a value: t, u and n stand here and behind
-
-module _ (s : List ℕ) (at t : ℕ) (is : t ≡ get_or s at 0) where
-  pub plain_value : number_code ≤ t → ValueIs s at (record { letter = 0; number = t - number_code }) (at + 1)
+module _ (s : Tokens) (at : ℕ) where
+  pub no_value_at_end : tokens_from s at ≡ [] → read_value (tokens_from s at) ≡ none
   unfolding read_value
-  plain_value h = record { found = rw (is, number_here s at (omega arith)); moved = moved s at at (at + 1) (omega arith) refl (omega arith) }
+  no_value_at_end e = rw e
 
-  pub no_value : t < letter_code → read_value (tokens_from s at) ≡ none
+  pub plain_value : (n : ℤ) → Stands s at (Number n) → ValueIs s at (Plain n) (at + 1)
   unfolding read_value
-  no_value h = by_kind s at (λ ts. read_value ts ≡ none) refl (λ l. refl) (λ _ l. refl) (λ h' l. absurd (omega arith)) (λ l. absurd (omega arith))
+  plain_value n h = record { found = rw h.here; moved = moved_to (at + 1) (omega arith) refl h }
 
-  module _ (low : letter_code ≤ t) (high : t < number_code) where
-    letter_value : read_value (tokens_from s at) ≡ (expect Point (tokens_from s (at + 1)) >>= (λ us. read_number us >>= (λ n. some (Named t n.0, n.1))))
+  pub no_value : (t : Token) → Stands s at t → ((n : ℤ) → t ≡ Number n → ⊥) → ((x : ℕ) → t ≡ Letter x → ⊥) → read_value (tokens_from s at) ≡ none
+  unfolding read_value
+  no_value (Fixed k) h f g = rw h.here
+  no_value (Compares op) h f g = rw h.here
+  no_value (Letter x) h f g = absurd (g x refl)
+  no_value (Number n) h f g = absurd (f n refl)
+
+  module _ (x : ℕ) (h : Stands s at (Letter x)) where
+    pub no_point : expect Point (tokens_from s (at + 1)) ≡ none → read_value (tokens_from s at) ≡ none
     unfolding read_value
-    letter_value = rw (is, letter_here s at (omega arith) (omega arith))
+    no_point e = rw (h.here, e)
 
-    pub no_point : (u : ℕ) → u ≡ get_or s (at + 1) 0 → (u ≡ code_of Point → ⊥) → read_value (tokens_from s at) ≡ none
-    no_point u e f = rw (letter_value, expect_no s (at + 1) (code_of Point) (λ q. f (omega arith)))
+    module _ (p : Stands s (at + 1) Point) where
+      pub no_column : read_number (tokens_from s (at + 2)) ≡ none → read_value (tokens_from s at) ≡ none
+      unfolding read_value expect
+      no_column e = rw (h.here, here_to (at + 2) (omega arith) p, e)
 
-    module _ (n : ℕ) (point : code_of Point ≡ get_or s (at + 1) 0) (behind : n ≡ get_or s (at + 2) 0) where
-      column_value : read_value (tokens_from s at) ≡ (read_number (tokens_from s (at + 2)) >>= (λ n. some (Named t n.0, n.1)))
-      column_value = rw (letter_value, expect_to s (at + 1) (code_of Point) (at + 2) tt (omega arith) (omega arith))
-
-      pub no_column : n < number_code → read_value (tokens_from s at) ≡ none
-      no_column h = rw (column_value, number_no s (at + 2) (omega arith))
-
-      pub named_value : number_code ≤ n → ValueIs s at (record { letter = t; number = n - number_code }) (at + 3)
-      named_value h = record {
-        found = rw (column_value, number_to s (at + 2) (at + 3) (omega arith) (omega arith), ne_eqb t 0 (omega arith), behind);
-        moved = moved s at (at + 2) (at + 3) (omega arith) (omega arith) (omega arith);
+      pub named_value : (n : ℤ) → Stands s (at + 2) (Number n) → ValueIs s at (Named x n) (at + 3)
+      unfolding read_value expect read_number
+      named_value n k = record {
+        found = rw (h.here, here_to (at + 2) (omega arith) p, here_to (at + 3) (omega arith) k);
+        moved = moved_to (at + 3) (omega arith) (omega arith) k;
       }
 
--- ---- FROM number letter WHERE: f, n, x and w stand here and behind
+-- ---- FROM number letter WHERE
 
-module _ (s : List ℕ) (at : ℕ) where
-  pub no_from : (f : ℕ) → f ≡ get_or s at 0 → (f ≡ code_of FROM → ⊥) → read_from (tokens_from s at) ≡ none
+module _ (s : Tokens) (at : ℕ) where
+  pub no_from : expect FROM (tokens_from s at) ≡ none → read_from (tokens_from s at) ≡ none
   unfolding read_from
-  no_from f e g = rw (expect_no s at (code_of FROM) (λ q. g (omega arith)))
+  no_from e = rw e
 
-  module _ (n : ℕ) (here : code_of FROM ≡ get_or s at 0) (table : n ≡ get_or s (at + 1) 0) where
-    pub no_table : n < number_code → read_from (tokens_from s at) ≡ none
-    unfolding read_from
-    no_table h = rw (expect_to s at (code_of FROM) (at + 1) tt refl (omega arith), number_no s (at + 1) (omega arith))
+  module _ (h : Stands s at FROM) where
+    pub no_table : read_number (tokens_from s (at + 1)) ≡ none → read_from (tokens_from s at) ≡ none
+    unfolding read_from expect
+    no_table e = rw (h.here, e)
 
-    module _ (x : ℕ) (high : number_code ≤ n) (letter : x ≡ get_or s (at + 2) 0) where
-      behind_table :
-          read_from (tokens_from s at) ≡ (read_letter (tokens_from s (at + 2)) >>= (λ x. expect WHERE x.1 >>= (λ vs. some (from_of (n - number_code) x.0, vs))))
-      unfolding read_from
-      behind_table =
-          rw (expect_to s at (code_of FROM) (at + 1) tt refl (omega arith), number_to s (at + 1) (at + 2) (omega arith) (omega arith), table)
+    module _ (n : ℤ) (k : Stands s (at + 1) (Number n)) where
+      pub no_alias : read_letter (tokens_from s (at + 2)) ≡ none → read_from (tokens_from s at) ≡ none
+      unfolding read_from expect read_number
+      no_alias e = rw (h.here, here_to (at + 2) (omega arith) k, e)
 
-      pub no_letter : (letter_code ≤ x → x < number_code → ⊥) → read_from (tokens_from s at) ≡ none
-      no_letter h = rw (behind_table, letter_no s (at + 2) (λ l m. h (omega arith) (omega arith)))
+      module _ (x : ℕ) (l : Stands s (at + 2) (Letter x)) where
+        pub no_where : expect WHERE (tokens_from s (at + 3)) ≡ none → read_from (tokens_from s at) ≡ none
+        unfolding read_from expect read_number read_letter
+        no_where e = rw (h.here, here_to (at + 2) (omega arith) k, here_to (at + 3) (omega arith) l, e)
 
-      module _ (w : ℕ) (low : letter_code ≤ x) (small : x < number_code) (last : w ≡ get_or s (at + 3) 0) where
-        pub no_where : (w ≡ code_of WHERE → ⊥) → read_from (tokens_from s at) ≡ none
-        no_where h =
-            rw (behind_table, letter_to s (at + 2) (at + 3) (omega arith) (omega arith) (omega arith), expect_no s (at + 3) (code_of WHERE) (λ q. h (omega arith)))
-
-        pub a_from : w ≡ code_of WHERE → FromIs s at (n - number_code) x (at + 4)
-        a_from h = record {
-          found =
-              rw (
-                behind_table,
-                letter_to s (at + 2) (at + 3) (omega arith) (omega arith) (omega arith),
-                expect_to s (at + 3) (code_of WHERE) (at + 4) tt (omega arith) (omega arith),
-                letter,
-              );
-          moved = moved s at (at + 3) (at + 4) (omega arith) (omega arith) (omega arith);
+        pub a_from : Stands s (at + 3) WHERE → FromIs s at (Single (Over n x)) (at + 4)
+        unfolding read_from expect read_number read_letter
+        a_from w = record {
+          found = rw (h.here, here_to (at + 2) (omega arith) k, here_to (at + 3) (omega arith) l, here_to (at + 4) (omega arith) w);
+          moved = moved_to (at + 4) (omega arith) (omega arith) w;
         }
+
+-- what read_value and read_from answer
+pub ruleset value_rules = (no_value_at_end, plain_value, no_value, no_point, no_column, named_value)
+
+pub ruleset from_rules = (no_from, no_table, no_alias, no_where, a_from)

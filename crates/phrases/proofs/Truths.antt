@@ -1,77 +1,75 @@
--- What read_truth and read_truth_test find at a place, by the numbers that stand there.
-use mathlib.Core.Path.{◌≡◌, refl}
-use mathlib.Core.Bool.{Bool, true, false, cond}
-use mathlib.Core.List.{List}
-use mathlib.Core.Option.{Option, none, some}
-use Prim.Native.Nat.{ℕ, ◌+◌, ◌<◌, ◌≤◌}
+-- What read_truth and read_truth_test find at a place, by the tokens that stand there.
+use mathlib.Core.Path.{◌≡◌}
+use mathlib.Core.Option.{none, some}
+use Prim.Native.Nat.{ℕ, ◌+◌}
 use native.Mathlib.Omega.{arith}
-use lib.ListN.{get_or}
-use Rattle.rule.specs.Truth.{Truth, False, Unknown, True}
-use Rattle.rule.specs.Tokens.{Token, NOT, TRUE, FALSE, UNKNOWN}
+use Rattle.tables.specs.Lists.{◌>>=◌}
+use Rattle.rule.specs.declared.Truth.{Truth}
+use Rattle.rule.specs.declared.Truth.TheVariants.{False, Unknown, True}
+use Rattle.rule.specs.Tokens.{NOT, TRUE, FALSE, UNKNOWN}
+use Rattle.rule.specs.declared.Token.TheVariants.{Fixed}
+use Rattle.rule.specs.declared.Unary.TheVariants.{Is, IsNot}
+use Rattle.rule.specs.declared.Word.{Word}
+use Rattle.rule.specs.declared.Word.TheVariants.{True as TrueWord, False as FalseWord, Unknown as UnknownWord}
 use Rattle.rule.specs.Grammar.{Tokens}
-use Rattle.rule.specs.Condition.{Unary, Is, IsNot}
-use Rattle.rule.specs.Parts.{unary_kind}
-use Rattle.rule.specs.Reader.{read_truth, read_truth_test}
-use Rattle.lexer.specs.Code.{code_of}
-use Rattle.phrases.specs.Code.{tokens_from, TruthTo, truth_unary, TruthWordAt, TruthTestAt}
-use Rattle.phrases.specs.declared.TruthRead.{TruthRead}
-use Rattle.phrases.specs.declared.TruthRead.TheVariants.{Truth as ReadTruth, NoTruth}
-use Rattle.phrases.proofs.Tokens.{expect_to, expect_no}
-use Rattle.phrases.proofs.Runs.{moved}
-use Rattle.phrases.proofs.Following.{earlier, or_none}
+use Rattle.rule.specs.Reader.{expect, read_truth, read_truth_test}
+use Rattle.phrases.specs.Code.{tokens_from, Stands, TruthStands, TruthIs}
+use Rattle.phrases.proofs.Tokens.{expect_to, expect_other}
 
--- the word of a truth value
-abbrev truth_word : Truth → Token
-truth_word True = TRUE
-truth_word False = FALSE
-truth_word Unknown = UNKNOWN
+module _ (s : Tokens) (at : ℕ) where
+  -- ---- a word
 
-truth_kind : (negated : Bool) (t : Truth) → cond negated (unary_kind (IsNot t)) (unary_kind (Is t)) ≡ unary_kind (truth_unary negated t)
-truth_kind false t = refl
-truth_kind true t = refl
+  pub a_true : Stands s at TRUE → TruthStands s at True
+  unfolding read_truth expect
+  a_true h = record { found = rw h.here; within = h.within }
 
-module _ (s : List ℕ) (at : ℕ) where
-  word_found : (t : Truth) → get_or s at 0 ≡ code_of (truth_word t) → read_truth (tokens_from s at) ≡ some (t, tokens_from s (at + 1))
+  pub a_false : Stands s at FALSE → TruthStands s at False
+  unfolding read_truth expect
+  a_false h = record { found = rw h.here; within = h.within }
+
+  pub an_unknown : Stands s at UNKNOWN → TruthStands s at Unknown
+  unfolding read_truth expect
+  an_unknown h = record { found = rw h.here; within = h.within }
+
+  no_truth_by : expect TRUE (tokens_from s at) ≡ none → expect FALSE (tokens_from s at) ≡ none → expect UNKNOWN (tokens_from s at) ≡ none → read_truth (tokens_from s at) ≡ none
   unfolding read_truth
-  word_found True e = rw (expect_to s at (code_of TRUE) (at + 1) tt refl e)
-  word_found False e = rw (expect_no s at (code_of TRUE) (λ f. omega arith), expect_to s at (code_of FALSE) (at + 1) tt refl e)
-  word_found Unknown e =
-      rw (expect_no s at (code_of TRUE) (λ f. omega arith), expect_no s at (code_of FALSE) (λ f. omega arith), expect_to s at (code_of UNKNOWN) (at + 1) tt refl e)
+  no_truth_by d e f = rw (d, e, f)
 
-  no_word : (get_or s at 0 ≡ code_of TRUE → ⊥) → (get_or s at 0 ≡ code_of FALSE → ⊥) → (get_or s at 0 ≡ code_of UNKNOWN → ⊥) → read_truth (tokens_from s at) ≡ none
-  unfolding read_truth
-  no_word f g h = rw (expect_no s at (code_of TRUE) f, expect_no s at (code_of FALSE) g, expect_no s at (code_of UNKNOWN) h)
+  pub no_truth_at_end : ((w : Word) → expect (Fixed w) (tokens_from s at) ≡ none) → read_truth (tokens_from s at) ≡ none
+  no_truth_at_end f = no_truth_by (f TrueWord) (f FalseWord) (f UnknownWord)
 
-  word_there : (t : Truth) → get_or s at 0 ≡ code_of (truth_word t) → 0 < get_or s at 0
-  word_there True e = omega arith
-  word_there False e = omega arith
-  word_there Unknown e = omega arith
+  pub no_truth : (w : Word) → Stands s at (Fixed w) → (w ≡ TrueWord → ⊥) → (w ≡ FalseWord → ⊥) → (w ≡ UnknownWord → ⊥) → read_truth (tokens_from s at) ≡ none
+  no_truth w h f g k = no_truth_by (expect_other s at TrueWord w h f) (expect_other s at FalseWord w h g) (expect_other s at UnknownWord w h k)
 
-  -- as what the functions answer: k is the kind
-  pub a_word : (negated : Bool) (t : Truth) (k : ℕ) → get_or s at 0 ≡ code_of (truth_word t) → k ≡ cond negated (unary_kind (IsNot t)) (unary_kind (Is t)) → TruthWordAt s at negated (ReadTruth k (at + 1))
-  a_word negated t k e f = record {
-    unary = truth_unary negated t;
-    found = rw (word_found t e);
-    kind_is = rw (f, truth_kind negated t);
-    moved = moved s at at (at + 1) (omega arith) refl (word_there t e);
-  }
+  -- ---- behind IS: NOT, or the word at once
 
-  pub not_a_word : (negated : Bool) → (get_or s at 0 ≡ code_of TRUE → ⊥) → (get_or s at 0 ≡ code_of FALSE → ⊥) → (get_or s at 0 ≡ code_of UNKNOWN → ⊥) → TruthWordAt s at negated NoTruth
-  not_a_word negated f g h = rw (no_word f g h)
+  module _ (h : Stands s at NOT) where
+    not_first : read_truth (tokens_from s at) ≡ none
+    unfolding read_truth expect
+    not_first = rw h.here
 
--- ---- behind IS: NOT, or the word at once
+    behind_not : read_truth_test (tokens_from s at) ≡ (read_truth (tokens_from s (at + 1)) >>= (λ t. some (IsNot t.0, t.1)))
+    unfolding read_truth_test
+    behind_not = rw (not_first, expect_to h)
 
-truth_as : (s : List ℕ) (at later : ℕ) (read read' : Option (Unary × Tokens)) (r : TruthRead) → at ≤ later → read' ≡ read → TruthTo s later read r → TruthTo s at read' r
-truth_as s at later read read' (ReadTruth k next) p e h = record { unary = h.unary; found = rw (e) h.found; kind_is = h.kind_is; moved = earlier p h.moved }
-truth_as s at later read read' NoTruth p e h = rw (e) h
+    pub no_not_test : read_truth (tokens_from s (at + 1)) ≡ none → read_truth_test (tokens_from s at) ≡ none
+    no_not_test e = rw (behind_not, e)
 
-module _ (s : List ℕ) (at : ℕ) (r : TruthRead) where
-  pub behind_not : get_or s at 0 ≡ code_of NOT → TruthWordAt s (at + 1) true r → TruthTestAt s at r
-  unfolding read_truth_test
-  behind_not e h =
-      truth_as s at (at + 1) _ _ r (omega arith)
-      (rw (no_word s at (λ f. omega arith) (λ f. omega arith) (λ f. omega arith), expect_to s at (code_of NOT) (at + 1) tt refl e)) h
+    pub a_not_test : (t : Truth) → TruthStands s (at + 1) t → TruthIs s at (IsNot t) (at + 2)
+    a_not_test t k =
+        let z : at + 1 + 1 ≡ at + 2 = omega arith in
+        record { found = rw (behind_not, k.found, z); moved = record { later = omega arith; within = omega (arith, k.within) } }
 
-  pub behind_is : (get_or s at 0 ≡ code_of NOT → ⊥) → TruthWordAt s at false r → TruthTestAt s at r
-  unfolding read_truth_test
-  behind_is f h = truth_as s at at _ _ r (omega arith) (rw (expect_no s at (code_of NOT) f) (simp or_none)) h
+  module _ (e : expect NOT (tokens_from s at) ≡ none) where
+    pub no_test : read_truth (tokens_from s at) ≡ none → read_truth_test (tokens_from s at) ≡ none
+    unfolding read_truth_test
+    no_test d = rw (d, e)
+
+    pub a_test : (t : Truth) → TruthStands s at t → TruthIs s at (Is t) (at + 1)
+    unfolding read_truth_test
+    a_test t k = record { found = rw k.found; moved = record { later = omega arith; within = omega (arith, k.within) } }
+
+-- what read_truth and read_truth_test answer
+pub ruleset truth_rules = (a_true, a_false, an_unknown, no_truth_at_end, no_truth)
+
+pub ruleset test_rules = (no_not_test, a_not_test, no_test, a_test)

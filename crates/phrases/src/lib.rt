@@ -2,294 +2,225 @@
 // Short names: s, the tokens; at, the place of one.
 #![tactic(auto)]
 
-ghost use Rattle.std.specs.Prelude.{◌≡◌, cond, ◌+◌, ◌<◌, ◌≤◌, length, get_or};
-ghost use Rattle.tables.specs.Lists.{placed};
-ghost use Rattle.rule.specs.Tokens.{EXISTS as ExistsToken, IS as IsToken, Open};
-ghost use Rattle.lexer.specs.Code.{most_tokens, compares_code, letter_code, code_of};
-ghost use Rattle.phrases.specs.Code.{noted_size, noted_numbers, noted_at, unused_noted, note_numbers, left_numbers, ValueAt, FromAt, ListAt, ComparisonAt, FollowedAt, IsComparison, BehindAt, TestAt, TruthWordAt, TruthTestAt};
+ghost use Rattle.std.specs.Prelude.{◌≡◌, ◌+◌, Some, true, false};
+ghost use Rattle.std.proofs.Math.Option.{none};
+ghost use Rattle.rule.specs.Tokens.{EXISTS, IS, Open};
+ghost use Rattle.rule.specs.Reader.{expect};
+ghost use Rattle.rule.specs.declared.Test.TheVariants.{Mark};
+ghost use Rattle.rule.specs.declared.Token.TheVariants.{Fixed, Compares};
+ghost use Rattle.phrases.specs.Code.{tokens_from, Stands, TokenAt, WordAt, NumberAt, LetterAt, ValueAt, FromAt, ListAt, started_whole, ComparisonAt, FollowedAt, BehindAt, TestAt, TruthAt, TruthTestAt};
 
-use lexer::{
-    ALL, COMPARES, DECLINED, EXISTS, FALSE, FROM, IN, IS, NOT, NULL, NUMBER, OPEN, POINT, SELECT,
-    SOME, TRUE, UNKNOWN, WHERE,
-};
-use rule::{
-    ALL_PART, COMPARISON_PART, DECLINED_PART, EXISTS_PART, IS_FALSE_PART, IS_NOT_FALSE_PART,
-    IS_NOT_TRUE_PART, IS_NOT_UNKNOWN_PART, IS_TRUE_PART, IS_UNKNOWN_PART, NOT_DECLINED_PART,
-    NOT_NULL_PART, NULL_PART, SOME_PART,
-};
+use rule::{FromClause, Head, Source, Test, Token, Truth, Unary, Word, WrittenValue};
+use tables::{Comparison, MarkTest, Quantifier};
 
-// The numbers of the comparisons that IN and NOT IN stand for.
-const EQUAL: usize = 1;
-
-const NOT_EQUAL: usize = 2;
-
-// A value as it is written: the letter of a column, or 0 for a number alone, and the number plus 2 ^ 31.
-#[derive(Clone, Copy)]
-pub struct NotedValue {
-    pub letter: usize,
-    pub number: usize,
-}
-
-// How many elements of an array it takes.
-pub const NOTED_NUMBERS: usize = 2;
-
-// The value that stands in an array from element i on.
-pub fn noted_at(notes: &[usize], i: usize) -> NotedValue
-    requires { i + noted_size ≤ length notes.now }
-    ensures { result ≡ noted_at notes.now i }
-{
-    NotedValue {
-        letter: notes[i],
-        number: notes[i + 1],
-    }
-}
-
-// It is put there.
-pub fn put_noted(notes: &mut [usize], i: usize, v: NotedValue)
-    requires { i + noted_size ≤ length notes.old }
-    ensures { notes.new ≡ placed notes.old i (noted_numbers v) }
-{
-    notes[i] = v.letter;
-    notes[i + 1] = v.number;
-}
-
-// Stands where a part has no value.
-pub fn unused_noted() -> NotedValue
-    ensures { result ≡ unused_noted }
-{
-    NotedValue {
-        letter: 0,
-        number: 0,
-    }
-}
-
-// What a part says by itself, as it is written: its kind and comparison as published, the number plus 2 ^ 31 and the letter of its FROM, and its values.
-// What a kind does not use is 0.
-#[derive(Clone, Copy)]
-pub struct Note {
-    pub kind: usize,
-    pub comparison: usize,
-    pub table: usize,
-    pub letter: usize,
-    pub left: NotedValue,
-    pub right: NotedValue,
-}
+// What a part says by itself, as it is written.
+pub type Note = Head<WrittenValue, Source>;
 
 // A value, and the place after it.
 #[derive(Clone, Copy)]
-pub enum ValueRead {
-    Value(NotedValue, usize),
-    NoValue,
+pub struct ValueRead {
+    pub value: WrittenValue,
+    pub next: usize,
 }
 
-// FROM number letter WHERE: the number, the letter, and the place after it.
+// FROM number letter WHERE: what it says, and the place after it.
 #[derive(Clone, Copy)]
-pub enum FromRead {
-    From(usize, usize, usize),
-    NoFrom,
+pub struct FromRead {
+    pub from: FromClause<Source>,
+    pub next: usize,
 }
 
-// How a test begins: it is read to its end; or up to the condition that it holds; or there is no test.
+// How a test begins: it is read to its end, or up to the condition that it holds.
 #[derive(Clone, Copy)]
 pub enum Start {
     Whole { note: Note, next: usize },
     Around { note: Note, next: usize },
-    NoTest,
 }
 
-// A truth test: the kind of its part, and the place after it.
+// A truth test, and the place after it.
 #[derive(Clone, Copy)]
-pub enum TruthRead {
-    Truth(usize, usize),
-    NoTruth,
+pub struct TruthRead {
+    pub unary: Unary,
+    pub next: usize,
 }
 
-// The token at a place, and 0 past the end.
-pub fn token(s: &[usize], at: usize) -> usize
-    ensures is { result ≡ get_or s.now at 0 }
-    ensures there { 0 < result → at < length s.now }
+// The token at a place; none past the end.
+pub fn token(s: &[Token], at: usize) -> Option<Token>
+    ensures { TokenAt s.now at result }
 {
-    if at < s.len() {
-        return s[at];
+    s.get(at).copied()
+}
+
+// The word at a place.
+#[tactic(auto, using(crate::proofs::Tokens::token_rules))]
+fn word_at(s: &[Token], at: usize) -> Option<Word>
+    ensures { WordAt s.now at result }
+{
+    match token(s, at)? {
+        Token::Fixed(word) => Some(word),
+        _ => None,
     }
-    0
+}
+
+// The number at a place.
+#[tactic(auto, using(crate::proofs::Tokens::token_rules))]
+fn number_at(s: &[Token], at: usize) -> Option<i32>
+    ensures { NumberAt s.now at result }
+{
+    match token(s, at)? {
+        Token::Number(number) => Some(number),
+        _ => None,
+    }
+}
+
+// The letter at a place.
+#[tactic(auto, using(crate::proofs::Tokens::token_rules))]
+fn letter_at(s: &[Token], at: usize) -> Option<u8>
+    ensures { LetterAt s.now at result }
+{
+    match token(s, at)? {
+        Token::Letter(letter) => Some(letter),
+        _ => None,
+    }
+}
+
+// Whether this word stands at a place.
+#[tactic(auto, using(crate::proofs::Tokens::expect_other))]
+pub fn is_word(s: &[Token], at: usize, word: Word) -> bool
+    ensures there { result ≡ true → Stands s.now at (Fixed word) }
+    ensures absent { result ≡ false → expect (Fixed word) (tokens_from s.now at) ≡ none }
+{
+    match word_at(s, at) {
+        Some(found) => found == word,
+        None => false,
+    }
 }
 
 // A number, or letter . number.
-fn read_value(s: &[usize], at: usize) -> ValueRead
-    requires fact_1 { length s.now ≤ most_tokens }
-    requires fact_2 { at ≤ length s.now }
+#[tactic(auto, using(crate::proofs::Runs::value_rules))]
+fn read_value(s: &[Token], at: usize) -> Option<ValueRead>
     ensures { ValueAt s.now at result }
 {
-    let t = token(s, at);
-    if NUMBER <= t {
-        let constant = NotedValue {
-            letter: 0,
-            number: t - NUMBER,
-        };
-        return ValueRead::Value(constant, at + 1);
+    match token(s, at)? {
+        Token::Number(number) => Some(ValueRead {
+            value: WrittenValue::Plain(number),
+            next: at + 1,
+        }),
+        Token::Letter(letter) if is_word(s, at + 1, Word::Point) => {
+            let number = number_at(s, at + 2)?;
+            Some(ValueRead {
+                value: WrittenValue::Named { letter, number },
+                next: at + 3,
+            })
+        }
+        _ => None,
     }
-    if t <= COMPARES + 6 {
-        return ValueRead::NoValue;
-    }
-    if token(s, at + 1) != POINT {
-        return ValueRead::NoValue;
-    }
-    let n = token(s, at + 2);
-    if n < NUMBER {
-        return ValueRead::NoValue;
-    }
-    let column = NotedValue {
-        letter: t,
-        number: n - NUMBER,
-    };
-    ValueRead::Value(column, at + 3)
 }
 
 // FROM number letter WHERE.
-fn read_from(s: &[usize], at: usize) -> FromRead
-    requires fact_1 { length s.now ≤ most_tokens }
-    requires fact_2 { at ≤ length s.now }
+#[tactic(auto, using(crate::proofs::Runs::from_rules))]
+fn read_from(s: &[Token], at: usize) -> Option<FromRead>
     ensures { FromAt s.now at result }
 {
-    if token(s, at) != FROM {
-        return FromRead::NoFrom;
+    if !is_word(s, at, Word::From) {
+        return None;
     }
-    let n = token(s, at + 1);
-    if n < NUMBER {
-        return FromRead::NoFrom;
+    let table = number_at(s, at + 1)?;
+    let letter = letter_at(s, at + 2)?;
+    if !is_word(s, at + 3, Word::Where) {
+        return None;
     }
-    let x = token(s, at + 2);
-    if x <= COMPARES + 6 {
-        return FromRead::NoFrom;
-    }
-    if NUMBER <= x {
-        return FromRead::NoFrom;
-    }
-    if token(s, at + 3) != WHERE {
-        return FromRead::NoFrom;
-    }
-    FromRead::From(n - NUMBER, x, at + 4)
+    Some(FromRead {
+        from: FromClause::Single(Source::Over { table, letter }),
+        next: at + 4,
+    })
 }
 
-// ( SELECT value FROM number letter WHERE, after the value and what compares it; the kind is that of SOME or ALL.
-fn start_list(s: &[usize], at: usize, kind: usize, comparison: usize, left: NotedValue) -> Start
-    requires fact_1 { length s.now ≤ most_tokens }
-    requires fact_2 { at ≤ length s.now }
-    requires fact_3 { IsComparison comparison }
-    ensures { ListAt s.now at kind comparison left result }
+// ( SELECT value FROM number letter WHERE, after the value and what compares it.
+#[tactic(auto, using(crate::proofs::Begun::list_rules))]
+fn start_list(
+    s: &[Token],
+    at: usize,
+    quantifier: Quantifier,
+    comparison: Comparison,
+    left: WrittenValue,
+) -> Option<Start>
+    ensures { ListAt s.now at quantifier comparison left result }
 {
-    if token(s, at) != OPEN {
-        return Start::NoTest;
+    if !is_word(s, at, Word::Open) || !is_word(s, at + 1, Word::Select) {
+        return None;
     }
-    if token(s, at + 1) != SELECT {
-        return Start::NoTest;
-    }
-    let ValueRead::Value(right, behind) = read_value(s, at + 2) else {
-        return Start::NoTest;
-    };
-    let FromRead::From(table, bound, next) = read_from(s, behind) else {
-        return Start::NoTest;
-    };
-    let note = Note {
-        kind,
+    let selected = read_value(s, at + 2)?;
+    let FromRead { from, next } = read_from(s, selected.next)?;
+    let note = Head::ListedHead {
+        quantifier,
         comparison,
-        table,
-        letter: bound,
         left,
-        right,
+        selected: selected.value,
+        from,
     };
-    Start::Around { note, next }
+    Some(Start::Around { note, next })
+}
+
+// A test of a value by the mark, up to the place behind it.
+fn mark_test(test: MarkTest, value: WrittenValue, next: usize) -> Start
+    ensures { result ≡ started_whole (Mark test value) next }
+{
+    Start::Whole {
+        note: Head::AtomHead(Test::Mark { test, value }),
+        next,
+    }
 }
 
 // IS NULL, IS DECLINED, IS NOT NULL or IS NOT DECLINED, from the IS on that follows a value.
-fn start_mark(s: &[usize], at: usize, left: NotedValue) -> Start
-    requires fact_1 { length s.now ≤ most_tokens }
-    requires fact_2 { at < length s.now }
-    requires fact_3 { get_or s.now at 0 ≡ code_of IsToken }
+#[tactic(auto, using(crate::proofs::Following::mark_rules))]
+fn start_mark(s: &[Token], at: usize, left: WrittenValue) -> Option<Start>
+    requires { Stands s.now at IS }
     ensures { FollowedAt s.now at left result }
 {
-    let t = token(s, at + 1);
-    if t == NULL {
-        return Start::Whole {
-            note: left_note(NULL_PART, left),
-            next: at + 2,
-        };
-    }
-    if t == DECLINED {
-        return Start::Whole {
-            note: left_note(DECLINED_PART, left),
-            next: at + 2,
-        };
-    }
-    if t != NOT {
-        return Start::NoTest;
-    }
-    let u = token(s, at + 2);
-    if u == NULL {
-        return Start::Whole {
-            note: left_note(NOT_NULL_PART, left),
-            next: at + 3,
-        };
-    }
-    if u != DECLINED {
-        return Start::NoTest;
-    }
-    Start::Whole {
-        note: left_note(NOT_DECLINED_PART, left),
-        next: at + 3,
+    match word_at(s, at + 1)? {
+        Word::Null => Some(mark_test(MarkTest::Null, left, at + 2)),
+        Word::Declined => Some(mark_test(MarkTest::IsDeclined, left, at + 2)),
+        Word::Not => match word_at(s, at + 2)? {
+            Word::Null => Some(mark_test(MarkTest::NotNull, left, at + 3)),
+            Word::Declined => Some(mark_test(MarkTest::NotDeclined, left, at + 3)),
+            _ => None,
+        },
+        _ => None,
     }
 }
 
-// What a part says that has a left value and no other, as the tests by the mark.
-pub fn left_note(kind: usize, left: NotedValue) -> Note
-    ensures { note_numbers result ≡ left_numbers kind left }
-{
-    Note {
-        kind,
-        comparison: 0,
-        table: 0,
-        letter: 0,
-        left,
-        right: unused_noted(),
-    }
-}
-
-// What stands behind a value and compares it, with the number of the comparison: a list, whose bracket stands at this place, and the kind of the part that they make;
-// another value, at this place; or nothing that does.
+// What stands behind a value and compares it, with the comparison: a list, whose bracket stands at this place, and which of its rows are asked for; or another
+// value, at this place.
 #[derive(Clone, Copy)]
 pub enum Behind {
     List {
-        kind: usize,
-        comparison: usize,
+        quantifier: Quantifier,
+        comparison: Comparison,
         at: usize,
     },
     Value {
-        comparison: usize,
+        comparison: Comparison,
         at: usize,
     },
-    Nothing,
 }
 
 // The same from a comparison on: SOME or ALL and a list, or another value.
-fn behind_comparison(s: &[usize], at: usize) -> Behind
-    requires fact_1 { length s.now ≤ most_tokens }
-    requires fact_2 { at < length s.now }
-    requires fact_3 { (compares_code < get_or s.now at 0) × (get_or s.now at 0 < letter_code) }
-    ensures { BehindAt s.now at result }
+#[tactic(auto, using(crate::proofs::Following::comparison_rules))]
+fn behind_comparison(s: &[Token], at: usize, comparison: Comparison) -> Behind
+    requires { Stands s.now at (Compares comparison) }
+    ensures { BehindAt s.now at (Some result) }
 {
-    let comparison = token(s, at) - COMPARES;
-    let t = token(s, at + 1);
-    if t == SOME {
+    if is_word(s, at + 1, Word::Some) {
         return Behind::List {
-            kind: SOME_PART,
+            quantifier: Quantifier::Some,
             comparison,
             at: at + 2,
         };
     }
-    if t == ALL {
+    if is_word(s, at + 1, Word::All) {
         return Behind::List {
-            kind: ALL_PART,
+            quantifier: Quantifier::All,
             comparison,
             at: at + 2,
         };
@@ -300,166 +231,141 @@ fn behind_comparison(s: &[usize], at: usize) -> Behind
     }
 }
 
-// What stands behind a value, where it is no IS. IN is SOME with =, NOT IN is ALL with <>.
-fn read_behind(s: &[usize], at: usize) -> Behind
-    requires fact_1 { length s.now ≤ most_tokens }
-    requires fact_2 { at ≤ length s.now }
-    requires fact_3 { (get_or s.now at 0 ≡ code_of IsToken → ⊥) }
+// The same from a word on: IN is SOME with =, NOT IN is ALL with <>.
+#[tactic(auto, using(crate::proofs::Following::behind_rules))]
+fn behind_word(s: &[Token], at: usize, word: Word) -> Option<Behind>
+    requires here { Stands s.now at (Fixed word) }
+    requires no_is { expect IS (tokens_from s.now at) ≡ none }
     ensures { BehindAt s.now at result }
 {
-    let t = token(s, at);
-    if t == IN {
-        return Behind::List {
-            kind: SOME_PART,
-            comparison: EQUAL,
+    match word {
+        Word::In => Some(Behind::List {
+            quantifier: Quantifier::Some,
+            comparison: Comparison::Eq,
             at: at + 1,
-        };
-    }
-    if t == NOT {
-        if token(s, at + 1) != IN {
-            return Behind::Nothing;
-        }
-        return Behind::List {
-            kind: ALL_PART,
-            comparison: NOT_EQUAL,
+        }),
+        Word::Not if is_word(s, at + 1, Word::In) => Some(Behind::List {
+            quantifier: Quantifier::All,
+            comparison: Comparison::Ne,
             at: at + 2,
-        };
+        }),
+        _ => None,
     }
-    if t <= COMPARES {
-        return Behind::Nothing;
+}
+
+// What stands behind a value, where it is no IS.
+#[tactic(auto, using(crate::proofs::Following::behind_rules))]
+fn read_behind(s: &[Token], at: usize) -> Option<Behind>
+    requires { expect IS (tokens_from s.now at) ≡ none }
+    ensures { BehindAt s.now at result }
+{
+    match token(s, at)? {
+        Token::Fixed(word) => behind_word(s, at, word),
+        Token::Compares(comparison) => Some(behind_comparison(s, at, comparison)),
+        _ => None,
     }
-    if COMPARES + 6 < t {
-        return Behind::Nothing;
-    }
-    behind_comparison(s, at)
 }
 
 // A comparison of a value with the one at a place.
-fn start_comparison(s: &[usize], at: usize, comparison: usize, left: NotedValue) -> Start
-    requires fact_1 { length s.now ≤ most_tokens }
-    requires fact_2 { at ≤ length s.now }
-    requires fact_3 { IsComparison comparison }
+#[tactic(auto, using(crate::proofs::Following::a_comparison))]
+fn start_comparison(
+    s: &[Token],
+    at: usize,
+    comparison: Comparison,
+    left: WrittenValue,
+) -> Option<Start>
     ensures { ComparisonAt s.now at comparison left result }
 {
-    let ValueRead::Value(right, next) = read_value(s, at) else {
-        return Start::NoTest;
-    };
-    let note = Note {
-        kind: COMPARISON_PART,
+    let ValueRead { value: right, next } = read_value(s, at)?;
+    let test = Test::Compare {
         comparison,
-        table: 0,
-        letter: 0,
         left,
         right,
     };
-    Start::Whole { note, next }
+    Some(Start::Whole {
+        note: Head::AtomHead(test),
+        next,
+    })
 }
 
 // What follows a value. The call for a list stands here once, so that it is compiled into its callers: as a call by itself it took the value, and gave
 // its answer, through memory, and reading was slower.
-fn start_value(s: &[usize], at: usize, left: NotedValue) -> Start
-    requires fact_1 { length s.now ≤ most_tokens }
-    requires fact_2 { at ≤ length s.now }
+fn start_value(s: &[Token], at: usize, left: WrittenValue) -> Option<Start>
     ensures { FollowedAt s.now at left result }
 {
-    if token(s, at) == IS {
+    if is_word(s, at, Word::Is) {
         return start_mark(s, at, left);
     }
-    let behind = read_behind(s, at);
-    match behind {
+    match read_behind(s, at)? {
         Behind::List {
-            kind,
+            quantifier,
             comparison,
             at: next,
-        } => start_list(s, next, kind, comparison, left),
+        } => start_list(s, next, quantifier, comparison, left),
         Behind::Value {
             comparison,
             at: next,
         } => start_comparison(s, next, comparison, left),
-        Behind::Nothing => Start::NoTest,
     }
 }
 
 // EXISTS ( FROM number letter WHERE, from the EXISTS on.
-fn start_exists(s: &[usize], at: usize) -> Start
-    requires fact_1 { length s.now ≤ most_tokens }
-    requires fact_2 { at < length s.now }
-    requires fact_3 { get_or s.now at 0 ≡ code_of ExistsToken }
+#[tactic(auto, using(crate::proofs::Following::exists_rules))]
+fn start_exists(s: &[Token], at: usize) -> Option<Start>
+    requires { Stands s.now at EXISTS }
     ensures { TestAt s.now at result }
 {
-    if token(s, at + 1) != OPEN {
-        return Start::NoTest;
+    if !is_word(s, at + 1, Word::Open) {
+        return None;
     }
-    let FromRead::From(table, letter, next) = read_from(s, at + 2) else {
-        return Start::NoTest;
-    };
-    let note = Note {
-        kind: EXISTS_PART,
-        comparison: 0,
-        table,
-        letter,
-        left: unused_noted(),
-        right: unused_noted(),
-    };
-    Start::Around { note, next }
+    let FromRead { from, next } = read_from(s, at + 2)?;
+    Some(Start::Around {
+        note: Head::ExistsHead(from),
+        next,
+    })
 }
 
 // How the test at a place begins, where it is no bracket.
-pub fn start_test(s: &[usize], at: usize) -> Start
-    requires fact_1 { length s.now ≤ most_tokens }
-    requires fact_2 { at ≤ length s.now }
-    requires fact_3 { (get_or s.now at 0 ≡ code_of Open → ⊥) }
+#[tactic(auto, using(crate::proofs::Following::test_rules))]
+pub fn start_test(s: &[Token], at: usize) -> Option<Start>
+    requires { expect Open (tokens_from s.now at) ≡ none }
     ensures { TestAt s.now at result }
 {
-    if token(s, at) == EXISTS {
+    if is_word(s, at, Word::Exists) {
         return start_exists(s, at);
     }
-    let ValueRead::Value(left, next) = read_value(s, at) else {
-        return Start::NoTest;
-    };
-    start_value(s, next, left)
+    let ValueRead { value, next } = read_value(s, at)?;
+    start_value(s, next, value)
 }
 
-// The kind of a truth test by that of IS NOT and of IS with the same word.
-fn truth_kind(negated: bool, other: usize, is: usize) -> usize
-    ensures { result ≡ cond negated other is }
+// TRUE, FALSE or UNKNOWN.
+#[tactic(auto, using(crate::proofs::Truths::truth_rules))]
+fn read_truth(s: &[Token], at: usize) -> Option<Truth>
+    ensures { TruthAt s.now at result }
 {
-    if negated {
-        return other;
+    match word_at(s, at)? {
+        Word::True => Some(Truth::True),
+        Word::False => Some(Truth::False),
+        Word::Unknown => Some(Truth::Unknown),
+        _ => None,
     }
-    is
-}
-
-// TRUE, FALSE or UNKNOWN, behind IS, or behind IS NOT if negated.
-fn read_truth(s: &[usize], at: usize, negated: bool) -> TruthRead
-    requires fact_1 { length s.now ≤ most_tokens }
-    requires fact_2 { at ≤ length s.now }
-    ensures { TruthWordAt s.now at negated result }
-{
-    let t = token(s, at);
-    if t == TRUE {
-        let kind = truth_kind(negated, IS_NOT_TRUE_PART, IS_TRUE_PART);
-        return TruthRead::Truth(kind, at + 1);
-    }
-    if t == FALSE {
-        let kind = truth_kind(negated, IS_NOT_FALSE_PART, IS_FALSE_PART);
-        return TruthRead::Truth(kind, at + 1);
-    }
-    if t == UNKNOWN {
-        let kind = truth_kind(negated, IS_NOT_UNKNOWN_PART, IS_UNKNOWN_PART);
-        return TruthRead::Truth(kind, at + 1);
-    }
-    TruthRead::NoTruth
 }
 
 // The truth test whose IS stands before a place.
-pub fn read_truth_test(s: &[usize], at: usize) -> TruthRead
-    requires fact_1 { length s.now ≤ most_tokens }
-    requires fact_2 { at ≤ length s.now }
+#[tactic(auto, using(crate::proofs::Truths::test_rules))]
+pub fn read_truth_test(s: &[Token], at: usize) -> Option<TruthRead>
     ensures { TruthTestAt s.now at result }
 {
-    if token(s, at) == NOT {
-        return read_truth(s, at + 1, true);
+    if is_word(s, at, Word::Not) {
+        let truth = read_truth(s, at + 1)?;
+        return Some(TruthRead {
+            unary: Unary::IsNot(truth),
+            next: at + 2,
+        });
     }
-    read_truth(s, at, false)
+    let truth = read_truth(s, at)?;
+    Some(TruthRead {
+        unary: Unary::Is(truth),
+        next: at + 1,
+    })
 }

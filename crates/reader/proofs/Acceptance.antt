@@ -12,17 +12,16 @@ use lib.ListN.{length}
 use Rattle.tables.specs.Lists.{all}
 use Rattle.tables.specs.Refusals.{Refusal, first_applying, Refused, Given, Lent, tables_refusals}
 use Rattle.tables.proofs.Tests.{both}
-use Rattle.cells.specs.Reasons.{reason_number}
+use Rattle.std.specs.Prelude.{Result, Ok, Err}
+use Rattle.cells.specs.Reasons.{reason_number, answer_of}
+use Rattle.cells.specs.declared.Reason.{Reason}
 use Rattle.rule.specs.Condition.{parts}
 use Rattle.rule.specs.Calls.{reading_refusals, Accepted, read_call}
 use Rattle.rule.specs.Claims.{Allowed, AcceptedAs}
 use Rattle.rule.specs.declared.Part.{Part}
 use Rattle.rule.proofs.Accepted.{accepted_claim, named_rule, parts_claim}
 use Rattle.rule.proofs.Calls.{calls_claim}
-use Rattle.reader.specs.Answers.{read_answer}
 use Rattle.reader.specs.Claims.{accepts, AcceptanceClaim}
-use Rattle.reader.specs.declared.Reading.{Reading}
-use Rattle.reader.specs.declared.Reading.TheVariants.{Parts, NotRead}
 use Rattle.reader.proofs.Told.{read_claim}
 
 -- the first refusal of a list has a number of the list
@@ -41,25 +40,25 @@ unfolding reading_refusals tables_refusals
 reading_other text file e = first_other (reading_refusals text file) tt e
 
 -- an answer by what it stands for
-refused_accepts : (r : Reading) (n : ℕ) → read_answer r ≡ Refused n → accepts r ≡ true → n ≡ 12
-refused_accepts (Parts m) n e a = let z : ◌≡◌ {A = ℕ} 0 1 = cc in absurd (omega arith)
-refused_accepts (NotRead x) n e a = let p : reason_number x ≡ n = cc in sym p ∙ eqb-true (reason_number x) 12 a
+refused_accepts : (r : Result ℕ Reason) (n : ℕ) → answer_of r ≡ Refused n → accepts r ≡ true → n ≡ 12
+refused_accepts (Ok m) n e a = let z : ◌≡◌ {A = ℕ} 0 1 = cc in absurd (omega arith)
+refused_accepts (Err x) n e a = let p : reason_number x ≡ n = cc in sym p ∙ eqb-true (reason_number x) 12 a
 
-short_accepts : (r : Reading) → read_answer r ≡ Refused 12 → accepts r ≡ true
-short_accepts (Parts m) e = let z : ◌≡◌ {A = ℕ} 0 1 = cc in absurd (omega arith)
-short_accepts (NotRead x) e = let p : reason_number x ≡ 12 = cc in eq-eqb (reason_number x) 12 p
+short_accepts : (r : Result ℕ Reason) → answer_of r ≡ Refused 12 → accepts r ≡ true
+short_accepts (Ok m) e = let z : ◌≡◌ {A = ℕ} 0 1 = cc in absurd (omega arith)
+short_accepts (Err x) e = let p : reason_number x ≡ 12 = cc in eq-eqb (reason_number x) 12 p
 
-given_accepts : (r : Reading) (n : ℕ) → read_answer r ≡ Given n → accepts r ≡ true
-given_accepts (Parts m) n e = refl
-given_accepts (NotRead x) n e = let z : ◌≡◌ {A = ℕ} 0 1 = cc in absurd (omega arith)
+given_accepts : (r : Result ℕ Reason) (n : ℕ) → answer_of r ≡ Given n → accepts r ≡ true
+given_accepts (Ok m) n e = refl
+given_accepts (Err x) n e = let z : ◌≡◌ {A = ℕ} 0 1 = cc in absurd (omega arith)
 
-module _ (text file : List ℕ) (list : List Part) (r : Reading) (e : read_answer r ≡ (read_call text file list).result) where
-  answers : (l : Lent Part) → read_call text file list ≡ l → read_answer r ≡ l.result
+module _ (text file : List ℕ) (list : List Part) (r : Result ℕ Reason) (e : answer_of r ≡ (read_call text file list).result) where
+  answers : (l : Lent Part) → read_call text file list ≡ l → answer_of r ≡ l.result
   answers l p = e ∙ ap (λ (a : Lent Part). a.result) p
 
   -- where a refusal of reading applies
   module _ (n : ℕ) (f : first_applying (reading_refusals text file) ≡ some n) where
-    refused : read_answer r ≡ Refused n
+    refused : answer_of r ≡ Refused n
     refused = answers _ (calls_claim.read_refused text file list n f)
 
     forbidden : Allowed text file → ⊥
@@ -87,10 +86,10 @@ module _ (text file : List ℕ) (list : List Part) (r : Reading) (e : read_answe
   )
   accepted none f = (λ a. allowed f, λ w. accepts_always f)
 
-  given : (w : Allowed text file) → parts w.up_to_names.rule ≤ length list → r ≡ Parts (parts w.up_to_names.rule)
+  given : (w : Allowed text file) → parts w.up_to_names.rule ≤ length list → r ≡ Ok (parts w.up_to_names.rule)
   given w h =
       let a = (accepted_claim text file).1 w in
-      read_claim r (Parts (parts w.up_to_names.rule)) (answers _ (calls_claim.read_given text file list a w.up_to_names.rule (named_rule text file w.up_to_names) h))
+      read_claim r (Ok (parts w.up_to_names.rule)) (answers _ (calls_claim.read_given text file list a w.up_to_names.rule (named_rule text file w.up_to_names) h))
 
 pub acceptance_claim : AcceptanceClaim
 acceptance_claim = record {

@@ -2,141 +2,197 @@
 // A lent list of structs is written by `write_parts` alone. What touches that list is kept thin: what is written, and whether it fits, is known before.
 #![tactic(auto)]
 
-ghost use Rattle.std.specs.Prelude.{◌≡◌, ◌++◌, ◌+◌, ◌*◌, ◌<◌, ◌≤◌, length, drop, get_or};
+ghost use Rattle.std.specs.Prelude.{◌≡◌, ◌++◌, ◌≤◌, length, drop};
+ghost use Rattle.cells.specs.Reasons.{answer_of};
 ghost use Rattle.rule.specs.Calls.{read_call};
-ghost use Rattle.names.specs.Code.{part_size, parts_size};
-ghost use Rattle.values.specs.Code.{held_size, held_at};
-ghost use Rattle.parts.specs.Parts.{signed_of, tagged_from, part_in, parts_in, Publishable, SmallPart, SmallParts};
-ghost use Rattle.reader.specs.Answers.{read_answer};
-ghost use Rattle.reader.specs.Code.{stored_by, ReadTo};
+ghost use Rattle.rule.specs.Parts.{tagged_of, unary_kind, mark_kind, kind_number, kind_of, table_of};
+ghost use Rattle.names.specs.Code.{published};
+ghost use Rattle.parts.specs.Parts.{parts_in, SmallValue, SmallPart, SmallParts};
+ghost use Rattle.reader.specs.Code.{ReadTo};
 
-use cells::{EXCESS, Reason};
-use names::{
-    PART_COMPARISON, PART_END, PART_FIELDS, PART_LEFT, PART_NUMBERS, PART_RIGHT, PART_TABLE,
-};
+use cells::Reason;
+use grammar::MOST_PARTS;
+use names::{NO_PART, RulePart};
 use parser::Parsed;
-use rule::{Part, TaggedValue};
-use values::{CONSTANT, HeldValue, held_at};
+use rule::{
+    ALL_PART, AND_PART, COMPARISON_PART, DECLINED_PART, EXISTS_PART, FromClause, Head,
+    IS_FALSE_PART, IS_NOT_FALSE_PART, IS_NOT_TRUE_PART, IS_NOT_UNKNOWN_PART, IS_TRUE_PART,
+    IS_UNKNOWN_PART, NOT_DECLINED_PART, NOT_NULL_PART, NOT_PART, NULL_PART, OR_PART, Part,
+    SOME_PART, TaggedValue, Test, Truth, Unary,
+};
+use tables::{Connective, MarkTest, Quantifier, Value};
 
-// How many parts stand in the list, or why there are none.
-#[derive(Clone, Copy)]
-pub enum Reading {
-    Parts(usize),
-    NotRead(Reason),
-}
+// The tag of a constant as it is published; that of a column is its level.
+const CONSTANT_TAG: u8 = 255;
 
-// READ but for its list: what it answers with room for so many parts, and the parts as numbers.
-fn read_numbers(
+// READ but for its list: what it answers with room for so many parts, and the parts.
+fn read_parts(
     text: &[u8],
     file: &[u8],
-    numbers: &mut [usize; PART_NUMBERS],
+    parts: &mut [RulePart; MOST_PARTS],
     room: usize,
-) -> Reading
-    requires { length numbers.old ≡ parts_size }
-    ensures read { ReadTo text.now file.now room numbers.new result }
-    ensures size { length numbers.new ≡ parts_size }
+) -> Result<usize, Reason>
+    ensures { ReadTo text.now file.now room parts.new result }
 {
-    let parsed = parser::parse(text, file, numbers);
-    let Parsed::Rule(n, _) = parsed else {
-        return Reading::NotRead(parser::refusal(parsed));
+    let parsed = parser::parse(text, file, parts);
+    // docs/ARCHITECTURE.md names this form: it passes a refusal of reading up unchanged.
+    let Parsed::Rule(count, _) = parsed else {
+        return Err(parser::refusal(parsed));
     };
-    if room < n {
-        return Reading::NotRead(Reason::Short);
+    if room < count {
+        return Err(Reason::Short);
     }
-    Reading::Parts(n)
+    Ok(count)
 }
 
-// How many parts an answer says stand in the list.
-fn stored(reading: Reading) -> usize
-    ensures { result ≡ stored_by reading }
+// The kind of NOT and of the truth tests.
+fn unary_number(unary: Unary) -> u8
+    ensures { result ≡ unary_kind unary }
 {
-    match reading {
-        Reading::Parts(n) => n,
-        Reading::NotRead(_) => 0,
-    }
+    let kind = match unary {
+        Unary::Not => NOT_PART,
+        Unary::Is(Truth::True) => IS_TRUE_PART,
+        Unary::IsNot(Truth::True) => IS_NOT_TRUE_PART,
+        Unary::Is(Truth::False) => IS_FALSE_PART,
+        Unary::IsNot(Truth::False) => IS_NOT_FALSE_PART,
+        Unary::Is(Truth::Unknown) => IS_UNKNOWN_PART,
+        Unary::IsNot(Truth::Unknown) => IS_NOT_UNKNOWN_PART,
+    };
+    kind as u8
 }
 
-// The number of a value as it is published.
-fn signed_number(v: HeldValue) -> i32
-    requires { Publishable v }
-    ensures { result ≡ signed_of v }
+// The kind of a test by the mark.
+fn mark_number(test: MarkTest) -> u8
+    ensures { result ≡ mark_kind test }
 {
-    let n = v.number;
-    if v.tag != CONSTANT {
-        return n as i32;
+    let kind = match test {
+        MarkTest::Null => NULL_PART,
+        MarkTest::NotNull => NOT_NULL_PART,
+        MarkTest::IsDeclined => DECLINED_PART,
+        MarkTest::NotDeclined => NOT_DECLINED_PART,
+    };
+    kind as u8
+}
+
+// The published number of a part's kind.
+fn kind_number(head: Head<Value, u8>) -> u8
+    ensures { result ≡ kind_number (kind_of head) }
+{
+    match head {
+        Head::AtomHead(Test::Compare { .. }) => COMPARISON_PART as u8,
+        Head::AtomHead(Test::Mark { test, .. }) => mark_number(test),
+        Head::JoinHead(Connective::And) => AND_PART as u8,
+        Head::JoinHead(Connective::Or) => OR_PART as u8,
+        Head::UnaryHead(unary) => unary_number(unary),
+        Head::ExistsHead(_) => EXISTS_PART as u8,
+        Head::ListedHead {
+            quantifier: Quantifier::Some,
+            ..
+        } => SOME_PART as u8,
+        Head::ListedHead {
+            quantifier: Quantifier::All,
+            ..
+        } => ALL_PART as u8,
     }
-    if EXCESS <= n {
-        return (n - EXCESS) as i32;
-    }
-    // n is too small to take EXCESS off it, so count down from -1, which is kept as EXCESS less 1.
-    -1 - ((2147483647 - n) as i32)
 }
 
 // A value as it is published.
-fn tagged_value(v: HeldValue) -> TaggedValue
-    requires { Publishable v }
-    ensures { result ≡ tagged_from v }
+fn tagged_value(value: Value) -> TaggedValue
+    requires { SmallValue value }
+    ensures { result ≡ tagged_of value }
 {
-    TaggedValue {
-        tag: v.tag as u8,
-        number: signed_number(v),
+    match value {
+        Value::Constant(number) => TaggedValue {
+            tag: CONSTANT_TAG,
+            number,
+        },
+        Value::Column { level, column } => TaggedValue {
+            tag: level,
+            number: column as i32,
+        },
     }
 }
 
-// Number k of part i, which has a byte.
-fn byte_field(numbers: &[usize], i: usize, k: usize) -> u8
-    requires { (part_size * i + k < length numbers.now) × (get_or numbers.now (part_size * i + k) 0 < 256) }
-    ensures { result ≡ get_or numbers.now (part_size * i + k) 0 }
+// The table of a FROM.
+fn table_of(from: FromClause<u8>) -> u8
+    ensures { result ≡ table_of from }
 {
-    numbers[PART_FIELDS * i + k] as u8
+    match from {
+        FromClause::Single(table) => table,
+    }
 }
 
-// The value of part i that stands from its number k on.
-fn value_field(numbers: &[usize], i: usize, k: usize) -> TaggedValue
-    requires fact_1 { part_size * i + k + held_size ≤ length numbers.now }
-    requires fact_2 { Publishable (held_at numbers.now (part_size * i + k)) }
-    ensures { result ≡ tagged_from (held_at numbers.now (part_size * i + k)) }
+// A part as it is published: fields that its kind does not use are 0.
+fn publish(part: RulePart) -> Part
+    requires { SmallPart part }
+    ensures { result ≡ published part }
 {
-    tagged_value(held_at(numbers, PART_FIELDS * i + k))
-}
-
-// Part i.
-fn part_at(numbers: &[usize], i: usize) -> Part
-    requires fact_1 { part_size * i + part_size ≤ length numbers.now }
-    requires fact_2 { SmallPart numbers.now i }
-    ensures { result ≡ part_in numbers.now i }
-{
-    Part {
-        kind: numbers[PART_FIELDS * i] as u8,
-        comparison: byte_field(numbers, i, PART_COMPARISON),
-        table: byte_field(numbers, i, PART_TABLE),
-        end: byte_field(numbers, i, PART_END),
-        left: value_field(numbers, i, PART_LEFT),
-        right: value_field(numbers, i, PART_RIGHT),
+    let unused = TaggedValue { tag: 0, number: 0 };
+    let plain = Part {
+        kind: kind_number(part.head),
+        comparison: 0,
+        table: 0,
+        end: part.end as u8,
+        left: unused,
+        right: unused,
+    };
+    match part.head {
+        Head::AtomHead(
+            Test::Compare {
+                comparison,
+                left,
+                right,
+            },
+        ) => Part {
+            comparison: u8::from(comparison),
+            left: tagged_value(left),
+            right: tagged_value(right),
+            ..plain
+        },
+        Head::AtomHead(Test::Mark { value, .. }) => Part {
+            left: tagged_value(value),
+            ..plain
+        },
+        Head::JoinHead(_) => plain,
+        Head::UnaryHead(_) => plain,
+        Head::ExistsHead(from) => Part {
+            table: table_of(from),
+            ..plain
+        },
+        Head::ListedHead {
+            comparison,
+            left,
+            selected,
+            from,
+            ..
+        } => Part {
+            comparison: u8::from(comparison),
+            table: table_of(from),
+            left: tagged_value(left),
+            right: tagged_value(selected),
+            ..plain
+        },
     }
 }
 
 // The first n parts to the start of the list.
-fn write_parts(parts: &mut [Part], numbers: &[usize], n: usize)
-    requires { (n ≤ length parts.old) × ((part_size * n ≤ length numbers.now) × SmallParts numbers.now n) }
-    ensures { parts.new ≡ parts_in numbers.now n ++ drop n parts.old }
+fn write_parts(list: &mut [Part], parts: &[RulePart; MOST_PARTS], n: usize)
+    requires { (n ≤ length list.old) × ((n ≤ length parts.now) × SmallParts parts.now n) }
+    ensures { list.new ≡ parts_in parts.now n ++ drop n list.old }
 {
-    let mut i = 0;
-    while i < n {
-        parts[i] = part_at(numbers, i);
-        i = i + 1;
+    for i in 0..n {
+        list[i] = publish(parts[i]);
     }
 }
 
-// READ: the parts of the rule, from the start of the list on. A refusal stores nothing, since `stored` is then 0.
-pub fn read(text: &[u8], file: &[u8], parts: &mut [Part]) -> Reading
-    ensures answer { read_answer result ≡ (read_call text.now file.now parts.old).result }
+// READ: the parts of the rule, from the start of the list on. A refusal stores nothing.
+pub fn read(text: &[u8], file: &[u8], parts: &mut [Part]) -> Result<usize, Reason>
+    ensures answer { answer_of result ≡ (read_call text.now file.now parts.old).result }
     ensures written { parts.new ≡ (read_call text.now file.now parts.old).buffer }
 {
-    let mut numbers = [0usize; PART_NUMBERS];
+    let mut rule_parts = [NO_PART; MOST_PARTS];
     let room = parts.len();
-    let reading = read_numbers(text, file, &mut numbers, room);
-    let n = stored(reading);
-    write_parts(parts, &numbers, n);
-    reading
+    let n = read_parts(text, file, &mut rule_parts, room)?;
+    write_parts(parts, &rule_parts, n);
+    Ok(n)
 }

@@ -5,20 +5,30 @@
 ghost use Rattle.std.specs.Prelude.{◌≡◌};
 ghost use Rattle.card.specs.Calls.{check_call, run_call, list_call};
 ghost use Rattle.tables.specs.Exports.{status_of, yes_no, number_after};
-ghost use Rattle.gate.specs.Answers.{listed_answer};
+ghost use Rattle.cells.specs.Reasons.{answer_of};
+ghost use Rattle.roskudla_gate.specs.Code.{value_after};
 
-use checker::Checked;
-use gate::{Listed, Ran};
+use cells::Reason;
 
-// CHECK: a card alone.
+// What a call answers, for C: the status, and what the call gives behind a pointer.
+pub fn give<T: Copy>(answer: Result<T, Reason>, place: &mut T) -> u32
+    ensures status { result ≡ status_of (answer_of answer) }
+    ensures given { place.new ≡ value_after (answer_of answer) place.old }
+{
+    match answer {
+        Ok(value) => {
+            *place = value;
+            0
+        }
+        Err(reason) => u32::from(reason),
+    }
+}
+
+// CHECK: a card alone, of which nothing but the status is told.
 pub fn roskudla_check(card: &[u8]) -> u32
     ensures { result ≡ status_of (check_call card.now) }
 {
-    let checked = checker::check(card);
-    match checked {
-        Checked::Good => 0,
-        Checked::Bad(x) => cells::refusal_number(x),
-    }
+    give(checker::check(card), &mut ())
 }
 
 // RUN: answer becomes 1 for yes, 0 for no.
@@ -26,32 +36,7 @@ pub fn roskudla_run(card: &[u8], tables: &[u8], row: usize, answer: &mut u8) -> 
     ensures status { result ≡ status_of (run_call card.now tables.now row) }
     ensures answered { answer.new ≡ number_after yes_no (run_call card.now tables.now row) answer.old }
 {
-    let ran = gate::run(card, tables, row);
-    match ran {
-        Ran::Yes => {
-            *answer = 1;
-            0
-        }
-        Ran::No => {
-            *answer = 0;
-            0
-        }
-        Ran::NotRun(x) => cells::refusal_number(x),
-    }
-}
-
-// LIST's answer for C: the number of rows behind a pointer, and the status.
-fn give_count(listed: Listed, count: &mut usize) -> u32
-    ensures status { result ≡ status_of (listed_answer listed) }
-    ensures counted { count.new ≡ number_after (λ n. n) (listed_answer listed) count.old }
-{
-    match listed {
-        Listed::Rows(n) => {
-            *count = n;
-            0
-        }
-        Listed::NotListed(x) => cells::refusal_number(x),
-    }
+    give(gate::run(card, tables, row).map(u8::from), answer)
 }
 
 // LIST: the admitted rows from the start of rows on; count becomes how many they are.
@@ -60,6 +45,5 @@ pub fn roskudla_list(card: &[u8], tables: &[u8], rows: &mut [u32], count: &mut u
     ensures written { rows.new ≡ (list_call card.now tables.now rows.old).buffer }
     ensures counted { count.new ≡ number_after (λ n. n) (list_call card.now tables.now rows.old).result count.old }
 {
-    let listed = gate::list(card, tables, rows);
-    give_count(listed, count)
+    give(gate::list(card, tables, rows), count)
 }

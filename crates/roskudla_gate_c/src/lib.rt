@@ -1,5 +1,6 @@
 // The archive of the gate alone: CHECK, RUN and LIST for C, each under its C name. Each returns 0, or the number of the refusal; a refusal leaves what the
 // pointers point to as it was. A slice is a pointer and then a length, in elements; what is written through one argument must not be reachable through another.
+// They stand here and in roskudla, since each of the two archives exports its own C names.
 #![tactic(auto)]
 
 ghost use Rattle.std.specs.Prelude.{◌≡◌};

@@ -1,59 +1,37 @@
 // Reads rule.txt and tables.bin in the folder it is run in, and prints the rows of table 1 that the rule admits, or the refusal.
 #![tactic(auto)]
 
-ghost use Rattle.std.specs.Prelude.{◌≤◌, ◌≡◌, length};
+ghost use Rattle.std.specs.Prelude.{IfOk};
 ghost use Rattle.io.specs.Counts.{IsPrefixLen};
-ghost use Rattle.roskudla_rows.specs.Code.{Within};
 
 use admission::{OUTPUT, READ_OF_TABLES, READ_OF_TEXT};
 use std::fs::File;
 use std::io;
 use std::io::{Read, Write};
 
-// What one read came to: so many bytes, 0 at the file's end.
-#[derive(Clone, Copy)]
-enum Got {
-    Bytes(usize),
-    Failed,
-}
-
-// One read, into buf from place n on.
-fn read_at(file: &mut File, buf: &mut [u8], n: usize) -> Got
-    requires { n ≤ length buf.old }
-    ensures within { Within n (length buf.old) result }
-    ensures kept { length buf.new ≡ length buf.old }
+// Reads until buf is full or the file ends; how many bytes were read.
+fn read_all(file: &mut File, buf: &mut [u8]) -> io::Result<usize>
+    ensures { IfOk result (λ n. IsPrefixLen n buf.new) }
 {
-    match file.read(&mut buf[n..]) {
-        Ok(more) => Got::Bytes(more),
-        Err(_) => Got::Failed,
-    }
-}
-
-// Reads until buf is full or the file ends; how many bytes were read, or 0 where a read failed: what was read in part must not be taken for the whole.
-fn read_all(file: &mut File, buf: &mut [u8]) -> usize
-    ensures { IsPrefixLen result buf.new }
-{
-    let mut n: usize = 0;
+    let mut n = 0;
     while n < buf.len() {
-        let Got::Bytes(more) = read_at(file, buf, n) else {
-            return 0;
-        };
-        if more == 0 {
-            return n;
+        match file.read(&mut buf[n..])? {
+            0 => break,
+            more => n += more,
         }
-        n += more;
     }
-    n
+    Ok(n)
 }
 
-// The bytes of a file at the start of buf, as far as they fit; how many. A file that is missing, or cannot be read, counts as empty.
+// The bytes of a file at the start of buf, as far as they fit; how many. A file that is missing, or cannot be read, counts as empty: what was read in part
+// must not be taken for the whole.
 fn read_file(rt: &HostRuntime, name: &str, buf: &mut [u8]) -> usize
     ensures { IsPrefixLen result buf.new }
 {
     let Ok(mut file) = File::open(rt, name) else {
         return 0;
     };
-    read_all(&mut file, buf)
+    read_all(&mut file, buf).unwrap_or(0)
 }
 
 fn main(rt: HostRuntime) -> io::Result<()> {

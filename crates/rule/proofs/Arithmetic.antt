@@ -4,8 +4,11 @@ use mathlib.Core.List.{[], ◌∷◌}
 use Prim.Native.Nat.{ℕ, ◌≤◌}
 use native.Mathlib.Omega.{arith}
 use lib.ListN.{get_or}
-use Rattle.tables.specs.Values.{Connective, And, Or}
-use Rattle.rule.specs.Truth.{Truth, False, Unknown, True, truth_number, join3, deciding}
+use Rattle.tables.specs.declared.Connective.{Connective}
+use Rattle.tables.specs.declared.Connective.TheVariants.{And, Or}
+use Rattle.rule.specs.Truth.{truth_number, join3, deciding}
+use Rattle.rule.specs.declared.Truth.{Truth}
+use Rattle.rule.specs.declared.Truth.TheVariants.{False, Unknown, True}
 use Rattle.rule.specs.Meaning.{meaning}
 use Rattle.rule.specs.Claims.{ArithmeticClaim, RuleArithmeticClaim}
 

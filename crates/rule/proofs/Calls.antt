@@ -12,7 +12,7 @@ use Rattle.tables.proofs.Refusals.{first_nil, first_one, first_none, first_appen
 use Rattle.rule.specs.Condition.{Rule}
 use Rattle.rule.specs.Parts.{parts_of}
 use Rattle.rule.specs.declared.Part.{Part}
-use Rattle.rule.specs.Truth.{Unknown}
+use Rattle.rule.specs.declared.Truth.TheVariants.{Unknown}
 use Rattle.rule.specs.Meaning.{judged}
 use Rattle.rule.specs.Calls.{rule_of, reading_refusals, with_rule, read_call, judge_refusals, judge_call}
 use Rattle.rule.specs.Claims.{CallsClaim}

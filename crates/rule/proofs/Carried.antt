@@ -2,8 +2,15 @@
 use mathlib.Core.List.{[], ◌∷◌}
 use Prim.Native.Nat.{ℕ}
 use lib.IntN.{ℤ}
-use Rattle.rule.specs.Tokens.{Token, Letter, Number}
-use Rattle.rule.specs.Condition.{Unary, From, WrittenValue, Plain, Named, Source, Over, WrittenCondition}
+use Rattle.rule.specs.declared.Token.{Token}
+use Rattle.rule.specs.declared.Token.TheVariants.{Letter, Number}
+use Rattle.rule.specs.Condition.{WrittenCondition}
+use Rattle.rule.specs.declared.Unary.{Unary}
+use Rattle.rule.specs.declared.FromClause.{FromClause}
+use Rattle.rule.specs.declared.WrittenValue.{WrittenValue}
+use Rattle.rule.specs.declared.WrittenValue.TheVariants.{Plain, Named}
+use Rattle.rule.specs.declared.Source.{Source}
+use Rattle.rule.specs.declared.Source.TheVariants.{Over}
 use Rattle.rule.specs.Grammar.{Tokens, IsValue, number, column, IsFrom, single, IsTruthTest, is_truth, is_not_truth, IsCondition, one_conjunction, joined_by_or, IsConjunction, one_factor, joined_by_and, IsFactor, not_factor, one_test, IsTest, bracketed, truth_tested_lem, exists, is_null, is_not_null, is_declined, is_not_declined, compared, some_of, all_of, is_in, not_in, IsList, list}
 use Rattle.rule.specs.Throughout.{FromThroughout, Throughout}
 
@@ -20,7 +27,7 @@ module _ (P : Token → Type 0) (Q : WrittenValue → Type 0) (R : Source → Ty
   value_carried number f = (plain _ f.0, f.1)
   value_carried column f = (named _ _ f.0 f.1.1.0, f.1.1.1)
 
-  from_carried : {ts rest : Tokens} {f : From Source} → IsFrom ts f rest → EachToken P ts → FromThroughout R f × EachToken P rest
+  from_carried : {ts rest : Tokens} {f : FromClause Source} → IsFrom ts f rest → EachToken P ts → FromThroughout R f × EachToken P rest
   from_carried single f = (over _ _ f.0 f.1.0, f.1.1)
 
   truth_carried : {ts rest : Tokens} {u : Unary} → IsTruthTest ts u rest → EachToken P ts → EachToken P rest
@@ -56,7 +63,7 @@ module _ (P : Token → Type 0) (Q : WrittenValue → Type 0) (R : Source → Ty
     test_carried (is_in v r) f = let x = value_carried v f in let y = list_carried r x.1.1 in ((x.0, y.0, y.1, y.2), y.3)
     test_carried (not_in v r) f = let x = value_carried v f in let y = list_carried r x.1.1.1 in ((x.0, y.0, y.1, y.2), y.3)
 
-    list_carried : {ts rest : Tokens} {s : WrittenValue} {g : From Source} {w : WrittenCondition} → IsList ts s g w rest → EachToken P ts
+    list_carried : {ts rest : Tokens} {s : WrittenValue} {g : FromClause Source} {w : WrittenCondition} → IsList ts s g w rest → EachToken P ts
         → Q s × FromThroughout R g × Throughout Q R w × EachToken P rest
     list_carried (list v g r) f =
         let x = value_carried v f.1.1 in

@@ -12,8 +12,12 @@ use Rattle.tables.proofs.Tests.{is_so}
 use Rattle.numerals.specs.Texts.{take_while}
 use Rattle.numerals.specs.Numerals.{is_digit, minus, first_number}
 use Rattle.numerals.proofs.Reading.{first_told}
-use Rattle.rule.specs.Tokens.{Token, Fixed, Compares, Letter, Number, Spelling, words, signs, is_gap, is_capital, is_small, Lexed, word_in, begins, sign_in, number_token, number_from, first_token, and_then, tokens_after, tokens_of}
-use Rattle.rule.specs.Condition.{WrittenValue, Plain, Named, WrittenCondition}
+use Rattle.rule.specs.Tokens.{Spelling, words, signs, is_gap, is_capital, is_small, Lexed, word_in, begins, sign_in, number_token, number_from, first_token, and_then, tokens_after, tokens_of}
+use Rattle.rule.specs.declared.Token.{Token}
+use Rattle.rule.specs.declared.Token.TheVariants.{Fixed, Compares, Letter, Number}
+use Rattle.rule.specs.Condition.{WrittenCondition}
+use Rattle.rule.specs.declared.WrittenValue.{WrittenValue}
+use Rattle.rule.specs.declared.WrittenValue.TheVariants.{Plain, Named}
 use Rattle.rule.specs.Grammar.{Tokens, IsCondition}
 use Rattle.rule.specs.Throughout.{Throughout}
 use Rattle.rule.proofs.Carried.{EachToken, carried}

@@ -12,8 +12,18 @@ use lib.ListN.{length, get_or, length-append, get_or-append}
 use lib.Seq.{get_or-append_seam}
 use Rattle.tables.specs.Lists.{numbered, only}
 use Rattle.tables.specs.Bytes.{between}
-use Rattle.tables.specs.Values.{judged_levels, Value, Constant, Column, value_fits}
-use Rattle.rule.specs.Condition.{Test, Compare, Mark, From, Single, Atom, Join, Apply, Exists, Listed, WrittenValue, Plain, Named, Source, Over, WrittenCondition, Rule, parts, letters, froms_deep}
+use Rattle.tables.specs.Values.{judged_levels, value_fits}
+use Rattle.tables.specs.declared.Value.{Value}
+use Rattle.tables.specs.declared.Value.TheVariants.{Constant, Column}
+use Rattle.rule.specs.Condition.{Atom, Join, Apply, Exists, Listed, WrittenCondition, Rule, parts, letters, froms_deep}
+use Rattle.rule.specs.declared.Test.{Test}
+use Rattle.rule.specs.declared.Test.TheVariants.{Compare, Mark}
+use Rattle.rule.specs.declared.FromClause.{FromClause}
+use Rattle.rule.specs.declared.FromClause.TheVariants.{Single}
+use Rattle.rule.specs.declared.WrittenValue.{WrittenValue}
+use Rattle.rule.specs.declared.WrittenValue.TheVariants.{Plain, Named}
+use Rattle.rule.specs.declared.Source.{Source}
+use Rattle.rule.specs.declared.Source.TheVariants.{Over}
 use Rattle.rule.specs.Names.{Binding, Scope, outermost, bound, nearest, existing, value_in, test_in, from_in, rule_in, within, ValueFits, TestFits, FromFits, Fits, ValueScoped, Scoped}
 use Rattle.rule.proofs.Every.{Every, missing, there, found, every_bind}
 use Rattle.rule.specs.Throughout.{TestThroughout, Throughout}
@@ -48,7 +58,7 @@ bound_placed {levels} {scope} x t e p =
     one_placed q (deeper t p)
 
 -- one level more for each letter of a FROM
-pub within_length : (levels : List ℕ) (n : ℕ) (f : From ℕ) → n ≡ length levels → letters f + n ≡ length (within levels f)
+pub within_length : (levels : List ℕ) (n : ℕ) (f : FromClause ℕ) → n ≡ length levels → letters f + n ≡ length (within levels f)
 within_length levels n (Single t) e = simp length-append (omega arith)
 
 nearest_placed : {levels : List ℕ} {scope : Scope} → Placed levels scope → (x : ℕ) → Every (InPlace levels) (nearest scope x)
@@ -84,13 +94,13 @@ module _ (columns : List ℕ) where
   test_fits p (Mark m l) f = every_bind (ValueFits columns _) (TestFits columns _) _ (value_fits_lem p l f) (λ x h. there h)
 
   -- a FROM's tables exist, and its letters are bound at the next levels
-  record Opened (levels : List ℕ) (f : From Source) (g : From ℕ × Scope) : Type 0 where
+  record Opened (levels : List ℕ) (f : FromClause Source) (g : FromClause ℕ × Scope) : Type 0 where
     from_fits : FromFits columns g.0
     same_letters : letters g.0 ≡ letters f
     same_levels : length g.1 ≡ length (within levels g.0)
     placed : Placed (within levels g.0) g.1
 
-  opened : {levels : List ℕ} {scope : Scope} → length scope ≡ length levels → Placed levels scope → (f : From Source) → Every (Opened levels f) (from_in columns scope f)
+  opened : {levels : List ℕ} {scope : Scope} → length scope ≡ length levels → Placed levels scope → (f : FromClause Source) → Every (Opened levels f) (from_in columns scope f)
   unfolding from_in
   opened {levels} {scope} e p (Single (Over n x)) =
       every_bind (λ t. T (between 1 (length columns) t)) (Opened levels (Single (Over n x))) _ (existing_fits (length columns) n) (λ t g.

@@ -5,14 +5,30 @@ use mathlib.Core.Bool.{Bool, true, false}
 use mathlib.Core.List.{[], ◌∷◌}
 use mathlib.Core.Option.{Option, none, some}
 use Prim.Native.Nat.{ℕ}
-use lib.Dec.{eqb}
 use lib.IntN.{ℤ}
-use borrow.Author.Tests.{eqb-true}
 use Rattle.tables.specs.Lists.{only, ◌>>=◌, ◌<|>◌}
-use Rattle.tables.specs.Values.{Comparison, Eq, Ne, Quantifier, Some, All, Null, NotNull, IsDeclined, NotDeclined}
-use Rattle.rule.specs.Tokens.{Token, Fixed, Compares, Letter, Number, AND, OR, NOT, EXISTS, IN, SOME, ALL, IS, NULL, SELECT, FROM, WHERE, Open, Close, Point, DECLINED}
-use Rattle.rule.specs.Truth.{Truth}
-use Rattle.rule.specs.Condition.{Compare, Mark, Unary, Is, IsNot, From, Single, Atom, Apply, Listed, WrittenValue, Plain, Named, Source, Over, WrittenCondition}
+use Rattle.tables.specs.declared.Comparison.{Comparison}
+use Rattle.tables.specs.declared.Comparison.TheVariants.{Eq, Ne}
+use Rattle.tables.specs.declared.Quantifier.{Quantifier}
+use Rattle.tables.specs.declared.Quantifier.TheVariants.{Some, All}
+use Rattle.tables.specs.declared.MarkTest.TheVariants.{Null, NotNull, IsDeclined, NotDeclined}
+use Rattle.rule.specs.Tokens.{same_word, AND, OR, NOT, EXISTS, IN, SOME, ALL, IS, NULL, SELECT, FROM, WHERE, Open, Close, Point, DECLINED}
+use Rattle.rule.specs.declared.Word.{Word}
+use Rattle.rule.proofs.Words.{same_word_is}
+use Rattle.rule.specs.declared.Token.{Token}
+use Rattle.rule.specs.declared.Word.TheVariants.{Not as NotWord, Exists as ExistsWord, In as InWord, Some as SomeWord, All as AllWord, Is as IsWord, Null as NullWord, Select as SelectWord, From as FromWord, Where as WhereWord, Open as OpenWord, Point as PointWord, True as TrueWord, False as FalseWord, Unknown as UnknownWord, Declined as DeclinedWord}
+use Rattle.rule.specs.declared.Token.TheVariants.{Fixed, Compares, Letter, Number}
+use Rattle.rule.specs.declared.Truth.{Truth}
+use Rattle.rule.specs.Condition.{Atom, Apply, Listed, WrittenCondition}
+use Rattle.rule.specs.declared.Test.TheVariants.{Compare, Mark}
+use Rattle.rule.specs.declared.Unary.{Unary}
+use Rattle.rule.specs.declared.Unary.TheVariants.{Is, IsNot}
+use Rattle.rule.specs.declared.FromClause.{FromClause}
+use Rattle.rule.specs.declared.FromClause.TheVariants.{Single}
+use Rattle.rule.specs.declared.WrittenValue.{WrittenValue}
+use Rattle.rule.specs.declared.WrittenValue.TheVariants.{Plain, Named}
+use Rattle.rule.specs.declared.Source.{Source}
+use Rattle.rule.specs.declared.Source.TheVariants.{Over}
 use Rattle.rule.specs.Grammar.{Tokens, IsValue, number, column, IsFrom, single, IsTruth, is_true, is_false, is_unknown, IsTruthTest, is_truth, is_not_truth, IsCondition, IsTest, bracketed, truth_tested_lem, exists, is_null, is_not_null, is_declined, is_not_declined, compared, some_of, all_of, is_in, not_in, IsList, list}
 use Rattle.rule.specs.Reader.{expect, read_number, read_letter, read_comparison, read_value, read_from, Opening, OfList, closed, Start, Whole, Around, start_list, start_value, start, Found, branch, read_truth, read_truth_test, truth_tested, ended}
 
@@ -28,13 +44,13 @@ module _ {A : Type 0} where
 -- ---- what is found has the form
 
 module _ {B : Type 0} (Q : Tokens → Option B → Type 0) (missing : (ts : Tokens) → Q ts none) where
-  pub expect_at : (n : ℕ) (f : Tokens → Option B) → ((us : Tokens) → Q (Fixed n ∷ us) (f us)) → (ts : Tokens) → Q ts (expect (Fixed n) ts >>= f)
+  pub expect_at : (w : Word) (f : Tokens → Option B) → ((us : Tokens) → Q (Fixed w ∷ us) (f us)) → (ts : Tokens) → Q ts (expect (Fixed w) ts >>= f)
   unfolding expect
   expect_at n f h [] = missing []
-  expect_at n f h (Fixed k ∷ us) = go (eqb n k) refl
+  expect_at n f h (Fixed k ∷ us) = go (same_word n k) refl
     where
-      go : (b : Bool) → eqb n k ≡ b → Q (Fixed k ∷ us) (only b us >>= f)
-      go true e = subst (λ (j : ℕ). Q (Fixed j ∷ us) (f us)) (eqb-true n k e) (h us)
+      go : (b : Bool) → same_word n k ≡ b → Q (Fixed k ∷ us) (only b us >>= f)
+      go true e = subst (λ (j : Word). Q (Fixed j ∷ us) (f us)) (same_word_is n k e) (h us)
       go false e = missing (Fixed k ∷ us)
   expect_at n f h (Compares op ∷ us) = missing (Compares op ∷ us)
   expect_at n f h (Letter x ∷ us) = missing (Letter x ∷ us)
@@ -77,30 +93,30 @@ module _ {B : Type 0} (Q : Tokens → Option B → Type 0) (missing : (ts : Toke
   value_at f h (Compares op ∷ us) = missing (Compares op ∷ us)
   value_at f h (Letter x ∷ us) =
       simp bind_bind
-      (expect_at (λ vs o. Q (Letter x ∷ vs) o) (λ vs. missing (Letter x ∷ vs)) 15 _
+      (expect_at (λ vs o. Q (Letter x ∷ vs) o) (λ vs. missing (Letter x ∷ vs)) PointWord _
       (λ vs. number_at (λ ws o. Q (Letter x ∷ Point ∷ ws) o) (λ ws. missing (Letter x ∷ Point ∷ ws)) _
       (λ n ws. h (Named x n) (Letter x ∷ Point ∷ Number n ∷ ws) ws column) vs) us)
   value_at f h (Number n ∷ us) = h (Plain n) (Number n ∷ us) us number
 
-  from_at : (f : From Source × Tokens → Option B) → ((g : From Source) (ts us : Tokens) → IsFrom ts g (WHERE ∷ us) → Q (FROM ∷ ts) (f (g, us))) → (ts : Tokens) → Q ts (read_from ts >>= f)
+  from_at : (f : FromClause Source × Tokens → Option B) → ((g : FromClause Source) (ts us : Tokens) → IsFrom ts g (WHERE ∷ us) → Q (FROM ∷ ts) (f (g, us))) → (ts : Tokens) → Q ts (read_from ts >>= f)
   unfolding read_from
   from_at f h ts =
       simp bind_bind
-      (expect_at Q missing 11 _ (λ us.
+      (expect_at Q missing FromWord _ (λ us.
       number_at (λ vs o. Q (FROM ∷ vs) o) (λ vs. missing (FROM ∷ vs)) _ (λ n vs.
       letter_at (λ ws o. Q (FROM ∷ Number n ∷ ws) o) (λ ws. missing (FROM ∷ Number n ∷ ws)) _ (λ x ws.
-      expect_at (λ xs o. Q (FROM ∷ Number n ∷ Letter x ∷ xs) o) (λ xs. missing (FROM ∷ Number n ∷ Letter x ∷ xs)) 12 _ (λ xs. h (Single (Over n x)) (Number n ∷ Letter x ∷ WHERE ∷ xs) xs single) ws) vs) us) ts)
+      expect_at (λ xs o. Q (FROM ∷ Number n ∷ Letter x ∷ xs) o) (λ xs. missing (FROM ∷ Number n ∷ Letter x ∷ xs)) WhereWord _ (λ xs. h (Single (Over n x)) (Number n ∷ Letter x ∷ WHERE ∷ xs) xs single) ws) vs) us) ts)
 
 -- a branch on the next token
-module _ (Q : Tokens → Found → Type 0) (n : ℕ) (there : Tokens → Found) (missing : Tokens → Found)
+module _ (Q : Tokens → Found → Type 0) (n : Word) (there : Tokens → Found) (missing : Tokens → Found)
     (h : (us : Tokens) → Q (Fixed n ∷ us) (there us)) (z : (ts : Tokens) → Q ts (missing ts)) where
   pub branch_at : (ts : Tokens) → Q ts (branch (expect (Fixed n) ts) there (λ _. missing ts))
   unfolding expect
   branch_at [] = z []
-  branch_at (Fixed k ∷ us) = go (eqb n k) refl
+  branch_at (Fixed k ∷ us) = go (same_word n k) refl
     where
-      go : (b : Bool) → eqb n k ≡ b → Q (Fixed k ∷ us) (branch (only b us) there (λ _. missing (Fixed k ∷ us)))
-      go true e = subst (λ (j : ℕ). Q (Fixed j ∷ us) (there us)) (eqb-true n k e) (h us)
+      go : (b : Bool) → same_word n k ≡ b → Q (Fixed k ∷ us) (branch (only b us) there (λ _. missing (Fixed k ∷ us)))
+      go true e = subst (λ (j : Word). Q (Fixed j ∷ us) (there us)) (same_word_is n k e) (h us)
       go false e = z (Fixed k ∷ us)
   branch_at (Compares op ∷ us) = z (Compares op ∷ us)
   branch_at (Letter x ∷ us) = z (Letter x ∷ us)
@@ -115,9 +131,9 @@ truth_right : (ts : Tokens) → TruthFound ts (read_truth ts)
 unfolding read_truth
 truth_right ts =
     or_ind (TruthFound ts) _ _ (or_ind (TruthFound ts) _ _
-    (expect_at TruthFound (λ _. no_truth) 16 _ (λ us. a_truth is_true) ts)
-    (expect_at TruthFound (λ _. no_truth) 17 _ (λ us. a_truth is_false) ts))
-    (expect_at TruthFound (λ _. no_truth) 18 _ (λ us. a_truth is_unknown) ts)
+    (expect_at TruthFound (λ _. no_truth) TrueWord _ (λ us. a_truth is_true) ts)
+    (expect_at TruthFound (λ _. no_truth) FalseWord _ (λ us. a_truth is_false) ts))
+    (expect_at TruthFound (λ _. no_truth) UnknownWord _ (λ us. a_truth is_unknown) ts)
 
 -- and what read_truth_test finds is a truth test, with the IS before it
 data UnaryFound : Tokens → Option (Unary × Tokens) → Type 0 where
@@ -128,7 +144,7 @@ unary_right : (ts : Tokens) → UnaryFound ts (read_truth_test ts)
 unfolding read_truth_test
 unary_right ts =
     or_ind (UnaryFound ts) _ _ (positive (read_truth ts) (truth_right ts))
-    (expect_at UnaryFound (λ _. no_unary) 3 _ (λ us. negative (read_truth us) (truth_right us)) ts)
+    (expect_at UnaryFound (λ _. no_unary) NotWord _ (λ us. negative (read_truth us) (truth_right us)) ts)
   where
     positive : {us : Tokens} (o : Option (Truth × Tokens)) → TruthFound us o → UnaryFound us (o >>= (λ t. some (Is t.0, t.1)))
     positive none p = no_unary
@@ -153,7 +169,7 @@ pub data Promised (ts : Tokens) : Option Start → Type 0 where
 bracket_promised : (us : Tokens) (w : WrittenCondition) (rest : Tokens) → IsCondition us w (Close ∷ rest) → TestFound (Open ∷ us) (truth_tested w rest)
 unfolding truth_tested
 bracket_promised us w =
-    branch_at (λ ts o. IsCondition us w (Close ∷ ts) → TestFound (Open ∷ us) o) 8 _ (λ ts. some (w, ts))
+    branch_at (λ ts o. IsCondition us w (Close ∷ ts) → TestFound (Open ∷ us) o) IsWord _ (λ ts. some (w, ts))
     (λ vs c. followed (read_truth_test vs) (unary_right vs) c) (λ ts c. a_test (bracketed c))
   where
     followed : {vs : Tokens} (o : Option (Unary × Tokens)) → UnaryFound vs o → IsCondition us w (Close ∷ IS ∷ vs) → TestFound (Open ∷ us) (o >>= (λ u. some (Apply u.0 w, u.1)))
@@ -162,12 +178,12 @@ bracket_promised us w =
 
 -- a list that is read to its WHERE; `h` makes the test of it
 list_promised : (q : Quantifier) (op : Comparison) (l : WrittenValue) (ts us : Tokens)
-    → ((s : WrittenValue) (f : From Source) (w : WrittenCondition) (rest : Tokens) → IsList us s f w rest → IsTest ts (Listed q op l s f w) rest) → Promised ts (start_list q op l us)
+    → ((s : WrittenValue) (f : FromClause Source) (w : WrittenCondition) (rest : Tokens) → IsList us s f w rest → IsTest ts (Listed q op l s f w) rest) → Promised ts (start_list q op l us)
 unfolding start_list
 list_promised q op l ts =
-    let Q : Tokens → Option Start → Type 0 = λ us o. ((s : WrittenValue) (f : From Source) (w : WrittenCondition) (rest : Tokens) → IsList us s f w rest → IsTest ts (Listed q op l s f w) rest) → Promised ts o in
-    expect_at Q (λ _ _. nothing) 13 _ (λ us.
-    expect_at (λ vs o. Q (Open ∷ vs) o) (λ _ _. nothing) 10 _ (λ vs.
+    let Q : Tokens → Option Start → Type 0 = λ us o. ((s : WrittenValue) (f : FromClause Source) (w : WrittenCondition) (rest : Tokens) → IsList us s f w rest → IsTest ts (Listed q op l s f w) rest) → Promised ts o in
+    expect_at Q (λ _ _. nothing) OpenWord _ (λ us.
+    expect_at (λ vs o. Q (Open ∷ vs) o) (λ _ _. nothing) SelectWord _ (λ vs.
     value_at (λ ws o. Q (Open ∷ SELECT ∷ ws) o) (λ _ _. nothing) _ (λ v ws xs is.
     from_at (λ ys o. IsValue ws v ys → Q (Open ∷ SELECT ∷ ws) o) (λ _ _ _. nothing) _ (λ g ys zs is' is'' h. around (λ w rest c. a_test (h v g w rest (list is'' is' c)))) xs is) vs) us)
 
@@ -180,22 +196,22 @@ module _ (l : WrittenValue) where
   unfolding start_value
   value_promised us =
       or_ind (Behind us) _ _ (or_ind (Behind us) _ _ (or_ind (Behind us) _ _ (or_ind (Behind us) _ _ (or_ind (Behind us) _ _ (or_ind (Behind us) _ _ (or_ind (Behind us) _ _ (or_ind (Behind us) _ _
-      (expect_at Behind (λ _ _ _. nothing) 8 _ (λ vs. expect_at (λ ws o. Behind (IS ∷ ws) o) (λ _ _ _. nothing) 9 _ (λ rest ts v. whole (is_null v)) vs) us)
-      (expect_at Behind (λ _ _ _. nothing) 8 _ (λ vs. expect_at (λ ws o. Behind (IS ∷ ws) o) (λ _ _ _. nothing) 3 _ (λ ws. expect_at (λ xs o. Behind (IS ∷ NOT ∷ xs) o) (λ _ _ _. nothing) 9 _ (λ rest ts v. whole (is_not_null v)) ws) vs) us))
-      (expect_at Behind (λ _ _ _. nothing) 8 _ (λ vs. expect_at (λ ws o. Behind (IS ∷ ws) o) (λ _ _ _. nothing) 19 _ (λ rest ts v. whole (is_declined v)) vs) us))
-      (expect_at Behind (λ _ _ _. nothing) 8 _ (λ vs. expect_at (λ ws o. Behind (IS ∷ ws) o) (λ _ _ _. nothing) 3 _ (λ ws. expect_at (λ xs o. Behind (IS ∷ NOT ∷ xs) o) (λ _ _ _. nothing) 19 _ (λ rest ts v. whole (is_not_declined v)) ws) vs) us))
+      (expect_at Behind (λ _ _ _. nothing) IsWord _ (λ vs. expect_at (λ ws o. Behind (IS ∷ ws) o) (λ _ _ _. nothing) NullWord _ (λ rest ts v. whole (is_null v)) vs) us)
+      (expect_at Behind (λ _ _ _. nothing) IsWord _ (λ vs. expect_at (λ ws o. Behind (IS ∷ ws) o) (λ _ _ _. nothing) NotWord _ (λ ws. expect_at (λ xs o. Behind (IS ∷ NOT ∷ xs) o) (λ _ _ _. nothing) NullWord _ (λ rest ts v. whole (is_not_null v)) ws) vs) us))
+      (expect_at Behind (λ _ _ _. nothing) IsWord _ (λ vs. expect_at (λ ws o. Behind (IS ∷ ws) o) (λ _ _ _. nothing) DeclinedWord _ (λ rest ts v. whole (is_declined v)) vs) us))
+      (expect_at Behind (λ _ _ _. nothing) IsWord _ (λ vs. expect_at (λ ws o. Behind (IS ∷ ws) o) (λ _ _ _. nothing) NotWord _ (λ ws. expect_at (λ xs o. Behind (IS ∷ NOT ∷ xs) o) (λ _ _ _. nothing) DeclinedWord _ (λ rest ts v. whole (is_not_declined v)) ws) vs) us))
       (comparison_at Behind (λ _ _ _. nothing) _ (λ op vs. value_at (λ ws o. Behind (Compares op ∷ ws) o) (λ _ _ _. nothing) _ (λ r ws rest is ts v. whole (compared v is)) vs) us))
-      (comparison_at Behind (λ _ _ _. nothing) _ (λ op vs. expect_at (λ ws o. Behind (Compares op ∷ ws) o) (λ _ _ _. nothing) 6 _ (λ ws ts v. list_promised Some op l ts ws (λ s f w rest is. some_of v is)) vs) us))
-      (comparison_at Behind (λ _ _ _. nothing) _ (λ op vs. expect_at (λ ws o. Behind (Compares op ∷ ws) o) (λ _ _ _. nothing) 7 _ (λ ws ts v. list_promised All op l ts ws (λ s f w rest is. all_of v is)) vs) us))
-      (expect_at Behind (λ _ _ _. nothing) 5 _ (λ vs ts v. list_promised Some Eq l ts vs (λ s f w rest is. is_in v is)) us))
-      (expect_at Behind (λ _ _ _. nothing) 3 _ (λ vs. expect_at (λ ws o. Behind (NOT ∷ ws) o) (λ _ _ _. nothing) 5 _ (λ ws ts v. list_promised All Ne l ts ws (λ s f w rest is. not_in v is)) vs) us)
+      (comparison_at Behind (λ _ _ _. nothing) _ (λ op vs. expect_at (λ ws o. Behind (Compares op ∷ ws) o) (λ _ _ _. nothing) SomeWord _ (λ ws ts v. list_promised Some op l ts ws (λ s f w rest is. some_of v is)) vs) us))
+      (comparison_at Behind (λ _ _ _. nothing) _ (λ op vs. expect_at (λ ws o. Behind (Compares op ∷ ws) o) (λ _ _ _. nothing) AllWord _ (λ ws ts v. list_promised All op l ts ws (λ s f w rest is. all_of v is)) vs) us))
+      (expect_at Behind (λ _ _ _. nothing) InWord _ (λ vs ts v. list_promised Some Eq l ts vs (λ s f w rest is. is_in v is)) us))
+      (expect_at Behind (λ _ _ _. nothing) NotWord _ (λ vs. expect_at (λ ws o. Behind (NOT ∷ ws) o) (λ _ _ _. nothing) InWord _ (λ ws ts v. list_promised All Ne l ts ws (λ s f w rest is. not_in v is)) vs) us)
 
 pub start_promised : (ts : Tokens) → Promised ts (start ts)
 unfolding start
 start_promised ts =
     or_ind (Promised ts) _ _ (or_ind (Promised ts) _ _
-    (expect_at Promised (λ _. nothing) 13 _ (λ us. around (bracket_promised us)) ts)
-    (expect_at Promised (λ _. nothing) 4 _ (λ us. expect_at (λ vs o. Promised (EXISTS ∷ vs) o) (λ _. nothing) 13 _ (λ vs. from_at (λ ws o. Promised (EXISTS ∷ Open ∷ ws) o) (λ _. nothing) _ (λ g ws xs is. around (λ w rest c. a_test (exists is c))) vs) us) ts))
+    (expect_at Promised (λ _. nothing) OpenWord _ (λ us. around (bracket_promised us)) ts)
+    (expect_at Promised (λ _. nothing) ExistsWord _ (λ us. expect_at (λ vs o. Promised (EXISTS ∷ vs) o) (λ _. nothing) OpenWord _ (λ vs. from_at (λ ws o. Promised (EXISTS ∷ Open ∷ ws) o) (λ _. nothing) _ (λ g ws xs is. around (λ w rest c. a_test (exists is c))) vs) us) ts))
     (value_at Promised (λ _. nothing) _ (λ l us vs is. value_promised l vs us is) ts)
 
 -- ---- what may stand behind a form: a form is found where the token behind it does not go on with it
@@ -306,11 +322,11 @@ compared_found {op = op} {l = l} v w k =
     ∙ or_left _ _ (or_left _ _ (or_left _ _ (or_left _ _ (ap (◌>>= (λ x. some (Whole (Atom (Compare op l x.0)) x.1))) (value_found w (test_ends k))))))
 
 -- what stands between FROM and WHERE
-pub from_found : {us vs : Tokens} {f : From Source} → IsFrom us f (WHERE ∷ vs) → read_from (FROM ∷ us) ≡ some (f, vs)
+pub from_found : {us vs : Tokens} {f : FromClause Source} → IsFrom us f (WHERE ∷ vs) → read_from (FROM ∷ us) ≡ some (f, vs)
 unfolding read_from expect read_number read_letter
 from_found single = refl
 
-pub list_found : (q : Quantifier) (op : Comparison) (l : WrittenValue) {ts us vs : Tokens} {s : WrittenValue} {f : From Source}
+pub list_found : (q : Quantifier) (op : Comparison) (l : WrittenValue) {ts us vs : Tokens} {s : WrittenValue} {f : FromClause Source}
     → IsValue ts s (FROM ∷ us) → IsFrom us f (WHERE ∷ vs) → start_list q op l (Open ∷ SELECT ∷ ts) ≡ some (Around (OfList q op l s f) vs)
 unfolding start_list expect
 list_found q op l {s = s} v is =

@@ -6,9 +6,14 @@ use Prim.Native.Nat.{ℕ, ◌≤◌}
 use native.Mathlib.Nat.{eq-or-lt_of_le}
 use native.Mathlib.Omega.{arith}
 use Rattle.tables.specs.Lists.{numbered}
-use Rattle.tables.specs.Values.{Connective, And, Or, Some, All, MarkTest, Null, NotNull, IsDeclined, NotDeclined}
-use Rattle.rule.specs.Truth.{False, Unknown, True}
-use Rattle.rule.specs.Condition.{Unary, Not, Is, IsNot}
+use Rattle.tables.specs.declared.Connective.{Connective}
+use Rattle.tables.specs.declared.Connective.TheVariants.{And, Or}
+use Rattle.tables.specs.declared.Quantifier.TheVariants.{Some, All}
+use Rattle.tables.specs.declared.MarkTest.{MarkTest}
+use Rattle.tables.specs.declared.MarkTest.TheVariants.{Null, NotNull, IsDeclined, NotDeclined}
+use Rattle.rule.specs.declared.Truth.TheVariants.{False, Unknown, True}
+use Rattle.rule.specs.declared.Unary.{Unary}
+use Rattle.rule.specs.declared.Unary.TheVariants.{Not, Is, IsNot}
 use Rattle.rule.specs.Parts.{Kind, JoinKind, UnaryKind, CompareKind, MarkKind, ExistsKind, ListKind, join_kind, unary_kind, compare_kind, mark_kind, exists_kind, list_kind, kind_number, kinds}
 use Rattle.rule.specs.Groups.{last_kind, JoinNumber, UnaryNumber, UnknownNumber, MarkNumber, TestNumber, ListNumber, FromNumber}
 use Rattle.rule.proofs.Parts.{kind_back}

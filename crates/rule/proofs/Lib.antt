@@ -15,3 +15,4 @@ pub mod Calls
 pub mod Truths
 pub mod Arithmetic
 pub mod Marks
+pub mod Words

@@ -6,12 +6,21 @@ use Prim.Native.Nat.{ℕ, ◌+◌}
 use lib.Dec.{eqb}
 use Rattle.tables.specs.Lists.{any, put, keep, is_there_one}
 use Rattle.tables.specs.Tables.{Cell, Blank, Declined, Present, Tables, rows_of}
-use Rattle.tables.specs.Values.{Value, Comparison, Null, NotNull, IsDeclined, NotDeclined, Env, ◌▸◌, cell_of, is_blank, is_declined, mark_passes}
+use Rattle.tables.specs.Values.{Env, ◌▸◌, cell_of, is_blank, is_declined, mark_passes}
+use Rattle.tables.specs.declared.Value.{Value}
+use Rattle.tables.specs.declared.Comparison.{Comparison}
+use Rattle.tables.specs.declared.MarkTest.TheVariants.{Null, NotNull, IsDeclined, NotDeclined}
 use Rattle.tables.specs.Claims.{as_blank, tables_as_blank}
 use Rattle.tables.proofs.AsBlank.{one_of_two, none_behind, none_both, rows_as_blank, deeper_blank, table_blank, cell_blank, compared_blank, blank_blank}
-use Rattle.rule.specs.Truth.{Truth, Unknown, True, truth, is_true, is_unknown, not3, join3}
-use Rattle.rule.specs.Condition.{Compare, Mark, From, Single, Atom, Join, Apply, Exists, Listed, Rule, parts}
-use Rattle.rule.specs.Parts.{JoinHead, UnaryHead, ExistsHead, ListedHead, part_of, parts_from, parts_of, part_asks_declined}
+use Rattle.rule.specs.Truth.{truth, is_true, is_unknown, not3, join3}
+use Rattle.rule.specs.declared.Truth.{Truth}
+use Rattle.rule.specs.declared.Truth.TheVariants.{Unknown, True}
+use Rattle.rule.specs.Condition.{Atom, Join, Apply, Exists, Listed, Rule, parts}
+use Rattle.rule.specs.declared.Test.TheVariants.{Compare, Mark}
+use Rattle.rule.specs.declared.FromClause.{FromClause}
+use Rattle.rule.specs.declared.FromClause.TheVariants.{Single}
+use Rattle.rule.specs.Parts.{part_of, parts_from, parts_of, part_asks_declined}
+use Rattle.rule.specs.declared.Head.TheVariants.{JoinHead, UnaryHead, ExistsHead, ListedHead}
 use Rattle.rule.specs.declared.Part.{Part}
 use Rattle.rule.specs.Meaning.{compare3, unary3, over3, ranged, retained, meaning}
 use Rattle.rule.specs.Claims.{MarkTestsClaim, DeclinedPartsClaim, AsksClaim, DeclinedBlankClaim}
@@ -90,13 +99,13 @@ module _ {A B : Type 0} (f : A → B) where
 
 -- ---- declined cells taken for blank ones
 
-ranged_blank : (ts : Tables) (env : Env) (f : From ℕ) → ranged (tables_as_blank ts) (rows_as_blank env) f ≡ map rows_as_blank (ranged ts env f)
+ranged_blank : (ts : Tables) (env : Env) (f : FromClause ℕ) → ranged (tables_as_blank ts) (rows_as_blank env) f ≡ map rows_as_blank (ranged ts env f)
 ranged_blank ts env (Single t) =
     ap (map (λ row. rows_as_blank env ▸ row)) (table_blank ts t)
     ∙ map_both (map as_blank) (λ row. rows_as_blank env ▸ row) (λ row. rows_as_blank (env ▸ row)) (deeper_blank env) (rows_of ts t)
     ∙ sym (map_both (λ row. env ▸ row) rows_as_blank (λ row. rows_as_blank (env ▸ row)) (λ row. refl) (rows_of ts t))
 
-module _ (ts : Tables) (env : Env) (f : From ℕ) (asked asked' : Env → Truth) (same : (inside : Env) → asked' (rows_as_blank inside) ≡ asked inside) where
+module _ (ts : Tables) (env : Env) (f : FromClause ℕ) (asked asked' : Env → Truth) (same : (inside : Env) → asked' (rows_as_blank inside) ≡ asked inside) where
   retained_blank : retained asked' (ranged (tables_as_blank ts) (rows_as_blank env) f) ≡ map rows_as_blank (retained asked (ranged ts env f))
   retained_blank =
       ap (retained asked') (ranged_blank ts env f)

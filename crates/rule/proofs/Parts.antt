@@ -7,10 +7,18 @@ use native.Mathlib.Omega.{arith}
 use borrow.Author.Tests.{ne_eqb}
 use lib.ListN.{length, length-append}
 use Rattle.tables.specs.Lists.{numbered}
-use Rattle.tables.specs.Values.{Value, Constant, Column, And, Or, Some, All, Null, NotNull, IsDeclined, NotDeclined}
+use Rattle.tables.specs.declared.Value.{Value}
+use Rattle.tables.specs.declared.Value.TheVariants.{Constant, Column}
+use Rattle.tables.specs.declared.Connective.TheVariants.{And, Or}
+use Rattle.tables.specs.declared.Quantifier.TheVariants.{Some, All}
+use Rattle.tables.specs.declared.MarkTest.TheVariants.{Null, NotNull, IsDeclined, NotDeclined}
 use Rattle.tables.proofs.Values.{comparison_back}
-use Rattle.rule.specs.Truth.{False, Unknown, True}
-use Rattle.rule.specs.Condition.{Compare, Mark, Not, Is, IsNot, From, Single, Atom, Join, Apply, Exists, Listed, Rule, parts, letters, froms_deep}
+use Rattle.rule.specs.declared.Truth.TheVariants.{False, Unknown, True}
+use Rattle.rule.specs.Condition.{Atom, Join, Apply, Exists, Listed, Rule, parts, letters, froms_deep}
+use Rattle.rule.specs.declared.Test.TheVariants.{Compare, Mark}
+use Rattle.rule.specs.declared.Unary.TheVariants.{Not, Is, IsNot}
+use Rattle.rule.specs.declared.FromClause.{FromClause}
+use Rattle.rule.specs.declared.FromClause.TheVariants.{Single}
 use Rattle.rule.specs.Names.{ValueScoped, Scoped}
 use Rattle.rule.specs.Claims.{EndsClaim}
 use Rattle.rule.specs.Parts.{tagged_of, Kind, JoinKind, UnaryKind, CompareKind, MarkKind, ExistsKind, ListKind, kind_number, kinds, table_of, from_with, parts_from, parts_of, value_of, rules_of, rule_of_parts}
@@ -41,7 +49,7 @@ kind_back ExistsKind = refl
 kind_back (ListKind Some) = refl
 kind_back (ListKind All) = refl
 
-pub from_back : (f : From ℕ) → from_with (table_of f) ≡ f
+pub from_back : (f : FromClause ℕ) → from_with (table_of f) ≡ f
 from_back (Single t) = refl
 
 -- a rule's parts, with n levels around them, and whatever parts follow

@@ -7,9 +7,19 @@ use native.Mathlib.Nat.{le_refl}
 use native.Mathlib.Omega.{arith}
 use lib.ListN.{length}
 use Rattle.tables.specs.Lists.{◌>>=◌, ◌<|>◌}
-use Rattle.tables.specs.Values.{Comparison, Eq, Ne, And, Or, Quantifier, Some, All}
+use Rattle.tables.specs.declared.Comparison.{Comparison}
+use Rattle.tables.specs.declared.Comparison.TheVariants.{Eq, Ne}
+use Rattle.tables.specs.declared.Connective.TheVariants.{And, Or}
+use Rattle.tables.specs.declared.Quantifier.{Quantifier}
+use Rattle.tables.specs.declared.Quantifier.TheVariants.{Some, All}
 use Rattle.rule.specs.Tokens.{AND, OR, NOT, EXISTS, FROM, WHERE, Open, Close}
-use Rattle.rule.specs.Condition.{Unary, Not, From, Join, Apply, WrittenValue, Source, WrittenCondition}
+use Rattle.rule.specs.Condition.{Join, Apply, WrittenCondition}
+use Rattle.rule.specs.declared.Unary.{Unary}
+use Rattle.rule.specs.declared.Unary.TheVariants.{Not}
+use Rattle.rule.specs.declared.FromClause.{FromClause}
+use Rattle.rule.specs.declared.WrittenValue.{WrittenValue}
+use Rattle.rule.specs.declared.Source.{Source}
+use Rattle.rule.specs.declared.Word.TheVariants.{Close as CloseWord, And as AndWord, Or as OrWord, Not as NotWord}
 use Rattle.rule.specs.Grammar.{Tokens, IsValue, number, column, IsFrom, single, IsTruthTest, is_truth, is_not_truth, IsCondition, one_conjunction, joined_by_or, IsConjunction, one_factor, joined_by_and, IsFactor, not_factor, one_test, IsTest, bracketed, truth_tested_lem, exists, is_null, is_not_null, is_declined, is_not_declined, compared, some_of, all_of, is_in, not_in, IsList, list, Reads}
 use Rattle.rule.specs.Reader.{expect, read_value, Opening, Bracket, OfExists, OfList, closed, Start, Whole, Around, start_list, start, Goal, condition, conjunction, factor, test, more_or, more_and, Found, branch, started, ended, closing, read, depth_for, reading, at_end, read_all}
 use Rattle.rule.specs.Claims.{ReadingClaim}
@@ -50,7 +60,7 @@ test_right ts none inner r nothing = none_found
 test_right ts (some (Whole a rest)) inner r (whole t) = found t
 test_right ts (some (Around op us)) inner r (around h) =
     bind_ind (Right test ts) (inner us) (closing op) none_found
-    (λ x e. expect_at (λ vs o. IsCondition us x.0 vs → Right test ts o) (λ _ _. none_found) 14 (λ rest. ended op (closed op x.0) rest) (λ rest c. test_found (h x.0 rest c)) x.1 (met condition us x e (r us)))
+    (λ x e. expect_at (λ vs o. IsCondition us x.0 vs → Right test ts o) (λ _ _. none_found) CloseWord (λ rest. ended op (closed op x.0) rest) (λ rest c. test_found (h x.0 rest c)) x.1 (met condition us x e (r us)))
 
 sound : (d : ℕ) (g : Goal) (ts : Tokens) → Right g ts (read d g ts)
 unfolding read
@@ -59,7 +69,7 @@ sound (suc d) condition ts =
     bind_ind (Right condition ts) (read d conjunction ts) _ none_found
     (λ x e. carry condition (more_or x.0) ts x.1 (λ a rest m. m ts (one_conjunction (met conjunction ts x e (sound d conjunction ts)))) (sound d (more_or x.0) x.1))
 sound (suc d) (more_or b) ts =
-    branch_at (Right (more_or b)) 2 _ (λ us. some (b, us))
+    branch_at (Right (more_or b)) OrWord _ (λ us. some (b, us))
     (λ us. bind_ind (Right (more_or b) (OR ∷ us)) (read d conjunction us) _ none_found
     (λ x e. carry (more_or b) (more_or (Join Or b x.0)) (OR ∷ us) x.1 (λ a rest m before c. m before (joined_by_or c (met conjunction us x e (sound d conjunction us)))) (sound d (more_or (Join Or b x.0)) x.1)))
     (λ us. found (λ before c. c)) ts
@@ -67,12 +77,12 @@ sound (suc d) conjunction ts =
     bind_ind (Right conjunction ts) (read d factor ts) _ none_found
     (λ x e. carry conjunction (more_and x.0) ts x.1 (λ a rest m. m ts (one_factor (met factor ts x e (sound d factor ts)))) (sound d (more_and x.0) x.1))
 sound (suc d) (more_and b) ts =
-    branch_at (Right (more_and b)) 1 _ (λ us. some (b, us))
+    branch_at (Right (more_and b)) AndWord _ (λ us. some (b, us))
     (λ us. bind_ind (Right (more_and b) (AND ∷ us)) (read d factor us) _ none_found
     (λ x e. carry (more_and b) (more_and (Join And b x.0)) (AND ∷ us) x.1 (λ a rest m before c. m before (joined_by_and c (met factor us x e (sound d factor us)))) (sound d (more_and (Join And b x.0)) x.1)))
     (λ us. found (λ before c. c)) ts
 sound (suc d) factor ts =
-    branch_at (Right factor) 3 _ (λ us. read d test us)
+    branch_at (Right factor) NotWord _ (λ us. read d test us)
     (λ us. bind_ind (Right factor (NOT ∷ us)) (read d factor us) _ none_found (λ x e. found (not_factor (met factor us x e (sound d factor us)))))
     (λ us. carry factor test us us (λ a rest m. one_test m) (sound d test us)) ts
 sound (suc d) test ts = test_right ts (start ts) (λ us. read d condition us) (λ us. sound d condition us) (start_promised ts)
@@ -84,7 +94,7 @@ value_inside : {ts rest : Tokens} {v : WrittenValue} → IsValue ts v rest → l
 value_inside number = omega arith
 value_inside column = omega arith
 
-from_inside : {ts rest : Tokens} {f : From Source} → IsFrom ts f rest → length rest ≤ length ts
+from_inside : {ts rest : Tokens} {f : FromClause Source} → IsFrom ts f rest → length rest ≤ length ts
 from_inside single = omega arith
 
 truth_inside : {ts rest : Tokens} {u : Unary} → IsTruthTest ts u rest → length rest ≤ length ts
@@ -118,7 +128,7 @@ mutual
   test_inside (is_in v r) = omega (arith, value_inside v, list_inside r)
   test_inside (not_in v r) = omega (arith, value_inside v, list_inside r)
 
-  list_inside : {ts rest : Tokens} {s : WrittenValue} {f : From Source} {w : WrittenCondition} → IsList ts s f w rest → length rest ≤ length ts
+  list_inside : {ts rest : Tokens} {s : WrittenValue} {f : FromClause Source} {w : WrittenCondition} → IsList ts s f w rest → length rest ≤ length ts
   list_inside (list v f r) = omega (arith, value_inside v, from_inside f, condition_inside r)
 
 module _ (d : ℕ) (ts : Tokens) (x : WrittenCondition × Tokens) where
@@ -237,7 +247,7 @@ module _ {a : WrittenCondition} {rest : Tokens} where
       ap (λ (o : Option Start). started o (λ op' vs. read d condition vs >>= closing op')) e ∙ ap (◌>>= closing op) (r d (omega arith))
 
 -- a list, read: its start, and its WHERE
-record ListRead (ts : Tokens) (s : WrittenValue) (f : From Source) (w : WrittenCondition) (rest : Tokens) : Type 0 where
+record ListRead (ts : Tokens) (s : WrittenValue) (f : FromClause Source) (w : WrittenCondition) (rest : Tokens) : Type 0 where
   inner : Tokens
   shorter : length inner ≤ length ts
   begins : (q : Quantifier) (op : Comparison) (l : WrittenValue) → start_list q op l ts ≡ some (Around (OfList q op l s f) inner)
@@ -251,7 +261,7 @@ bracket_start : (ts : Tokens) → start (Open ∷ ts) ≡ some (Around Bracket t
 unfolding start expect
 bracket_start ts = refl
 
-exists_start : {ts us : Tokens} {f : From Source} → IsFrom ts f (WHERE ∷ us) → start (EXISTS ∷ Open ∷ FROM ∷ ts) ≡ some (Around (OfExists f) us)
+exists_start : {ts us : Tokens} {f : FromClause Source} → IsFrom ts f (WHERE ∷ us) → start (EXISTS ∷ Open ∷ FROM ∷ ts) ≡ some (Around (OfExists f) us)
 unfolding start expect read_value
 exists_start is = ap (λ o. (o >>= (λ f. some (Around (OfExists f.0) f.1))) <|> none) (from_found is)
 
@@ -292,7 +302,7 @@ mutual
       let q = list_read r in
       around_step d (OfList All Ne l s f) ts q.inner h (omega (arith, q.shorter, value_inside v)) (not_in_found (q.begins All Ne l) v) q.reads
 
-  list_read : {ts rest : Tokens} {s : WrittenValue} {f : From Source} {w : WrittenCondition} → IsList ts s f w rest → ListRead ts s f w rest
+  list_read : {ts rest : Tokens} {s : WrittenValue} {f : FromClause Source} {w : WrittenCondition} → IsList ts s f w rest → ListRead ts s f w rest
   list_read (list {vs = vs} v is r) = record { inner = vs; shorter = omega (arith, value_inside v, from_inside is); begins = λ q op l. list_found q op l v is; reads = λ e g. closes (condition_goes r e g close_after) }
 
 -- ---- all the tokens

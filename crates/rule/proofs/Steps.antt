@@ -8,9 +8,18 @@ use native.Mathlib.Nat.{le_refl}
 use native.Mathlib.Omega.{arith}
 use lib.ListN.{length}
 use Rattle.tables.specs.Lists.{only, ◌>>=◌}
-use Rattle.tables.specs.Values.{Comparison, Eq, Ne, Connective, And, Or, Quantifier, Some, All}
-use Rattle.rule.specs.Tokens.{Token, is_fixed, Fixed, Compares, Letter, Number, AND, OR, NOT, EXISTS, IN, SOME, ALL, IS, NULL, DECLINED, SELECT, FROM, WHERE, Open, Point}
-use Rattle.rule.specs.Condition.{Not, Join, Apply, WrittenValue, WrittenCondition}
+use Rattle.tables.specs.declared.Comparison.{Comparison}
+use Rattle.tables.specs.declared.Comparison.TheVariants.{Eq, Ne}
+use Rattle.tables.specs.declared.Connective.{Connective}
+use Rattle.tables.specs.declared.Connective.TheVariants.{And, Or}
+use Rattle.tables.specs.declared.Quantifier.{Quantifier}
+use Rattle.tables.specs.declared.Quantifier.TheVariants.{Some, All}
+use Rattle.rule.specs.Tokens.{is_fixed, AND, OR, NOT, EXISTS, IN, SOME, ALL, IS, NULL, DECLINED, SELECT, FROM, WHERE, Open, Point}
+use Rattle.rule.specs.declared.Token.{Token}
+use Rattle.rule.specs.declared.Token.TheVariants.{Fixed, Compares, Letter, Number}
+use Rattle.rule.specs.Condition.{Join, Apply, WrittenCondition}
+use Rattle.rule.specs.declared.Unary.TheVariants.{Not}
+use Rattle.rule.specs.declared.WrittenValue.{WrittenValue}
 use Rattle.rule.specs.Grammar.{Tokens}
 use Rattle.rule.specs.Reader.{expect, read_number, read_letter, read_comparison, read_value, read_from, Opening, Start, Whole, Around, start_list, start_value, start, Goal, condition, conjunction, factor, test, more_or, more_and, chain, operand, more, join_word, Found, branch, started, closing, read, depth_for, reading, at_end, read_all}
 use Rattle.rule.proofs.Found.{bind_ind, or_ind}

@@ -5,10 +5,20 @@ use mathlib.Core.List.{List, [], ◌∷◌, ◌++◌}
 use Prim.Native.Nat.{ℕ, ◌+◌, ◌*◌, ◌≤◌, ◌<◌}
 use native.Mathlib.Omega.{arith}
 use borrow.Author.Tests.{leb-true, leb-false, le-leb, lt-leb}
-use Rattle.tables.specs.Values.{most_entries, Connective, And, Or, Some, All, Null, NotNull, IsDeclined, NotDeclined}
-use Rattle.rule.specs.Truth.{Truth, False, Unknown, True}
-use Rattle.rule.specs.Condition.{Compare, Mark, Unary, Not, Is, IsNot, Single, Atom, Join, Apply, Exists, Listed, Rule, parts}
-use Rattle.rule.specs.Parts.{UnaryHead, unary_kind, list_kind, part_of, parts_from}
+use Rattle.tables.specs.Values.{most_entries}
+use Rattle.tables.specs.declared.Connective.{Connective}
+use Rattle.tables.specs.declared.Connective.TheVariants.{And, Or}
+use Rattle.tables.specs.declared.Quantifier.TheVariants.{Some, All}
+use Rattle.tables.specs.declared.MarkTest.TheVariants.{Null, NotNull, IsDeclined, NotDeclined}
+use Rattle.rule.specs.declared.Truth.{Truth}
+use Rattle.rule.specs.declared.Truth.TheVariants.{False, Unknown, True}
+use Rattle.rule.specs.Condition.{Atom, Join, Apply, Exists, Listed, Rule, parts}
+use Rattle.rule.specs.declared.Test.TheVariants.{Compare, Mark}
+use Rattle.rule.specs.declared.Unary.{Unary}
+use Rattle.rule.specs.declared.Unary.TheVariants.{Not, Is, IsNot}
+use Rattle.rule.specs.declared.FromClause.TheVariants.{Single}
+use Rattle.rule.specs.Parts.{unary_kind, list_kind, part_of, parts_from}
+use Rattle.rule.specs.declared.Head.TheVariants.{UnaryHead}
 use Rattle.rule.specs.declared.Part.{Part}
 use Rattle.rule.specs.Sum.{unary_sum, entry_sum, of_kind, without_entry, of_lists, unary_again, used_again, published_sum, sum_fits}
 use Rattle.rule.specs.Claims.{PublishedSumClaim}

@@ -3,8 +3,10 @@ use mathlib.Core.Path.{◌≡◌, refl}
 use mathlib.Core.Bool.{Bool, true, false, cond}
 use mathlib.Core.List.{List, ◌∷◌}
 use Rattle.tables.specs.Lists.{any}
-use Rattle.tables.specs.Values.{Some, All}
-use Rattle.rule.specs.Truth.{Truth, False, Unknown, True, is_true, is_false, is_unknown, and3, or3}
+use Rattle.tables.specs.declared.Quantifier.TheVariants.{Some, All}
+use Rattle.rule.specs.Truth.{is_true, is_false, is_unknown, and3, or3}
+use Rattle.rule.specs.declared.Truth.{Truth}
+use Rattle.rule.specs.declared.Truth.TheVariants.{False, Unknown, True}
 use Rattle.rule.specs.Meaning.{over3}
 
 -- SOME is OR over its rows, ALL is AND

@@ -12,7 +12,9 @@ use Rattle.rule.specs.Names.{limits_fit, outermost, rule_in}
 use Rattle.rule.specs.Parts.{parts_of}
 use Rattle.rule.specs.Sum.{sum_fits}
 use Rattle.rule.specs.declared.Part.{Part}
-use Rattle.rule.specs.Truth.{Truth, Unknown, is_true}
+use Rattle.rule.specs.Truth.{is_true}
+use Rattle.rule.specs.declared.Truth.{Truth}
+use Rattle.rule.specs.declared.Truth.TheVariants.{Unknown}
 use Rattle.rule.specs.Meaning.{judged}
 
 -- how long a text may be; refusal 3

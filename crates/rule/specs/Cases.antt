@@ -7,12 +7,18 @@ use Rattle.tables.specs.Bytes.{bytes32}
 use Rattle.tables.specs.Cases.{Edge, ◌refused◌, accepted}
 use Rattle.tables.specs.Refusals.{Answer, Given, first_applying, Lent}
 use Rattle.tables.specs.Tables.{Cell, Blank, Declined, Present}
-use Rattle.tables.specs.Values.{Eq, Ne, Lt, Le, Gt, Ge, MarkTest, Null, NotNull, IsDeclined, NotDeclined}
-use Rattle.rule.specs.Tokens.{bytes, Token, Fixed, Compares, Letter, Number}
+use Rattle.tables.specs.declared.Comparison.TheVariants.{Eq, Ne, Lt, Le, Gt, Ge}
+use Rattle.tables.specs.declared.MarkTest.{MarkTest}
+use Rattle.tables.specs.declared.MarkTest.TheVariants.{Null, NotNull, IsDeclined, NotDeclined}
+use Rattle.rule.specs.Tokens.{bytes, AND, OR, NOT, EXISTS, IN, SOME, ALL, IS, NULL, SELECT, FROM, WHERE, Open, Close, Point, TRUE, FALSE, UNKNOWN, DECLINED}
+use Rattle.rule.specs.declared.Token.{Token}
+use Rattle.rule.specs.declared.Token.TheVariants.{Compares, Letter, Number}
 use Rattle.rule.specs.declared.TaggedValue.{TaggedValue}
 use Rattle.rule.specs.declared.Part.{Part}
-use Rattle.rule.specs.Truth.{Truth, False, Unknown, True}
-use Rattle.rule.specs.Condition.{Unary, Is, IsNot}
+use Rattle.rule.specs.declared.Truth.{Truth}
+use Rattle.rule.specs.declared.Truth.TheVariants.{False, Unknown, True}
+use Rattle.rule.specs.declared.Unary.{Unary}
+use Rattle.rule.specs.declared.Unary.TheVariants.{Is, IsNot}
 use Rattle.rule.specs.Calls.{reading_refusals, read_call, judge_call}
 
 -- the three tables of the proved cases; the value bytes of the two blank cells are 7 and 9, since they may be anything
@@ -326,9 +332,9 @@ every_word = bytes "AND OR NOT EXISTS IN SOME ALL IS NULL SELECT FROM WHERE ( ) 
 
 abbrev pub every_token : List Token
 every_token =
-    Fixed 1 ∷ Fixed 2 ∷ Fixed 3 ∷ Fixed 4 ∷ Fixed 5 ∷ Fixed 6 ∷ Fixed 7 ∷ Fixed 8 ∷ Fixed 9 ∷ Fixed 10 ∷ Fixed 11 ∷ Fixed 12
-    ∷ Fixed 13 ∷ Fixed 14 ∷ Fixed 15 ∷ Compares Eq ∷ Compares Ne ∷ Compares Lt ∷ Compares Le ∷ Compares Gt ∷ Compares Ge
-    ∷ Letter 97 ∷ Letter 122 ∷ Number (pos 0) ∷ Number (negsuc 0) ∷ Fixed 16 ∷ Fixed 17 ∷ Fixed 18 ∷ Fixed 19 ∷ []
+    AND ∷ OR ∷ NOT ∷ EXISTS ∷ IN ∷ SOME ∷ ALL ∷ IS ∷ NULL ∷ SELECT ∷ FROM ∷ WHERE
+    ∷ Open ∷ Close ∷ Point ∷ Compares Eq ∷ Compares Ne ∷ Compares Lt ∷ Compares Le ∷ Compares Gt ∷ Compares Ge
+    ∷ Letter 97 ∷ Letter 122 ∷ Number (pos 0) ∷ Number (negsuc 0) ∷ TRUE ∷ FALSE ∷ UNKNOWN ∷ DECLINED ∷ []
 
 -- ---- texts at the edges of the refusals, with the tables above
 

@@ -4,11 +4,22 @@ use mathlib.Core.List.{List, [], ◌∷◌, ◌++◌, map, Memᴰ}
 use Rattle.std.proofs.Math.Option.{none, some}
 use Rattle.tables.specs.Tables.{Cell, Declined, Tables, sizes_fit, marks_fit, columns_of, row_count, tables_of}
 use Rattle.tables.specs.Refusals.{Refused, Given, numbers, first_applying, lend_refusals}
-use Rattle.tables.specs.Values.{Value, Constant, Column, Comparison, Connective, And, Or, MarkTest, Null, NotNull, IsDeclined, NotDeclined, Env, most_entries, judged_levels}
+use Rattle.tables.specs.Values.{Env, most_entries, judged_levels}
+use Rattle.tables.specs.declared.Value.{Value}
+use Rattle.tables.specs.declared.Value.TheVariants.{Constant, Column}
+use Rattle.tables.specs.declared.Comparison.{Comparison}
+use Rattle.tables.specs.declared.Connective.{Connective}
+use Rattle.tables.specs.declared.Connective.TheVariants.{And, Or}
+use Rattle.tables.specs.declared.MarkTest.{MarkTest}
+use Rattle.tables.specs.declared.MarkTest.TheVariants.{Null, NotNull, IsDeclined, NotDeclined}
 use Rattle.tables.specs.Claims.{as_blank, tables_as_blank}
 use Rattle.rule.specs.Tokens.{tokens_of, opens_fit}
-use Rattle.rule.specs.Truth.{Truth, False, Unknown, True, truth_number, is_unknown, not3, and3, or3, join3, deciding}
-use Rattle.rule.specs.Condition.{Compare, Mark, Not, Is, IsNot, Atom, Join, Apply, WrittenCondition, Rule, parts, froms_deep}
+use Rattle.rule.specs.Truth.{truth_number, is_unknown, not3, and3, or3, join3, deciding}
+use Rattle.rule.specs.declared.Truth.{Truth}
+use Rattle.rule.specs.declared.Truth.TheVariants.{False, Unknown, True}
+use Rattle.rule.specs.Condition.{Atom, Join, Apply, WrittenCondition, Rule, parts, froms_deep}
+use Rattle.rule.specs.declared.Test.TheVariants.{Compare, Mark}
+use Rattle.rule.specs.declared.Unary.TheVariants.{Not, Is, IsNot}
 use Rattle.rule.specs.Grammar.{Tokens, Reads}
 use Rattle.rule.specs.Reader.{read_all}
 use Rattle.rule.specs.Names.{most_parts, most_froms, outermost, rule_in, Fits, Scoped}

@@ -2,10 +2,26 @@
 -- for declined cells of Point 4.
 -- `IsFactor ts a rest`: the tokens ts begin with a factor, which reads as a, and the tokens rest come after it.
 use Rattle.std.specs.Prelude.{List, [], ◌∷◌, ℕ, ℤ}
-use Rattle.tables.specs.Values.{Comparison, Eq, Ne, And, Or, Some, All, Null, NotNull, IsDeclined, NotDeclined}
-use Rattle.rule.specs.Tokens.{Token, Compares, Letter, Number, AND, OR, NOT, EXISTS, IN, SOME, ALL, IS, NULL, SELECT, FROM, WHERE, Open, Close, Point, TRUE, FALSE, UNKNOWN, DECLINED}
-use Rattle.rule.specs.Truth.{Truth, False, Unknown, True}
-use Rattle.rule.specs.Condition.{Compare, Mark, Unary, Not, Is, IsNot, From, Single, Atom, Join, Apply, Exists, Listed, WrittenValue, Plain, Named, Source, Over, WrittenCondition}
+use Rattle.tables.specs.declared.Comparison.{Comparison}
+use Rattle.tables.specs.declared.Comparison.TheVariants.{Eq, Ne}
+use Rattle.tables.specs.declared.Connective.TheVariants.{And, Or}
+use Rattle.tables.specs.declared.Quantifier.TheVariants.{Some, All}
+use Rattle.tables.specs.declared.MarkTest.TheVariants.{Null, NotNull, IsDeclined, NotDeclined}
+use Rattle.rule.specs.Tokens.{AND, OR, NOT, EXISTS, IN, SOME, ALL, IS, NULL, SELECT, FROM, WHERE, Open, Close, Point, TRUE, FALSE, UNKNOWN, DECLINED}
+use Rattle.rule.specs.declared.Token.{Token}
+use Rattle.rule.specs.declared.Token.TheVariants.{Compares, Letter, Number}
+use Rattle.rule.specs.declared.Truth.{Truth}
+use Rattle.rule.specs.declared.Truth.TheVariants.{False, Unknown, True}
+use Rattle.rule.specs.Condition.{Atom, Join, Apply, Exists, Listed, WrittenCondition}
+use Rattle.rule.specs.declared.Test.TheVariants.{Compare, Mark}
+use Rattle.rule.specs.declared.Unary.{Unary}
+use Rattle.rule.specs.declared.Unary.TheVariants.{Not, Is, IsNot}
+use Rattle.rule.specs.declared.FromClause.{FromClause}
+use Rattle.rule.specs.declared.FromClause.TheVariants.{Single}
+use Rattle.rule.specs.declared.WrittenValue.{WrittenValue}
+use Rattle.rule.specs.declared.WrittenValue.TheVariants.{Plain, Named}
+use Rattle.rule.specs.declared.Source.{Source}
+use Rattle.rule.specs.declared.Source.TheVariants.{Over}
 
 abbrev pub Tokens : Type 0
 Tokens = List Token
@@ -18,7 +34,7 @@ pub data IsValue : Tokens → WrittenValue → Tokens → Type 0 where
   column : {x : ℕ} {n : ℤ} {rest : Tokens} → IsValue (Letter x ∷ Point ∷ Number n ∷ rest) (Named x n) rest
 
 -- what stands between FROM and WHERE, which the paper writes out in EXISTS and in a list alike: a table under a letter
-pub data IsFrom : Tokens → From Source → Tokens → Type 0 where
+pub data IsFrom : Tokens → FromClause Source → Tokens → Type 0 where
   -- number letter
   single : {n : ℤ} {x : ℕ} {rest : Tokens} → IsFrom (Number n ∷ Letter x ∷ rest) (Single (Over n x)) rest
 
@@ -67,7 +83,7 @@ mutual
     -- ( condition ) truth test
     truth_tested_lem : {ts us rest : Tokens} {u : Unary} {a : WrittenCondition} → IsCondition ts a (Close ∷ us) → IsTruthTest us u rest → IsTest (Open ∷ ts) (Apply u a) rest
     -- EXISTS ( FROM number letter WHERE condition )
-    exists : {ts us rest : Tokens} {f : From Source} {w : WrittenCondition}
+    exists : {ts us rest : Tokens} {f : FromClause Source} {w : WrittenCondition}
         → IsFrom ts f (WHERE ∷ us) → IsCondition us w (Close ∷ rest) → IsTest (EXISTS ∷ Open ∷ FROM ∷ ts) (Exists f w) rest
     -- value IS NULL
     is_null : {ts rest : Tokens} {l : WrittenValue} → IsValue ts l (IS ∷ NULL ∷ rest) → IsTest ts (Atom (Mark Null l)) rest
@@ -81,23 +97,23 @@ mutual
     compared : {ts us rest : Tokens} {op : Comparison} {l r : WrittenValue}
         → IsValue ts l (Compares op ∷ us) → IsValue us r rest → IsTest ts (Atom (Compare op l r)) rest
     -- value comparison SOME list
-    some_of : {ts us rest : Tokens} {op : Comparison} {l s : WrittenValue} {f : From Source} {w : WrittenCondition}
+    some_of : {ts us rest : Tokens} {op : Comparison} {l s : WrittenValue} {f : FromClause Source} {w : WrittenCondition}
         → IsValue ts l (Compares op ∷ SOME ∷ us) → IsList us s f w rest → IsTest ts (Listed Some op l s f w) rest
     -- value comparison ALL list
-    all_of : {ts us rest : Tokens} {op : Comparison} {l s : WrittenValue} {f : From Source} {w : WrittenCondition}
+    all_of : {ts us rest : Tokens} {op : Comparison} {l s : WrittenValue} {f : FromClause Source} {w : WrittenCondition}
         → IsValue ts l (Compares op ∷ ALL ∷ us) → IsList us s f w rest → IsTest ts (Listed All op l s f w) rest
     -- value IN list
-    is_in : {ts us rest : Tokens} {l s : WrittenValue} {f : From Source} {w : WrittenCondition}
+    is_in : {ts us rest : Tokens} {l s : WrittenValue} {f : FromClause Source} {w : WrittenCondition}
         → IsValue ts l (IN ∷ us) → IsList us s f w rest → IsTest ts (Listed Some Eq l s f w) rest
     -- value NOT IN list
-    not_in : {ts us rest : Tokens} {l s : WrittenValue} {f : From Source} {w : WrittenCondition}
+    not_in : {ts us rest : Tokens} {l s : WrittenValue} {f : FromClause Source} {w : WrittenCondition}
         → IsValue ts l (NOT ∷ IN ∷ us) → IsList us s f w rest → IsTest ts (Listed All Ne l s f w) rest
 
   -- list: a selected value, a FROM and a condition, in brackets.
   -- `IsList ts s f w rest`: the list selects s, its FROM is f and its WHERE is w.
-  pub data IsList : Tokens → WrittenValue → From Source → WrittenCondition → Tokens → Type 0 where
+  pub data IsList : Tokens → WrittenValue → FromClause Source → WrittenCondition → Tokens → Type 0 where
     -- ( SELECT value FROM number letter WHERE condition )
-    list : {ts us vs rest : Tokens} {v : WrittenValue} {f : From Source} {w : WrittenCondition}
+    list : {ts us vs rest : Tokens} {v : WrittenValue} {f : FromClause Source} {w : WrittenCondition}
         → IsValue ts v (FROM ∷ us) → IsFrom us f (WHERE ∷ vs) → IsCondition vs w (Close ∷ rest) → IsList (Open ∷ SELECT ∷ ts) v f w rest
 
 -- the whole of some tokens is a condition

@@ -1,8 +1,12 @@
 -- The kinds of parts by groups, for what functions require of the number of a kind. The contract of a public call cites nothing of this file.
 use Rattle.std.specs.Prelude.{◌≡◌, ◌⊎◌, ℕ}
-use Rattle.tables.specs.Values.{Connective, Quantifier, MarkTest, NotDeclined}
-use Rattle.rule.specs.Truth.{Unknown}
-use Rattle.rule.specs.Condition.{Unary, Is, IsNot}
+use Rattle.tables.specs.declared.Connective.{Connective}
+use Rattle.tables.specs.declared.Quantifier.{Quantifier}
+use Rattle.tables.specs.declared.MarkTest.{MarkTest}
+use Rattle.tables.specs.declared.MarkTest.TheVariants.{NotDeclined}
+use Rattle.rule.specs.declared.Truth.TheVariants.{Unknown}
+use Rattle.rule.specs.declared.Unary.{Unary}
+use Rattle.rule.specs.declared.Unary.TheVariants.{Is, IsNot}
 use Rattle.rule.specs.Parts.{Kind, kind_number, join_kind, unary_kind, compare_kind, mark_kind, exists_kind, list_kind}
 
 -- the number of a kind

@@ -2,9 +2,21 @@
 use Rattle.std.specs.Prelude.{cond, not, List, map, ℕ}
 use Rattle.tables.specs.Lists.{any, keep, is_there_one}
 use Rattle.tables.specs.Tables.{Cell, Tables, rows_of}
-use Rattle.tables.specs.Values.{Value, Comparison, holds, Quantifier, Some, All, Env, judged_row, ◌▸◌, cell_of, by_numbers, mark_passes}
-use Rattle.rule.specs.Truth.{Truth, False, Unknown, True, truth, is_true, is_unknown, is_false, is_that, not3, join3}
-use Rattle.rule.specs.Condition.{Test, Compare, Mark, Unary, Not, Is, IsNot, From, Single, Atom, Join, Apply, Exists, Listed, Rule}
+use Rattle.tables.specs.Values.{holds, Env, judged_row, ◌▸◌, cell_of, by_numbers, mark_passes}
+use Rattle.tables.specs.declared.Value.{Value}
+use Rattle.tables.specs.declared.Comparison.{Comparison}
+use Rattle.tables.specs.declared.Quantifier.{Quantifier}
+use Rattle.tables.specs.declared.Quantifier.TheVariants.{Some, All}
+use Rattle.rule.specs.Truth.{truth, is_true, is_unknown, is_false, is_that, not3, join3}
+use Rattle.rule.specs.declared.Truth.{Truth}
+use Rattle.rule.specs.declared.Truth.TheVariants.{False, Unknown, True}
+use Rattle.rule.specs.Condition.{Atom, Join, Apply, Exists, Listed, Rule}
+use Rattle.rule.specs.declared.Test.{Test}
+use Rattle.rule.specs.declared.Test.TheVariants.{Compare, Mark}
+use Rattle.rule.specs.declared.Unary.{Unary}
+use Rattle.rule.specs.declared.Unary.TheVariants.{Not, Is, IsNot}
+use Rattle.rule.specs.declared.FromClause.{FromClause}
+use Rattle.rule.specs.declared.FromClause.TheVariants.{Single}
 
 -- what NOT makes of a value; and a truth test, of which 'the outcome is never unknown, as in SQL-92' (TruthTestsClaim)
 abbrev pub unary3 : Unary → Truth → Truth
@@ -33,7 +45,7 @@ over3 Some vs = cond (any is_true vs) True (cond (any is_unknown vs) Unknown Fal
 over3 All vs = cond (any is_false vs) False (cond (any is_unknown vs) Unknown True)
 
 -- what a FROM ranges over: for each row of its table, the levels around it and one more, at that row
-abbrev pub ranged : Tables → Env → From ℕ → List Env
+abbrev pub ranged : Tables → Env → FromClause ℕ → List Env
 ranged ts env (Single t) = map (λ row. env ▸ row) (rows_of ts t)
 
 -- 'a subquery retains the rows whose WHERE is true': those of a range at which what is asked of each is true

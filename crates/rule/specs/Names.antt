@@ -3,8 +3,17 @@ use Rattle.std.specs.Prelude.{Bool, true, false, ◌&&◌, List, [], ◌∷◌, 
 use Rattle.std.proofs.Math.Option.{Option, none, some}
 use Rattle.tables.specs.Lists.{numbered, only, ◌>>=◌}
 use Rattle.tables.specs.Bytes.{between, in_range}
-use Rattle.tables.specs.Values.{Value, Constant, Column}
-use Rattle.rule.specs.Condition.{Test, Compare, Mark, From, Single, Atom, Join, Apply, Exists, Listed, WrittenValue, Plain, Named, Source, Over, WrittenCondition, Rule, parts, letters, froms_deep}
+use Rattle.tables.specs.declared.Value.{Value}
+use Rattle.tables.specs.declared.Value.TheVariants.{Constant, Column}
+use Rattle.rule.specs.Condition.{Atom, Join, Apply, Exists, Listed, WrittenCondition, Rule, parts, letters, froms_deep}
+use Rattle.rule.specs.declared.Test.{Test}
+use Rattle.rule.specs.declared.Test.TheVariants.{Compare, Mark}
+use Rattle.rule.specs.declared.FromClause.{FromClause}
+use Rattle.rule.specs.declared.FromClause.TheVariants.{Single}
+use Rattle.rule.specs.declared.WrittenValue.{WrittenValue}
+use Rattle.rule.specs.declared.WrittenValue.TheVariants.{Plain, Named}
+use Rattle.rule.specs.declared.Source.{Source}
+use Rattle.rule.specs.declared.Source.TheVariants.{Over}
 
 -- ---- refusal 7: the limits
 
@@ -68,7 +77,7 @@ module _ (columns : List ℕ) where
   test_in scope (Mark m l) = value_in scope l >>= (λ x. some (Mark m x))
 
   -- a FROM, if its table exists: what it says in a rule, and the scope of its WHERE and its SELECT
-  unfoldable pub from_in : Scope → From Source → Option (From ℕ × Scope)
+  unfoldable pub from_in : Scope → FromClause Source → Option (FromClause ℕ × Scope)
   from_in scope (Single (Over n x)) = existing (length columns) n >>= (λ t. some (Single t, bound scope x t))
 
   -- the rule that a written condition stands for; the value left of a list is looked up outside the list's FROM
@@ -84,7 +93,7 @@ module _ (columns : List ℕ) where
 -- ---- what a rule names exists
 
 -- the table of each level, level 0 first, inside a FROM: one more for each of its letters
-abbrev pub within : List ℕ → From ℕ → List ℕ
+abbrev pub within : List ℕ → FromClause ℕ → List ℕ
 within levels (Single t) = levels ++ (t ∷ [])
 
 module _ (columns : List ℕ) where
@@ -98,7 +107,7 @@ module _ (columns : List ℕ) where
   TestFits levels (Mark m l) = ValueFits levels l
 
   -- an existing table
-  abbrev pub FromFits : From ℕ → Type 0
+  abbrev pub FromFits : FromClause ℕ → Type 0
   FromFits (Single t) = T (between 1 (length columns) t)
 
   unfoldable pub Fits : List ℕ → Rule → Type 0

@@ -3,11 +3,28 @@
 use Rattle.std.specs.Prelude.{Bool, true, false, cond, ◌||◌, List, [], ◌∷◌, ◌++◌, ℕ, ◌+◌, eqb, ℤ, pos, negsuc}
 use Rattle.std.proofs.Math.Option.{Option, none, some}
 use Rattle.tables.specs.Lists.{numbered, any}
-use Rattle.tables.specs.Values.{constant_tag, Value, Constant, Column, unused_value, any_value, Uses, Comparison, Eq, comparison_number, comparison_of, Connective, And, Or, Quantifier, Some, All, MarkTest, Null, NotNull, IsDeclined, NotDeclined}
+use Rattle.tables.specs.Values.{constant_tag, unused_value, any_value, Uses, comparison_number, comparison_of}
+use Rattle.tables.specs.declared.Value.{Value}
+use Rattle.tables.specs.declared.Value.TheVariants.{Constant, Column}
+use Rattle.tables.specs.declared.Comparison.{Comparison}
+use Rattle.tables.specs.declared.Comparison.TheVariants.{Eq}
+use Rattle.tables.specs.declared.Connective.{Connective}
+use Rattle.tables.specs.declared.Connective.TheVariants.{And, Or}
+use Rattle.tables.specs.declared.Quantifier.{Quantifier}
+use Rattle.tables.specs.declared.Quantifier.TheVariants.{Some, All}
+use Rattle.tables.specs.declared.MarkTest.{MarkTest}
+use Rattle.tables.specs.declared.MarkTest.TheVariants.{Null, NotNull, IsDeclined, NotDeclined}
 use Rattle.rule.specs.declared.TaggedValue.{TaggedValue}
 use Rattle.rule.specs.declared.Part.{Part}
-use Rattle.rule.specs.Truth.{False, Unknown, True}
-use Rattle.rule.specs.Condition.{Test, Compare, Mark, Unary, Not, Is, IsNot, From, Single, Atom, Join, Apply, Exists, Listed, Rule, parts}
+use Rattle.rule.specs.declared.Head.{Head as HeadOver}
+use Rattle.rule.specs.declared.Head.TheVariants.{AtomHead, JoinHead, UnaryHead, ExistsHead, ListedHead}
+use Rattle.rule.specs.declared.Truth.TheVariants.{False, Unknown, True}
+use Rattle.rule.specs.Condition.{Atom, Join, Apply, Exists, Listed, Rule, parts}
+use Rattle.rule.specs.declared.Test.TheVariants.{Compare, Mark}
+use Rattle.rule.specs.declared.Unary.{Unary}
+use Rattle.rule.specs.declared.Unary.TheVariants.{Not, Is, IsNot}
+use Rattle.rule.specs.declared.FromClause.{FromClause}
+use Rattle.rule.specs.declared.FromClause.TheVariants.{Single}
 
 -- 'a value is a tag (255 constant, else level 0 to 3) and a number'
 abbrev pub tagged_of : Value → TaggedValue
@@ -82,12 +99,8 @@ uses (ListKind q) = record { table = true; comparison = true; left = true; right
 
 -- ---- what a part says by itself
 
-pub data Head : Type 0 where
-  AtomHead : Test Value → Head
-  JoinHead : Connective → Head
-  UnaryHead : Unary → Head
-  ExistsHead : From ℕ → Head
-  ListedHead : Quantifier → Comparison → Value → Value → From ℕ → Head
+abbrev pub Head : Type 0
+Head = HeadOver Value ℕ
 
 abbrev pub kind_of : Head → Kind
 kind_of (AtomHead (Compare op l r)) = CompareKind
@@ -98,14 +111,14 @@ kind_of (ExistsHead f) = ExistsKind
 kind_of (ListedHead q op l s f) = ListKind q
 
 -- the table that a FROM names, and back
-abbrev pub table_of : From ℕ → ℕ
+abbrev pub table_of : FromClause ℕ → ℕ
 table_of (Single t) = t
 
-abbrev pub from_with : ℕ → From ℕ
+abbrev pub from_with : ℕ → FromClause ℕ
 from_with t = Single t
 
 -- 'unused fields are 0': the record of a part of this kind, with this end, and of comparison, FROM, left and right value what the kind uses
-abbrev pub part_with : Kind → ℕ → Comparison → From ℕ → Value → Value → Part
+abbrev pub part_with : Kind → ℕ → Comparison → FromClause ℕ → Value → Value → Part
 part_with k e op f l r = record {
   kind = kind_number k;
   comparison = cond (uses k).comparison (comparison_number op) 0;
@@ -116,7 +129,7 @@ part_with k e op f l r = record {
 }
 
 -- what stands for a FROM where the kind uses none, as Eq does for a comparison; it is not written
-abbrev pub any_from : From ℕ
+abbrev pub any_from : FromClause ℕ
 any_from = Single 1
 
 -- the record of a part by what it says; a list's right value is the selected one
@@ -161,7 +174,7 @@ abbrev pub value_of : TaggedValue → Value
 value_of f = cond (eqb f.tag constant_tag) (Constant f.number) (Column f.tag (natural_of f.number))
 
 -- what a part of this kind says with these fields
-abbrev pub head_with : Kind → Comparison → From ℕ → Value → Value → Head
+abbrev pub head_with : Kind → Comparison → FromClause ℕ → Value → Value → Head
 head_with (JoinKind j) op f l r = JoinHead j
 head_with (UnaryKind u) op f l r = UnaryHead u
 head_with CompareKind op f l r = AtomHead (Compare op l r)

@@ -3,10 +3,30 @@
 use Rattle.std.specs.Prelude.{[], ◌∷◌, ℕ, zero, suc, ◌+◌, ◌*◌, ℤ, length}
 use Rattle.std.proofs.Math.Option.{Option, none, some}
 use Rattle.tables.specs.Lists.{only, ◌>>=◌, ◌<|>◌}
-use Rattle.tables.specs.Values.{Comparison, Eq, Ne, Connective, And, Or, Quantifier, Some, All, Null, NotNull, IsDeclined, NotDeclined}
-use Rattle.rule.specs.Tokens.{Token, is_fixed, Fixed, Compares, Letter, Number, AND, OR, NOT, EXISTS, IN, SOME, ALL, IS, NULL, SELECT, FROM, WHERE, Open, Close, Point, TRUE, FALSE, UNKNOWN, DECLINED}
-use Rattle.rule.specs.Truth.{Truth, False, Unknown, True}
-use Rattle.rule.specs.Condition.{Compare, Mark, Unary, Not, Is, IsNot, From, Single, Atom, Join, Apply, Exists, Listed, WrittenValue, Plain, Named, Source, Over, WrittenCondition}
+use Rattle.tables.specs.declared.Comparison.{Comparison}
+use Rattle.tables.specs.declared.Comparison.TheVariants.{Eq, Ne}
+use Rattle.tables.specs.declared.Connective.{Connective}
+use Rattle.tables.specs.declared.Connective.TheVariants.{And, Or}
+use Rattle.tables.specs.declared.Quantifier.{Quantifier}
+use Rattle.tables.specs.declared.Quantifier.TheVariants.{Some, All}
+use Rattle.tables.specs.declared.MarkTest.TheVariants.{Null, NotNull, IsDeclined, NotDeclined}
+use Rattle.rule.specs.Tokens.{is_fixed, AND, OR, NOT, EXISTS, IN, SOME, ALL, IS, NULL, SELECT, FROM, WHERE, Open, Close, Point, TRUE, FALSE, UNKNOWN, DECLINED}
+use Rattle.rule.specs.declared.Token.{Token}
+use Rattle.rule.specs.declared.Token.TheVariants.{Fixed, Compares, Letter, Number}
+use Rattle.rule.specs.declared.Truth.{Truth}
+use Rattle.rule.specs.declared.Truth.TheVariants.{False, Unknown, True}
+use Rattle.rule.specs.Condition.{Atom, Join, Apply, Exists, Listed, WrittenCondition}
+use Rattle.rule.specs.declared.Test.TheVariants.{Compare, Mark}
+use Rattle.rule.specs.declared.Unary.{Unary}
+use Rattle.rule.specs.declared.Unary.TheVariants.{Not, Is, IsNot}
+use Rattle.rule.specs.declared.FromClause.{FromClause}
+use Rattle.rule.specs.declared.FromClause.TheVariants.{Single}
+use Rattle.rule.specs.declared.WrittenValue.{WrittenValue}
+use Rattle.rule.specs.declared.WrittenValue.TheVariants.{Plain, Named}
+use Rattle.rule.specs.declared.Source.{Source}
+use Rattle.rule.specs.declared.Source.TheVariants.{Over}
+use Rattle.rule.specs.declared.Word.{Word}
+use Rattle.rule.specs.declared.Word.TheVariants.{And as AndWord, Or as OrWord}
 use Rattle.rule.specs.Grammar.{Tokens}
 
 -- ---- one token
@@ -50,15 +70,15 @@ read_value (Letter x ∷ ts) = expect Point ts >>= (λ us. read_number us >>= (�
 read_value (Number n ∷ ts) = some (Plain n, ts)
 
 -- FROM number letter WHERE
-unfoldable pub read_from : Tokens → Option (From Source × Tokens)
+unfoldable pub read_from : Tokens → Option (FromClause Source × Tokens)
 read_from ts =
     expect FROM ts >>= (λ us. read_number us >>= (λ n. read_letter n.1 >>= (λ x. expect WHERE x.1 >>= (λ vs. some (Single (Over n.0 x.0), vs)))))
 
 -- what stands before the condition that a test holds
 pub data Opening : Type 0 where
   Bracket : Opening
-  OfExists : From Source → Opening
-  OfList : Quantifier → Comparison → WrittenValue → WrittenValue → From Source → Opening
+  OfExists : FromClause Source → Opening
+  OfList : Quantifier → Comparison → WrittenValue → WrittenValue → FromClause Source → Opening
 
 -- the test, once that condition is read
 abbrev pub closed : Opening → WrittenCondition → WrittenCondition
@@ -114,10 +134,10 @@ abbrev pub more : Connective → WrittenCondition → Goal
 more Or a = more_or a
 more And a = more_and a
 
--- the number of the word, AND or OR
-abbrev pub join_word : Connective → ℕ
-join_word Or = 2
-join_word And = 1
+-- the word, AND or OR
+abbrev pub join_word : Connective → Word
+join_word Or = OrWord
+join_word And = AndWord
 
 -- a reading, and the tokens after it
 abbrev pub Found : Type 0

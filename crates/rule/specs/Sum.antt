@@ -1,9 +1,13 @@
 -- Document 01, Card, with the truth tests of document 02, Point 1: how many entries the card of a rule has; and the sum that is published for it.
 use Rattle.std.specs.Prelude.{Bool, cond, List, [], ◌∷◌, ℕ, ◌+◌, ◌-◌, ◌*◌, eqb, leb, length}
-use Rattle.tables.specs.Values.{most_entries, Some, All}
+use Rattle.tables.specs.Values.{most_entries}
+use Rattle.tables.specs.declared.Quantifier.TheVariants.{Some, All}
 use Rattle.rule.specs.declared.Part.{Part}
-use Rattle.rule.specs.Truth.{Truth, False, Unknown, True}
-use Rattle.rule.specs.Condition.{Unary, Not, Is, IsNot, Atom, Join, Apply, Exists, Listed, Rule, letters}
+use Rattle.rule.specs.declared.Truth.{Truth}
+use Rattle.rule.specs.declared.Truth.TheVariants.{False, Unknown, True}
+use Rattle.rule.specs.Condition.{Atom, Join, Apply, Exists, Listed, Rule, letters}
+use Rattle.rule.specs.declared.Unary.{Unary}
+use Rattle.rule.specs.declared.Unary.TheVariants.{Not, Is, IsNot}
 use Rattle.rule.specs.Parts.{unary_kind, list_kind, parts_of}
 
 -- how many entries a truth test has with the n of the condition in it: IS UNKNOWN and IS NOT UNKNOWN 'use the inner condition twice, joined by one entry', so

@@ -1,11 +1,15 @@
 -- Document 01, Rule text: a text as a list of tokens, and refusals 4 and 5.
 use Rattle.std.specs.Prelude.{Bool, true, false, ◌&&◌, ◌||◌, List, [], ◌∷◌, ℕ, zero, suc, pred, eqb, ℤ, pos, negsuc, ◌+ℤ◌, length}
+use Rattle.rule.specs.declared.Token.{Token}
+use Rattle.rule.specs.declared.Token.TheVariants.{Fixed, Compares, Letter, Number}
+use Rattle.rule.specs.declared.Word.{Word}
+use Rattle.rule.specs.declared.Word.TheVariants.{And as AndWord, Or as OrWord, Not as NotWord, Exists as ExistsWord, In as InWord, Some as SomeWord, All as AllWord, Is as IsWord, Null as NullWord, Select as SelectWord, From as FromWord, Where as WhereWord, Open as OpenWord, Close as CloseWord, Point as PointWord, True as TrueWord, False as FalseWord, Unknown as UnknownWord, Declined as DeclinedWord}
 use Rattle.std.proofs.Math.Option.{Option, none, some, map}
 use Prim.Native.String.{String}
 use Rattle.std.specs.Int.Signed.{lt_z}
 use Rattle.tables.specs.Lists.{same}
 use Rattle.tables.specs.Bytes.{between}
-use Rattle.tables.specs.Values.{Comparison, Eq, Ne, Lt, Le, Gt, Ge}
+use Rattle.tables.specs.declared.Comparison.TheVariants.{Eq, Ne, Lt, Le, Gt, Ge}
 use Rattle.numerals.specs.Texts.{take_while}
 use Rattle.numerals.specs.Numerals.{is_digit, minus, first_number}
 -- quoted texts, for those who write a rule's text
@@ -13,78 +17,98 @@ unfoldable pub use Rattle.numerals.specs.Texts.{bytes}
 
 -- ---- the tokens
 
--- Fixed k: the word or sign that has the number k below. A letter is its byte.
-pub data Token : Type 0 where
-  Fixed : ℕ → Token
-  Compares : Comparison → Token
-  Letter : ℕ → Token
-  Number : ℤ → Token
+-- a word or a sign that is always written the same, a comparison, a letter, which is its byte, or a number: the enum `Token` of src/lib.rt
 
 abbrev pub AND : Token
-AND = Fixed 1
+AND = Fixed AndWord
 
 abbrev pub OR : Token
-OR = Fixed 2
+OR = Fixed OrWord
 
 abbrev pub NOT : Token
-NOT = Fixed 3
+NOT = Fixed NotWord
 
 abbrev pub EXISTS : Token
-EXISTS = Fixed 4
+EXISTS = Fixed ExistsWord
 
 abbrev pub IN : Token
-IN = Fixed 5
+IN = Fixed InWord
 
 abbrev pub SOME : Token
-SOME = Fixed 6
+SOME = Fixed SomeWord
 
 abbrev pub ALL : Token
-ALL = Fixed 7
+ALL = Fixed AllWord
 
 abbrev pub IS : Token
-IS = Fixed 8
+IS = Fixed IsWord
 
 abbrev pub NULL : Token
-NULL = Fixed 9
+NULL = Fixed NullWord
 
 abbrev pub SELECT : Token
-SELECT = Fixed 10
+SELECT = Fixed SelectWord
 
 abbrev pub FROM : Token
-FROM = Fixed 11
+FROM = Fixed FromWord
 
 abbrev pub WHERE : Token
-WHERE = Fixed 12
+WHERE = Fixed WhereWord
 
 abbrev pub Open : Token
-Open = Fixed 13
+Open = Fixed OpenWord
 
 abbrev pub Close : Token
-Close = Fixed 14
+Close = Fixed CloseWord
 
 abbrev pub Point : Token
-Point = Fixed 15
+Point = Fixed PointWord
 
 -- document 02, Point 1: 'the three become words'
 abbrev pub TRUE : Token
-TRUE = Fixed 16
+TRUE = Fixed TrueWord
 
 abbrev pub FALSE : Token
-FALSE = Fixed 17
+FALSE = Fixed FalseWord
 
 abbrev pub UNKNOWN : Token
-UNKNOWN = Fixed 18
+UNKNOWN = Fixed UnknownWord
 
 -- Point 4: 'DECLINED becomes a word'
 abbrev pub DECLINED : Token
-DECLINED = Fixed 19
+DECLINED = Fixed DeclinedWord
 
--- the token t is the one with the number k
-abbrev pub is_fixed : Token → ℕ → Bool
-is_fixed (Fixed n) k = eqb n k
-is_fixed (Compares op) k = false
-is_fixed (Letter x) k = false
-is_fixed (Number n) k = false
+-- numbers that tell the words and signs apart
+abbrev pub word_number : Word → ℕ
+word_number AndWord = 1
+word_number OrWord = 2
+word_number NotWord = 3
+word_number ExistsWord = 4
+word_number InWord = 5
+word_number SomeWord = 6
+word_number AllWord = 7
+word_number IsWord = 8
+word_number NullWord = 9
+word_number SelectWord = 10
+word_number FromWord = 11
+word_number WhereWord = 12
+word_number OpenWord = 13
+word_number CloseWord = 14
+word_number PointWord = 15
+word_number TrueWord = 16
+word_number FalseWord = 17
+word_number UnknownWord = 18
+word_number DeclinedWord = 19
+
+abbrev pub same_word : Word → Word → Bool
+same_word v w = eqb (word_number v) (word_number w)
+
+-- the token t is this word or sign
+abbrev pub is_fixed : Token → Word → Bool
+is_fixed (Fixed v) w = same_word v w
+is_fixed (Compares op) w = false
+is_fixed (Letter x) w = false
+is_fixed (Number n) w = false
 
 -- a token that is always written the same
 pub record Spelling : Type 0 where

@@ -1,10 +1,10 @@
 -- Document 01, Meaning: true, false and unknown, and what AND, OR and NOT make of them. Document 02, Point 1: which of them a truth test asks for; Point 3: their
 -- numbers.
 use Rattle.std.specs.Prelude.{Bool, true, false, ℕ}
-use Rattle.tables.specs.Values.{Connective, And, Or}
-
-pub data Truth : Type 0 where
-  False Unknown True : Truth
+use Rattle.tables.specs.declared.Connective.{Connective}
+use Rattle.tables.specs.declared.Connective.TheVariants.{And, Or}
+use Rattle.rule.specs.declared.Truth.{Truth}
+use Rattle.rule.specs.declared.Truth.TheVariants.{False, Unknown, True}
 
 abbrev pub truth : Bool → Truth
 truth true = True

@@ -1,145 +1,83 @@
--- What a number, a letter and a value stand for, from what the code finds.
-use mathlib.Core.Path.{◌≡◌, refl, sym, ap, ◌∙◌}
-use mathlib.Core.Bool.{Bool, true, false}
-use mathlib.Core.List.{List}
-use mathlib.Core.Option.{Option, none, some, map}
-use Prim.Native.Nat.{ℕ, zero, suc, ◌+◌, ◌*◌, ◌-◌, ◌<◌, ◌≤◌}
-use native.Mathlib.Omega.{arith}
-use borrow.Author.Tests.{ltb-false, lt-ltb, le-ltb, eq-eqb, ne_eqb}
-use lib.Dec.{ltb}
-use lib.ListN.{get_or}
-use Rattle.tables.specs.Lists.{numbered}
+-- What a letter, a value and a FROM stand for, from what the code finds.
+use Rattle.std.proofs.Common.{◌≡◌, ℕ, zero, suc, ◌-◌, ◌<◌, ◌≤◌, List, length, get_or, refl, sym, ap, ◌∙◌, arith}
+use Rattle.std.proofs.Math.Option.{Option, none, some}
+use mathlib.Core.Logic.{⊎_elim}
+use native.Mathlib.Nat.{eq-or-lt_of_le}
+use borrow.Author.Tests.{eq-eqb, ne_eqb}
+use lib.IntN.{ℤ}
+use Rattle.tables.specs.Lists.{numbered, ◌>>=◌}
 use Rattle.tables.specs.Tables.{table_count, size_at, columns_of}
-use Rattle.tables.specs.Values.{most_levels, constant_tag}
-use Rattle.tables.proofs.Tests.{between_yes, between_no}
-use Rattle.tables.proofs.Sizes.{column_at}
-use Rattle.cells.specs.Code.{excess_added, from_excess}
-use Rattle.cells.proofs.Signed.{to_from}
-use Rattle.rule.specs.Names.{nearest, existing, value_in}
-use Rattle.values.specs.declared.HeldValue.{HeldValue}
-use Rattle.phrases.specs.Code.{written_of}
-use Rattle.phrases.specs.declared.NotedValue.{NotedValue}
-use Rattle.scopes.specs.Code.{existing_as, binding_in, scope_in, NearestAt, value_held}
-
--- ---- tables and columns
-
-module _ (n most : ℕ) where
-  pub too_low : n ≤ excess_added → none ≡ existing most (from_excess n)
-  too_low h = go (ltb n excess_added) refl
-    where
-      go : (t : Bool) → ltb n excess_added ≡ t → none ≡ existing most (from_excess n)
-      go true e = rw e
-      go false e =
-          let l = ltb-false n excess_added e in
-          rw (e, between_no 1 most (n - excess_added) (λ p q. omega arith))
-
-  pub too_high : excess_added + most < n → none ≡ existing most (from_excess n)
-  too_high h = rw (le-ltb n excess_added (omega arith), between_no 1 most (n - excess_added) (λ p q. omega arith))
-
-  pub there_is : excess_added < n → n ≤ excess_added + most → existing_as (n - excess_added) ≡ existing most (from_excess n)
-  there_is h l =
-      rw (le-ltb n excess_added (omega arith), between_yes 1 most (n - excess_added) (omega arith) (omega arith)) (is_some (n - excess_added) (omega arith))
-    where
-      is_some : (k : ℕ) → 1 ≤ k → existing_as k ≡ some k
-      is_some zero p = absurd (omega arith)
-      is_some (suc k) p = refl
-
--- what was found is 0 for none
-pub none_there : (r : ℕ) {o : Option ℕ} → existing_as r ≡ o → r ≡ 0 → o ≡ none
-none_there zero e z = sym e
-none_there (suc r) e z = absurd (omega arith)
-
-pub some_there : (r : ℕ) {o : Option ℕ} → existing_as r ≡ o → (r ≡ 0 → ⊥) → o ≡ some r
-some_there zero e z = absurd (z refl)
-some_there (suc r) e z = sym e
+use Rattle.tables.specs.declared.Value.TheVariants.{Column}
+use Rattle.tables.proofs.Sizes.{columns_count, column_at}
+use Rattle.rule.specs.declared.FromClause.{FromClause}
+use Rattle.rule.specs.declared.FromClause.TheVariants.{Single}
+use Rattle.rule.specs.declared.Source.{Source}
+use Rattle.rule.specs.declared.Source.TheVariants.{Over}
+use Rattle.rule.specs.declared.WrittenValue.TheVariants.{Named}
+use Rattle.rule.specs.Names.{nearest, existing, value_in, from_in}
+use Rattle.scopes.specs.Code.{unbound, binding_in, levels_in, scope_in, binding, letter_in, ScopeFits}
+use Rattle.scopes.proofs.Scopes.{bound_is}
+use Rattle.scopes.specs.declared.Binding.{Binding}
+use Rattle.scopes.specs.declared.HeldScope.{HeldScope}
 
 -- ---- letters
 
-module _ (scope : List ℕ) (x : ℕ) where
-  -- the nearest level has the letter, or has another one
-  here : (k : ℕ) → get_or scope (2 * k) 0 ≡ x → nearest (scope_in scope (suc k)) x ≡ some (binding_in scope k)
-  unfolding scope_in nearest
-  here k e = rw (eq-eqb (get_or scope (2 * k) 0) x e, nearest)
+module _ (bindings : List Binding) (x : ℕ) where
+  abbrev letter_of : ℕ → ℕ
+  letter_of k = (get_or bindings k unbound).letter
 
-  farther : (k : ℕ) → (get_or scope (2 * k) 0 ≡ x → ⊥) → nearest (scope_in scope (suc k)) x ≡ nearest (scope_in scope k) x
-  unfolding scope_in nearest
-  farther k e = rw (ne_eqb (get_or scope (2 * k) 0) x e, nearest)
+  none_nearest : (k : ℕ) → ((j : ℕ) → j < k → letter_of j ≡ x → ⊥) → nearest (levels_in bindings k) x ≡ none
+  unfolding levels_in nearest
+  none_nearest zero h = refl
+  none_nearest (suc k) h = rw (ne_eqb (letter_of k) x (h k (omega arith)), nearest) (none_nearest k (λ j l. h j (omega arith)))
 
-  none_left : nearest (scope_in scope 0) x ≡ none
-  unfolding scope_in nearest
-  none_left = refl
-
-  pub passed : (k : ℕ) → 0 < k → (get_or scope (2 * (k - 1)) 0 ≡ x → ⊥) → nearest (scope_in scope k) x ≡ nearest (scope_in scope (k - 1)) x
-  passed k p e =
-      let z : k ≡ suc (k - 1) = omega arith in
-      ap (λ (j : ℕ). nearest (scope_in scope j) x) z ∙ farther (k - 1) e
-
-  module _ (levels : ℕ) where
-    pub letter_here : (k : ℕ) → 0 < k → k ≤ levels → nearest (scope_in scope levels) x ≡ nearest (scope_in scope k) x
-        → get_or scope (2 * (k - 1)) 0 ≡ x → NearestAt scope levels x (k - 1)
-    letter_here k p q i e =
-        let z : k ≡ suc (k - 1) = omega arith in
-        record {
-          within = omega arith;
-          found = rw (lt-ltb (k - 1) levels (omega arith)) (i ∙ (ap (λ (j : ℕ). nearest (scope_in scope j) x) z ∙ here (k - 1) e));
-        }
-
-    pub letter_missing : (k : ℕ) → k ≤ 0 → nearest (scope_in scope levels) x ≡ nearest (scope_in scope k) x → NearestAt scope levels x levels
-    letter_missing k p i =
-        let z : k ≡ 0 = omega arith in
-        record {
-          within = omega arith;
-          found = rw (le-ltb levels levels (omega arith)) (i ∙ (ap (λ (j : ℕ). nearest (scope_in scope j) x) z ∙ none_left));
-        }
-
--- a level that is not the number of levels
-pub below : {scope : List ℕ} {levels x r : ℕ} → NearestAt scope levels x r → (r ≡ levels → ⊥) → r < levels
-below {levels = levels} {r = r} near z = le_ne r levels near.within z
-  where
-    le_ne : (a b : ℕ) → a ≤ b → (a ≡ b → ⊥) → a < b
-    le_ne a b p q = omega arith
+  level_nearest : (k n : ℕ) → n < k → letter_of n ≡ x → ((j : ℕ) → n < j → j < k → letter_of j ≡ x → ⊥) → nearest (levels_in bindings k) x ≡ some (binding_in bindings n)
+  unfolding levels_in nearest
+  level_nearest zero n l e h = absurd (omega arith)
+  level_nearest (suc k) n l e h =
+      ⊎_elim
+      (λ (q : n ≡ k). rw (eq-eqb (letter_of k) x (ap letter_of (sym q) ∙ e), nearest) (ap (λ (j : ℕ). some (binding_in bindings j)) (sym q)))
+      (λ (q : n < k). rw (ne_eqb (letter_of k) x (h k q (omega arith)), nearest) (level_nearest k n q e (λ j p r. h j p (omega arith))))
+      (eq-or-lt_of_le {n = n} {m = k} (omega arith))
 
 -- ---- values
 
-module _ (file scope : List ℕ) (levels : ℕ) (v : NotedValue) where
-  abbrev x : ℕ
-  x = v.letter
-
-  abbrev stands : Option HeldValue
-  stands = map value_held (value_in (columns_of file) (scope_in scope levels) (written_of v))
-
-  pub plain_value : x ≡ 0 → some (record { tag = constant_tag; number = v.number }) ≡ stands
+module _ (file : List ℕ) (scope : HeldScope) (x : ℕ) (number : ℤ) where
+  pub letter_unknown : ((k : ℕ) → k < scope.levels → letter_in scope k ≡ x → ⊥) → none ≡ value_in (columns_of file) (scope_in scope) (Named x number)
   unfolding value_in
-  plain_value e = rw (eq-eqb x 0 e, to_from v.number)
+  letter_unknown h = rw (none_nearest scope.bindings x scope.levels h)
 
-  module _ (e : x ≡ 0 → ⊥) (level : ℕ) (near : NearestAt scope levels x level) where
-    pub letter_unknown : level ≡ levels → none ≡ stands
+  module _ (fits : ScopeFits file scope) (n : ℕ)
+      (near : (n < scope.levels) × (letter_in scope n ≡ x) × ((k : ℕ) → n < k → k < scope.levels → letter_in scope k ≡ x → ⊥)) where
+    abbrev table : ℕ
+    table = (get_or scope.bindings n unbound).table
+
+    columns_here : numbered (columns_of file) table 0 ≡ (size_at file (table - 1)).columns
+    columns_here = go table (fits.table_low n near.0) (fits.table_high n near.0)
+      where
+        go : (t : ℕ) → 1 ≤ t → t ≤ table_count file → numbered (columns_of file) t 0 ≡ (size_at file (t - 1)).columns
+        go zero p q = absurd (omega arith)
+        go (suc j) p q =
+            let w : suc j - 1 ≡ j = omega arith in
+            column_at file j (omega arith) ∙ ap (λ (i : ℕ). (size_at file i).columns) (sym w)
+
+    -- the column with the written number, in the table of this level
+    pub column_as : {most : ℕ} {m : ℤ} → most ≡ (size_at file (table - 1)).columns → m ≡ number → (o : Option ℕ) → o ≡ existing most m
+        → (o >>= (λ c. some (Column n c))) ≡ value_in (columns_of file) (scope_in scope) (Named x number)
     unfolding value_in
-    letter_unknown z =
-        let w : nearest (scope_in scope levels) x ≡ none = near.found ∙ rw (le-ltb level levels (omega arith)) in
-        rw (ne_eqb x 0 e, w)
+    column_as is same o found = rw (level_nearest scope.bindings x scope.levels n near.0 near.1 near.2, columns_here, sym is, sym same, sym found) refl
 
-    module _ (few : levels ≤ most_levels) (z : level ≡ levels → ⊥) (low : 1 ≤ get_or scope (2 * level + 1) 0) (high : get_or scope (2 * level + 1) 0 ≤ table_count file)
-        (c : ℕ) (found : existing_as c ≡ existing (size_at file (get_or scope (2 * level + 1) 0 - 1)).columns (from_excess v.number)) where
-      found_at : nearest (scope_in scope levels) x ≡ some (binding_in scope level)
-      found_at =
-          near.found ∙ rw (lt-ltb level levels (below near z))
+-- ---- a FROM
 
-      columns_here : numbered (columns_of file) (get_or scope (2 * level + 1) 0) 0 ≡ (size_at file (get_or scope (2 * level + 1) 0 - 1)).columns
-      columns_here = go (get_or scope (2 * level + 1) 0) low high
-        where
-          go : (t : ℕ) → 1 ≤ t → t ≤ table_count file → numbered (columns_of file) t 0 ≡ (size_at file (t - 1)).columns
-          go zero p q = absurd (omega arith)
-          go (suc j) p q =
-              let w : suc j - 1 ≡ j = omega arith in
-              column_at file j (omega arith) ∙ ap (λ (i : ℕ). (size_at file i).columns) (sym w)
+module _ (file : List ℕ) (scope : HeldScope) (number : ℤ) (x : ℕ) where
+  abbrev from : FromClause Source
+  from = Single (Over number x)
 
-      pub column_unknown : c ≡ 0 → none ≡ stands
-      unfolding value_in
-      column_unknown y = rw (ne_eqb x 0 e, found_at, columns_here, none_there c found y)
+  pub table_unknown : {m : ℤ} → m ≡ number → none ≡ existing (table_count file) m → none ≡ from_in (columns_of file) (scope_in scope) from
+  unfolding from_in
+  table_unknown same found = rw (columns_count file, sym same, sym found) refl
 
-      pub column_known : (c ≡ 0 → ⊥) → some (record { tag = level; number = c }) ≡ stands
-      unfolding value_in
-      column_known y =
-          let w = near.within in
-          rw (ne_eqb x 0 e, found_at, columns_here, some_there c found y, ne_eqb level constant_tag (omega arith))
+  pub table_known : {t : ℕ} {m : ℤ} {inside : HeldScope} → m ≡ number → some t ≡ existing (table_count file) m → inside ≡ binding scope x t
+      → scope.levels < length scope.bindings → some (Single t, scope_in inside) ≡ from_in (columns_of file) (scope_in scope) from
+  unfolding from_in
+  table_known {t = t} same found b room = rw (columns_count file, sym same, sym found, b, bound_is scope x t room) refl

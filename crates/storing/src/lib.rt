@@ -16,8 +16,7 @@ pub fn put16(bytes: &mut [u8], i: usize, n: usize)
     requires fact_2 { i + 2 ≤ length bytes.old }
     ensures { bytes.new ≡ placed bytes.old i (bytes16 n) }
 {
-    bytes[i] = (n % 256) as u8;
-    bytes[i + 1] = (n / 256) as u8;
+    put_bytes(bytes, i, &(n as u16).to_le_bytes());
 }
 
 // A number of four bytes.
@@ -26,8 +25,7 @@ pub fn put32(bytes: &mut [u8], i: usize, n: usize)
     requires fact_2 { i + 4 ≤ length bytes.old }
     ensures { bytes.new ≡ placed bytes.old i (bytes32 n) }
 {
-    put16(bytes, i, n % 65536);
-    put16(bytes, i + 2, n / 65536);
+    put_bytes(bytes, i, &(n as u32).to_le_bytes());
 }
 
 // The sizes of a table; j counts the tables from 0.
@@ -37,8 +35,8 @@ pub fn put_size(bytes: &mut [u8], j: usize, columns: usize, rows: usize)
     requires fact_3 { 4 + 3 * j ≤ length bytes.old }
     ensures { bytes.new ≡ placed bytes.old (1 + 3 * j) (size_bytes (size_of columns rows)) }
 {
-    bytes[1 + 3 * j] = columns as u8;
-    put16(bytes, 2 + 3 * j, rows);
+    let [low, high] = (rows as u16).to_le_bytes();
+    put_bytes(bytes, 1 + 3 * j, &[columns as u8, low, high]);
 }
 
 // Cell k: the bits of its value in the array that starts at `values`, and its mark in the one that starts at `marks`.
@@ -50,7 +48,7 @@ pub fn put_cell(bytes: &mut [u8], values: usize, marks: usize, k: usize, bits: u
     ensures { bytes.new ≡ cells_placed bytes.old values marks k (raw_cell bits mark ∷ []) }
 {
     put32(bytes, values + 4 * k, bits);
-    bytes[marks + k] = mark as u8;
+    put_bytes(bytes, marks + k, &[mark as u8]);
 }
 
 // n cells of a file, from its cell `first` on, as the cells from k on: their values into the array that starts at `values`, their marks into the one that

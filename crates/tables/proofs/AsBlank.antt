@@ -10,7 +10,9 @@ use lib.IntN.{ℤ}
 use lib.ListN.{get_or, get_or-map}
 use Rattle.tables.specs.Lists.{any}
 use Rattle.tables.specs.Tables.{Cell, Blank, Declined, Present, Row, Tables, rows_of, cell_in}
-use Rattle.tables.specs.Values.{Value, Constant, Column, Env, ◌▸◌, cell_of, by_numbers, is_blank}
+use Rattle.tables.specs.Values.{Env, ◌▸◌, cell_of, by_numbers, is_blank}
+use Rattle.tables.specs.declared.Value.{Value}
+use Rattle.tables.specs.declared.Value.TheVariants.{Constant, Column}
 use Rattle.tables.specs.Claims.{as_blank, tables_as_blank}
 use Rattle.tables.proofs.Tests.{is_so}
 

@@ -2,7 +2,9 @@
 use mathlib.Core.Path.{◌≡◌, refl}
 use Prim.Native.Nat.{ℕ, zero, suc, ◌≤◌}
 use native.Mathlib.Omega.{arith}
-use Rattle.tables.specs.Values.{Comparison, Eq, Ne, Lt, Le, Gt, Ge, comparison_number, comparison_of}
+use Rattle.tables.specs.Values.{comparison_number, comparison_of}
+use Rattle.tables.specs.declared.Comparison.{Comparison}
+use Rattle.tables.specs.declared.Comparison.TheVariants.{Eq, Ne, Lt, Le, Gt, Ge}
 
 pub comparison_back : (op : Comparison) → comparison_of (comparison_number op) ≡ op
 comparison_back Eq = refl

@@ -2,7 +2,11 @@
 use Rattle.std.specs.Prelude.{Bool, true, false, List, [], ◌∷◌, ◌++◌, map, ℕ, zero, suc, ℤ, pos, negsuc, replicate}
 use Rattle.std.proofs.Math.Option.{Option, none, some}
 use Rattle.tables.specs.Tables.{Blank, Declined, Present, Tables, cell_from}
-use Rattle.tables.specs.Values.{Value, Constant, Column, comparison_of, holds, MarkTest, Null, NotNull, IsDeclined, NotDeclined, mark_passes, value_fits}
+use Rattle.tables.specs.Values.{comparison_of, holds, mark_passes, value_fits}
+use Rattle.tables.specs.declared.Value.{Value}
+use Rattle.tables.specs.declared.Value.TheVariants.{Constant, Column}
+use Rattle.tables.specs.declared.MarkTest.{MarkTest}
+use Rattle.tables.specs.declared.MarkTest.TheVariants.{Null, NotNull, IsDeclined, NotDeclined}
 use Rattle.tables.specs.Refusals.{first_applying, tables_refusals}
 
 -- table 1 of two columns and two rows, table 2 of one column and no rows, table 3 of one column and two rows

@@ -6,3 +6,4 @@ pub mod Refusals
 pub mod Exports
 pub mod Cases
 pub mod Claims
+pub mod Options

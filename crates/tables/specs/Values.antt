@@ -5,11 +5,14 @@ use Rattle.std.specs.Int.Signed.{lt_z, le_z}
 use Rattle.tables.specs.Lists.{numbered}
 use Rattle.tables.specs.Bytes.{between, in_range}
 use Rattle.tables.specs.Tables.{Cell, Blank, Declined, Present, Row, Tables, rows_of, cell_in}
+use Rattle.tables.specs.declared.Value.{Value}
+use Rattle.tables.specs.declared.Value.TheVariants.{Constant, Column}
+use Rattle.tables.specs.declared.Comparison.{Comparison}
+use Rattle.tables.specs.declared.Comparison.TheVariants.{Eq, Ne, Lt, Le, Gt, Ge}
+use Rattle.tables.specs.declared.MarkTest.{MarkTest}
+use Rattle.tables.specs.declared.MarkTest.TheVariants.{Null, NotNull, IsDeclined, NotDeclined}
 
 -- Constant k: the number k. Column l c: column c of the row at which level l stands.
-pub data Value : Type 0 where
-  Constant : ℤ → Value
-  Column : ℕ → ℕ → Value
 
 -- a value's tag in a record: this for a constant, else the level
 abbrev pub constant_tag : ℕ
@@ -24,8 +27,6 @@ abbrev pub most_entries : ℕ
 most_entries = 192
 
 -- the six comparisons, and their numbers in a record
-pub data Comparison : Type 0 where
-  Eq Ne Lt Le Gt Ge : Comparison
 
 abbrev pub comparison_number : Comparison → ℕ
 comparison_number Eq = 1
@@ -40,17 +41,11 @@ abbrev pub comparison_of : ℕ → Comparison
 comparison_of n = get_or (Eq ∷ Eq ∷ Ne ∷ Lt ∷ Le ∷ Gt ∷ Ge ∷ []) n Eq
 
 -- what joins two conditions, or two entries
-pub data Connective : Type 0 where
-  And Or : Connective
 
 -- what is asked of a table's rows
-pub data Quantifier : Type 0 where
-  Some All : Quantifier
 
 -- what is asked of a cell's mark, in a rule and in a card: IS NULL and blank, IS NOT NULL and not blank; and of document 02, Point 4: IS DECLINED and declined, IS NOT DECLINED and not
 -- declined
-pub data MarkTest : Type 0 where
-  Null NotNull IsDeclined NotDeclined : MarkTest
 
 -- which fields a kind uses, of those that a part and an entry both have besides kind and end; what it does not use is 0
 pub record Uses : Type 0 where

@@ -19,7 +19,8 @@ use Rattle.rule.specs.Condition.{Rule}
 use Rattle.rule.specs.declared.Part.{Part}
 use Rattle.rule.specs.Parts.{asks_declined as parts_ask_declined}
 use Rattle.rule.specs.Calls.{rule_of, reading_refusals, with_rule, read_call, judge_refusals, judge_call, true_at, true_rows, admit_call}
-use Rattle.rule.specs.Truth.{Unknown, is_true}
+use Rattle.rule.specs.Truth.{is_true}
+use Rattle.rule.specs.declared.Truth.TheVariants.{Unknown}
 use Rattle.rule.specs.Meaning.{meaning, judged}
 use Rattle.rule.proofs.Marks.{declined_blank_claim as rule-declined-blank}
 use Rattle.translation.specs.Translation.{rule_card}

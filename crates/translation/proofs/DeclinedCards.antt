@@ -4,13 +4,28 @@ use mathlib.Core.Bool.{Bool, true, false, ◌||◌}
 use mathlib.Core.List.{◌++◌}
 use Prim.Native.Nat.{ℕ, ◌+◌}
 use Rattle.tables.specs.Lists.{any}
-use Rattle.tables.specs.Values.{Value, Comparison, Connective, And, Or, Quantifier, Some, All, Null, NotNull, IsDeclined, NotDeclined}
+use Rattle.tables.specs.declared.Value.{Value}
+use Rattle.tables.specs.declared.Comparison.{Comparison}
+use Rattle.tables.specs.declared.Connective.{Connective}
+use Rattle.tables.specs.declared.Connective.TheVariants.{And, Or}
+use Rattle.tables.specs.declared.Quantifier.{Quantifier}
+use Rattle.tables.specs.declared.Quantifier.TheVariants.{Some, All}
+use Rattle.tables.specs.declared.MarkTest.TheVariants.{Null, NotNull, IsDeclined, NotDeclined}
 use Rattle.tables.proofs.AsBlank.{any_append}
-use Rattle.card.specs.Card.{Interpretation, AsNo, AsYes, CompareLeaf, MarkLeaf, Card, LeafEntry, PairEntry, RowEntry}
+use Rattle.card.specs.Card.{Card, LeafEntry, PairEntry, RowEntry}
+use Rattle.card.specs.declared.Leaf.TheVariants.{CompareLeaf, MarkLeaf}
+use Rattle.card.specs.declared.Interpretation.{Interpretation}
+use Rattle.card.specs.declared.Interpretation.TheVariants.{AsNo, AsYes}
 use Rattle.card.specs.Layout.{pair_kind, row_kind, comparison_kind, kind_bytes, kind_asks_declined}
-use Rattle.rule.specs.Truth.{False, Unknown, True}
-use Rattle.rule.specs.Condition.{Compare, Mark, Unary, Not, Is, IsNot, From, Single, Atom, Join, Apply, Exists, Listed, Rule, parts}
-use Rattle.rule.specs.Parts.{JoinHead, UnaryHead, ListedHead, part_of, parts_from, part_asks_declined}
+use Rattle.rule.specs.declared.Truth.TheVariants.{False, Unknown, True}
+use Rattle.rule.specs.Condition.{Atom, Join, Apply, Exists, Listed, Rule, parts}
+use Rattle.rule.specs.declared.Test.TheVariants.{Compare, Mark}
+use Rattle.rule.specs.declared.Unary.{Unary}
+use Rattle.rule.specs.declared.Unary.TheVariants.{Not, Is, IsNot}
+use Rattle.rule.specs.declared.FromClause.{FromClause}
+use Rattle.rule.specs.declared.FromClause.TheVariants.{Single}
+use Rattle.rule.specs.Parts.{part_of, parts_from, part_asks_declined}
+use Rattle.rule.specs.declared.Head.TheVariants.{JoinHead, UnaryHead, ListedHead}
 use Rattle.translation.specs.Translation.{other, other_connective, other_quantifier, other_comparison, negated, unknown_card, unary_card, card_of}
 use Rattle.translation.specs.Claims.{DeclinedCardsClaim}
 
@@ -41,7 +56,7 @@ unary_quiet e (IsNot False) = refl
 unary_quiet e (IsNot Unknown) = refl
 unary_quiet e (IsNot True) = refl
 
-list_quiet : (e : ℕ) (q : Quantifier) (op : Comparison) (l s : Value) (f : From ℕ) → part_asks_declined (part_of e (ListedHead q op l s f)) ≡ false
+list_quiet : (e : ℕ) (q : Quantifier) (op : Comparison) (l s : Value) (f : FromClause ℕ) → part_asks_declined (part_of e (ListedHead q op l s f)) ≡ false
 list_quiet e Some op l s f = refl
 list_quiet e All op l s f = refl
 

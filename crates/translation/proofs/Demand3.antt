@@ -17,7 +17,8 @@ use Rattle.tables.proofs.Refusals.{first_nil, first_none, first_append, lend_sho
 use Rattle.tables.proofs.Rows.{rows_claim}
 use Rattle.tables.proofs.Tabulated.{tabulate_length}
 use Rattle.tables.proofs.Sizes.{columns_count, columns_fit, same_refl, same_columns_is}
-use Rattle.card.specs.Card.{AsNo, Card, LeafEntry, PairEntry, RowEntry, entries}
+use Rattle.card.specs.Card.{Card, LeafEntry, PairEntry, RowEntry, entries}
+use Rattle.card.specs.declared.Interpretation.TheVariants.{AsNo}
 use Rattle.card.specs.Layout.{card_length, tables_in, columns_in}
 use Rattle.card.specs.Sound.{most_card_bytes, sound, Sound}
 use Rattle.card.specs.Calls.{card_says, says_yes, check_refusals, check_call, fits_tables, gate_refusals, run_refusals, run_call, list_call}

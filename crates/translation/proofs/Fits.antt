@@ -8,10 +8,23 @@ use lib.Dec.{T, le→leb}
 use lib.Ieee.Fits.{and_i}
 use lib.ListN.{length, length-append, get_or-append}
 use Rattle.tables.specs.Bytes.{between}
-use Rattle.tables.specs.Values.{most_levels, Value, Constant, Column, And, Or, Quantifier, Some, All, value_fits}
-use Rattle.card.specs.Card.{most_row_entries, Interpretation, AsNo, AsYes, CompareLeaf, MarkLeaf, Card, LeafEntry, PairEntry, RowEntry, row_entry_fits, card_fits}
-use Rattle.rule.specs.Truth.{False, Unknown, True}
-use Rattle.rule.specs.Condition.{Compare, Mark, Unary, Not, Is, IsNot, From, Single, Atom, Join, Apply, Exists, Listed, Rule, letters, froms_deep}
+use Rattle.tables.specs.Values.{most_levels, value_fits}
+use Rattle.tables.specs.declared.Value.{Value}
+use Rattle.tables.specs.declared.Value.TheVariants.{Constant, Column}
+use Rattle.tables.specs.declared.Connective.TheVariants.{And, Or}
+use Rattle.tables.specs.declared.Quantifier.{Quantifier}
+use Rattle.tables.specs.declared.Quantifier.TheVariants.{Some, All}
+use Rattle.card.specs.Card.{most_row_entries, Card, LeafEntry, PairEntry, RowEntry, row_entry_fits, card_fits}
+use Rattle.card.specs.declared.Leaf.TheVariants.{CompareLeaf, MarkLeaf}
+use Rattle.card.specs.declared.Interpretation.{Interpretation}
+use Rattle.card.specs.declared.Interpretation.TheVariants.{AsNo, AsYes}
+use Rattle.rule.specs.declared.Truth.TheVariants.{False, Unknown, True}
+use Rattle.rule.specs.Condition.{Atom, Join, Apply, Exists, Listed, Rule, letters, froms_deep}
+use Rattle.rule.specs.declared.Test.TheVariants.{Compare, Mark}
+use Rattle.rule.specs.declared.Unary.{Unary}
+use Rattle.rule.specs.declared.Unary.TheVariants.{Not, Is, IsNot}
+use Rattle.rule.specs.declared.FromClause.{FromClause}
+use Rattle.rule.specs.declared.FromClause.TheVariants.{Single}
 use Rattle.rule.specs.Names.{within, ValueFits, FromFits, Fits}
 use Rattle.rule.proofs.Fits.{value_tested}
 use Rattle.translation.specs.Translation.{other, negated, rows_card, unknown_card, unary_card, card_of}
@@ -25,20 +38,20 @@ module _ (columns : List ℕ) where
   negated_fits (RowEntry q t c) levels = simp (negated_fits c)
 
   -- what fits outside a FROM fits inside
-  inside : (levels : List ℕ) (f : From ℕ) (v : Value) → ValueFits columns levels v → ValueFits columns (within levels f) v
+  inside : (levels : List ℕ) (f : FromClause ℕ) (v : Value) → ValueFits columns levels v → ValueFits columns (within levels f) v
   inside levels f (Constant k) fits = fits
   inside levels (Single t) (Column l c) fits =
       let far : l < length (levels ++ (t ∷ [])) = simp length-append (omega (arith, fits.0)) in
       (far, rw (get_or-append levels (t ∷ []) 0 l fits.0) fits.1)
 
   -- the row entries of a FROM fit around what fits inside it
-  rows_fit : (q : Quantifier) (levels : List ℕ) (f : From ℕ) (c : Card) → FromFits columns f → length levels + letters f ≤ most_levels
+  rows_fit : (q : Quantifier) (levels : List ℕ) (f : FromClause ℕ) (c : Card) → FromFits columns f → length levels + letters f ≤ most_levels
       → T (card_fits columns (within levels f) c) → T (card_fits columns levels (rows_card q f c))
   unfolding card_fits
   rows_fit q levels (Single t) c fits few inner =
       and_i (row_entry_fits columns levels t) _ (and_i (between 1 (length columns) t) _ fits (le→leb (length levels) most_row_entries (omega arith))) inner
 
-  longer : (levels : List ℕ) (f : From ℕ) (n : ℕ) → length levels + (letters f + n) ≤ most_levels → length (within levels f) + n ≤ most_levels
+  longer : (levels : List ℕ) (f : FromClause ℕ) (n : ℕ) → length levels + (letters f + n) ≤ most_levels → length (within levels f) + n ≤ most_levels
   longer levels (Single t) n h = simp length-append (omega arith)
 
   unknown_fits : (levels : List ℕ) (c : Interpretation → Card) → ((i : Interpretation) → T (card_fits columns levels (c i))) → T (card_fits columns levels (unknown_card c))

@@ -4,9 +4,16 @@ use mathlib.Core.Bool.{Bool, true, false, not, ◌&&◌, ◌||◌}
 use mathlib.Core.List.{List, [], ◌∷◌, map}
 use lib.Dec.{T}
 use Rattle.tables.specs.Lists.{any, all, put, keep}
-use Rattle.tables.specs.Values.{Connective, And, Or, Quantifier, Some, All}
-use Rattle.card.specs.Card.{Interpretation, AsNo, AsYes, unknown_says, joined, over_rows}
-use Rattle.rule.specs.Truth.{Truth, False, Unknown, True, truth, is_true, is_false, not3, and3, or3, join3}
+use Rattle.tables.specs.declared.Connective.{Connective}
+use Rattle.tables.specs.declared.Connective.TheVariants.{And, Or}
+use Rattle.tables.specs.declared.Quantifier.{Quantifier}
+use Rattle.tables.specs.declared.Quantifier.TheVariants.{Some, All}
+use Rattle.card.specs.Card.{unknown_says, joined, over_rows}
+use Rattle.card.specs.declared.Interpretation.{Interpretation}
+use Rattle.card.specs.declared.Interpretation.TheVariants.{AsNo, AsYes}
+use Rattle.rule.specs.Truth.{truth, is_true, is_false, not3, and3, or3, join3}
+use Rattle.rule.specs.declared.Truth.{Truth}
+use Rattle.rule.specs.declared.Truth.TheVariants.{False, Unknown, True}
 use Rattle.rule.specs.Meaning.{over3}
 use Rattle.rule.proofs.Truths.{some_cons, all_cons}
 use Rattle.translation.specs.Translation.{other, other_connective, other_quantifier}

@@ -1,9 +1,22 @@
 -- Negating a card twice gives it back; and what that makes of the cards of truth tests.
 use mathlib.Core.Path.{◌≡◌, refl, sym, ap, ap₂}
-use Rattle.tables.specs.Values.{Comparison, Eq, Ne, Lt, Le, Gt, Ge, Connective, And, Or, Quantifier, Some, All, MarkTest, Null, NotNull, IsDeclined, NotDeclined}
-use Rattle.card.specs.Card.{Interpretation, AsNo, AsYes, Leaf, CompareLeaf, MarkLeaf, Card, LeafEntry, PairEntry, RowEntry}
-use Rattle.rule.specs.Truth.{Truth, False, Unknown, True}
-use Rattle.rule.specs.Condition.{Is, IsNot, Apply, Rule}
+use Rattle.tables.specs.declared.Comparison.{Comparison}
+use Rattle.tables.specs.declared.Comparison.TheVariants.{Eq, Ne, Lt, Le, Gt, Ge}
+use Rattle.tables.specs.declared.Connective.{Connective}
+use Rattle.tables.specs.declared.Connective.TheVariants.{And, Or}
+use Rattle.tables.specs.declared.Quantifier.{Quantifier}
+use Rattle.tables.specs.declared.Quantifier.TheVariants.{Some, All}
+use Rattle.tables.specs.declared.MarkTest.{MarkTest}
+use Rattle.tables.specs.declared.MarkTest.TheVariants.{Null, NotNull, IsDeclined, NotDeclined}
+use Rattle.card.specs.Card.{Card, LeafEntry, PairEntry, RowEntry}
+use Rattle.card.specs.declared.Leaf.{Leaf}
+use Rattle.card.specs.declared.Leaf.TheVariants.{CompareLeaf, MarkLeaf}
+use Rattle.card.specs.declared.Interpretation.{Interpretation}
+use Rattle.card.specs.declared.Interpretation.TheVariants.{AsNo, AsYes}
+use Rattle.rule.specs.declared.Truth.{Truth}
+use Rattle.rule.specs.declared.Truth.TheVariants.{False, Unknown, True}
+use Rattle.rule.specs.Condition.{Apply, Rule}
+use Rattle.rule.specs.declared.Unary.TheVariants.{Is, IsNot}
 use Rattle.translation.specs.Translation.{other, other_connective, other_quantifier, other_comparison, other_mark, other_leaf, negated, card_of}
 use Rattle.translation.specs.Claims.{TruthCardsClaim}
 

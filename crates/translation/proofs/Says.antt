@@ -12,11 +12,32 @@ use lib.Signed.{lt_z, le_z}
 use Rattle.tables.specs.Lists.{any, all}
 use Rattle.tables.specs.Tables.{Cell, Blank, Declined, Present, Row, Tables, rows_of}
 use Rattle.tables.proofs.Rows.{any_kept}
-use Rattle.tables.specs.Values.{Value, Constant, Column, Comparison, Eq, Ne, Lt, Le, Gt, Ge, holds, And, Or, Quantifier, Some, All, MarkTest, Null, NotNull, IsDeclined, NotDeclined, Env, ◌▸◌, cell_of, mark_passes}
-use Rattle.card.specs.Card.{Interpretation, AsNo, AsYes, unknown_says, Leaf, CompareLeaf, MarkLeaf, Card, LeafEntry, PairEntry, RowEntry, compares, leaf_says, over_rows, answer}
-use Rattle.rule.specs.Condition.{Test, Compare, Mark, Unary, Not, Is, IsNot, From, Single, Atom, Join, Apply, Exists, Listed, Rule, letters}
+use Rattle.tables.specs.Values.{holds, Env, ◌▸◌, cell_of, mark_passes}
+use Rattle.tables.specs.declared.Value.{Value}
+use Rattle.tables.specs.declared.Value.TheVariants.{Constant, Column}
+use Rattle.tables.specs.declared.Comparison.{Comparison}
+use Rattle.tables.specs.declared.Comparison.TheVariants.{Eq, Ne, Lt, Le, Gt, Ge}
+use Rattle.tables.specs.declared.Connective.TheVariants.{And, Or}
+use Rattle.tables.specs.declared.Quantifier.{Quantifier}
+use Rattle.tables.specs.declared.Quantifier.TheVariants.{Some, All}
+use Rattle.tables.specs.declared.MarkTest.{MarkTest}
+use Rattle.tables.specs.declared.MarkTest.TheVariants.{Null, NotNull, IsDeclined, NotDeclined}
+use Rattle.card.specs.Card.{unknown_says, Card, LeafEntry, PairEntry, RowEntry, compares, leaf_says, over_rows, answer}
+use Rattle.card.specs.declared.Leaf.{Leaf}
+use Rattle.card.specs.declared.Leaf.TheVariants.{CompareLeaf, MarkLeaf}
+use Rattle.card.specs.declared.Interpretation.{Interpretation}
+use Rattle.card.specs.declared.Interpretation.TheVariants.{AsNo, AsYes}
+use Rattle.rule.specs.Condition.{Atom, Join, Apply, Exists, Listed, Rule, letters}
+use Rattle.rule.specs.declared.Test.{Test}
+use Rattle.rule.specs.declared.Test.TheVariants.{Compare, Mark}
+use Rattle.rule.specs.declared.Unary.{Unary}
+use Rattle.rule.specs.declared.Unary.TheVariants.{Not, Is, IsNot}
+use Rattle.rule.specs.declared.FromClause.{FromClause}
+use Rattle.rule.specs.declared.FromClause.TheVariants.{Single}
 use Rattle.rule.specs.Names.{ValueScoped, Scoped}
-use Rattle.rule.specs.Truth.{Truth, False, Unknown, True, is_true, is_unknown}
+use Rattle.rule.specs.Truth.{is_true, is_unknown}
+use Rattle.rule.specs.declared.Truth.{Truth}
+use Rattle.rule.specs.declared.Truth.TheVariants.{False, Unknown, True}
 use Rattle.rule.specs.Meaning.{unary3, compare3, test3, ranged, meaning}
 use Rattle.translation.specs.Translation.{other, other_comparison, other_mark, other_leaf, negated, leaf_of, rows_card, unary_card, card_of}
 use Rattle.translation.specs.Claims.{TranslationClaim}
@@ -106,7 +127,7 @@ unary_says ts env (IsNot Unknown) i c v inner = simp (negated_not, says_truth, �
 -- ---- what a FROM ranges over
 
 -- a row that a FROM puts at its levels: what belongs outside is the same inside
-record Inside (env : Env) (f : From ℕ) (row : Env) : Type 0 where
+record Inside (env : Env) (f : FromClause ℕ) (row : Env) : Type 0 where
   deeper : length row ≡ letters f + length env
   outside : (v : Value) → ValueScoped (length env) v → cell_of row v ≡ cell_of env v
 
@@ -131,12 +152,12 @@ over_map All p g xs = all_map p g xs
 
 module _ (ts : Tables) (env : Env) where
   -- the row entries of a FROM ask over what it ranges over
-  rows_say : (q : Quantifier) (f : From ℕ) (c : Card) → answer ts env (rows_card q f c) ≡ over_rows q (λ row. answer ts row c) (ranged ts env f)
+  rows_say : (q : Quantifier) (f : FromClause ℕ) (c : Card) → answer ts env (rows_card q f c) ≡ over_rows q (λ row. answer ts row c) (ranged ts env f)
   unfolding answer
   rows_say q (Single t) c = sym (over_map q (λ row. answer ts row c) (λ row. env ▸ row) (rows_of ts t))
 
   -- two tests that agree on these rows
-  over_same : (q : Quantifier) (f : From ℕ) (p p' : Env → Bool) → ((row : Env) → Inside env f row → p row ≡ p' row)
+  over_same : (q : Quantifier) (f : FromClause ℕ) (p p' : Env → Bool) → ((row : Env) → Inside env f row → p row ≡ p' row)
       → over_rows q p (ranged ts env f) ≡ over_rows q p' (ranged ts env f)
   over_same q (Single t) p p' h =
       over_map q p (λ row. env ▸ row) (rows_of ts t)
@@ -144,7 +165,7 @@ module _ (ts : Tables) (env : Env) where
       ∙ sym (over_map q p' (λ row. env ▸ row) (rows_of ts t))
 
 -- theorems 1 and 2 of document 003, for a WHERE whose card says what it means
-listed_says : (ts : Tables) (q : Quantifier) (op : Comparison) (l s : Value) (f : From ℕ) (w : Rule) (i : Interpretation) (env : Env)
+listed_says : (ts : Tables) (q : Quantifier) (op : Comparison) (l s : Value) (f : FromClause ℕ) (w : Rule) (i : Interpretation) (env : Env)
     → ValueScoped (length env) l
     → ((row : Env) → Inside env f row → answer ts row (card_of AsNo w) ≡ says AsNo (meaning ts row w))
     → answer ts env (card_of i (Listed q op l s f w)) ≡ says i (meaning ts env (Listed q op l s f w))

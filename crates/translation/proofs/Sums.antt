@@ -2,10 +2,19 @@
 use mathlib.Core.Path.{◌≡◌, refl, ◌∙◌}
 use Prim.Native.Nat.{ℕ, ◌+◌}
 use native.Mathlib.Omega.{arith}
-use Rattle.tables.specs.Values.{And, Or, Quantifier, Some, All}
-use Rattle.card.specs.Card.{Interpretation, AsNo, AsYes, CompareLeaf, Card, LeafEntry, PairEntry, RowEntry, entries}
-use Rattle.rule.specs.Truth.{False, Unknown, True}
-use Rattle.rule.specs.Condition.{Unary, Not, Is, IsNot, From, Single, Atom, Join, Apply, Exists, Listed, Rule, letters}
+use Rattle.tables.specs.declared.Connective.TheVariants.{And, Or}
+use Rattle.tables.specs.declared.Quantifier.{Quantifier}
+use Rattle.tables.specs.declared.Quantifier.TheVariants.{Some, All}
+use Rattle.card.specs.Card.{Card, LeafEntry, PairEntry, RowEntry, entries}
+use Rattle.card.specs.declared.Leaf.TheVariants.{CompareLeaf}
+use Rattle.card.specs.declared.Interpretation.{Interpretation}
+use Rattle.card.specs.declared.Interpretation.TheVariants.{AsNo, AsYes}
+use Rattle.rule.specs.declared.Truth.TheVariants.{False, Unknown, True}
+use Rattle.rule.specs.Condition.{Atom, Join, Apply, Exists, Listed, Rule, letters}
+use Rattle.rule.specs.declared.Unary.{Unary}
+use Rattle.rule.specs.declared.Unary.TheVariants.{Not, Is, IsNot}
+use Rattle.rule.specs.declared.FromClause.{FromClause}
+use Rattle.rule.specs.declared.FromClause.TheVariants.{Single}
 use Rattle.rule.specs.Sum.{unary_sum, entry_sum}
 use Rattle.translation.specs.Translation.{other, negated, rows_card, unknown_card, unary_card, card_of}
 use Rattle.translation.specs.Claims.{SumClaim}
@@ -16,7 +25,7 @@ entries_negated (LeafEntry x) = refl
 entries_negated (PairEntry j a b) = simp (entries_negated a, entries_negated b)
 entries_negated (RowEntry q t c) = simp (entries_negated c)
 
-entries_rows : (q : Quantifier) (f : From ℕ) (c : Card) → entries (rows_card q f c) ≡ letters f + entries c
+entries_rows : (q : Quantifier) (f : FromClause ℕ) (c : Card) → entries (rows_card q f c) ≡ letters f + entries c
 unfolding entries
 entries_rows q (Single t) c = refl
 

@@ -5,22 +5,32 @@ use Rattle.std.proofs.Math.Option.{Option, none, some}
 use Rattle.tables.specs.Lists.{keep}
 use Rattle.tables.specs.Tables.{Tables, most_rows, columns_of}
 use Rattle.tables.specs.Claims.{BlanksDiffer, DeclinedDiffer}
-use Rattle.tables.specs.Values.{Value, MarkTest, IsDeclined, NotDeclined, Env}
+use Rattle.tables.specs.Values.{Env}
+use Rattle.tables.specs.declared.Value.{Value}
+use Rattle.tables.specs.declared.MarkTest.{MarkTest}
+use Rattle.tables.specs.declared.MarkTest.TheVariants.{IsDeclined, NotDeclined}
 use Rattle.tables.specs.Refusals.{Refused, Given, numbers, first_applying, lend_refusals}
 use Rattle.tables.specs.Exports.{is_given, ZeroIsSuccess}
-use Rattle.card.specs.Card.{Interpretation, AsNo, AsYes, MarkLeaf, Card, LeafEntry, answer, entries}
-use Rattle.card.specs.Layout.{LeafHead, value_bytes, field_bytes, kind_bytes, asks_declined, card_from}
+use Rattle.card.specs.Card.{Card, LeafEntry, answer, entries}
+use Rattle.card.specs.declared.Leaf.TheVariants.{MarkLeaf}
+use Rattle.card.specs.declared.Interpretation.{Interpretation}
+use Rattle.card.specs.declared.Interpretation.TheVariants.{AsNo, AsYes}
+use Rattle.card.specs.Layout.{value_bytes, field_bytes, kind_bytes, asks_declined, card_from}
+use Rattle.card.specs.declared.Head.TheVariants.{LeafHead}
 use Rattle.card.specs.Sound.{most_card_bytes}
 use Rattle.card.specs.Calls.{gate_refusals, check_order, run_order, list_order, check_call, run_call, list_call}
 use Rattle.card.specs.Cases.{worked_card}
 use Rattle.rule.specs.Cases.{case_tables}
-use Rattle.rule.specs.Condition.{Mark, Not, Is, IsNot, Atom, Apply, Rule}
+use Rattle.rule.specs.Condition.{Atom, Apply, Rule}
+use Rattle.rule.specs.declared.Test.TheVariants.{Mark}
+use Rattle.rule.specs.declared.Unary.TheVariants.{Not, Is, IsNot}
 use Rattle.rule.specs.declared.Part.{Part}
 use Rattle.rule.specs.Names.{most_parts, Scoped}
 use Rattle.rule.specs.Parts.{asks_declined as parts_ask_declined}
 use Rattle.rule.specs.Sum.{entry_sum}
 use Rattle.rule.specs.Calls.{rule_of, reading_refusals, read_order, judge_order, Accepted, with_rule, read_call, judge_call, admit_call}
-use Rattle.rule.specs.Truth.{Truth, is_true, is_false}
+use Rattle.rule.specs.Truth.{is_true, is_false}
+use Rattle.rule.specs.declared.Truth.{Truth}
 use Rattle.rule.specs.Meaning.{meaning}
 use Rattle.translation.specs.Translation.{negated, card_of, rule_card}
 use Rattle.translation.specs.Calls.{card_call, card_order}

@@ -1,9 +1,27 @@
 -- Document 01, Card, with the truth tests of document 02, Point 1, and the tests for declined cells of Point 4: the card of a rule, in its two interpretations.
 use Rattle.std.specs.Prelude.{ℕ}
-use Rattle.tables.specs.Values.{Comparison, Eq, Ne, Lt, Le, Gt, Ge, Value, Connective, And, Or, Quantifier, Some, All, MarkTest, Null, NotNull, IsDeclined, NotDeclined}
-use Rattle.card.specs.Card.{Interpretation, AsNo, AsYes, Leaf, CompareLeaf, MarkLeaf, Card, LeafEntry, PairEntry, RowEntry}
-use Rattle.rule.specs.Truth.{False, Unknown, True}
-use Rattle.rule.specs.Condition.{Test, Compare, Mark, Unary, Not, Is, IsNot, From, Single, Atom, Join, Apply, Exists, Listed, Rule}
+use Rattle.tables.specs.declared.Value.{Value}
+use Rattle.tables.specs.declared.Comparison.{Comparison}
+use Rattle.tables.specs.declared.Comparison.TheVariants.{Eq, Ne, Lt, Le, Gt, Ge}
+use Rattle.tables.specs.declared.Connective.{Connective}
+use Rattle.tables.specs.declared.Connective.TheVariants.{And, Or}
+use Rattle.tables.specs.declared.Quantifier.{Quantifier}
+use Rattle.tables.specs.declared.Quantifier.TheVariants.{Some, All}
+use Rattle.tables.specs.declared.MarkTest.{MarkTest}
+use Rattle.tables.specs.declared.MarkTest.TheVariants.{Null, NotNull, IsDeclined, NotDeclined}
+use Rattle.card.specs.Card.{Card, LeafEntry, PairEntry, RowEntry}
+use Rattle.card.specs.declared.Leaf.{Leaf}
+use Rattle.card.specs.declared.Leaf.TheVariants.{CompareLeaf, MarkLeaf}
+use Rattle.card.specs.declared.Interpretation.{Interpretation}
+use Rattle.card.specs.declared.Interpretation.TheVariants.{AsNo, AsYes}
+use Rattle.rule.specs.declared.Truth.TheVariants.{False, Unknown, True}
+use Rattle.rule.specs.Condition.{Atom, Join, Apply, Exists, Listed, Rule}
+use Rattle.rule.specs.declared.Test.{Test}
+use Rattle.rule.specs.declared.Test.TheVariants.{Compare, Mark}
+use Rattle.rule.specs.declared.Unary.{Unary}
+use Rattle.rule.specs.declared.Unary.TheVariants.{Not, Is, IsNot}
+use Rattle.rule.specs.declared.FromClause.{FromClause}
+use Rattle.rule.specs.declared.FromClause.TheVariants.{Single}
 
 -- ---- the two interpretations
 
@@ -55,11 +73,11 @@ leaf_of i (Compare op l r) = CompareLeaf i op l r
 leaf_of i (Mark m l) = MarkLeaf m l
 
 -- the row entries of a FROM around what is asked of its rows
-abbrev pub rows_card : Quantifier → From ℕ → Card → Card
+abbrev pub rows_card : Quantifier → FromClause ℕ → Card → Card
 rows_card q (Single t) c = RowEntry q t c
 
 -- a list: SOME asks for a row on which WHERE and comparison hold, ALL asks that on every row WHERE is not true or the comparison holds
-abbrev pub list_card : Quantifier → From ℕ → Card → Card → Card
+abbrev pub list_card : Quantifier → FromClause ℕ → Card → Card → Card
 list_card Some f w c = rows_card Some f (PairEntry And w c)
 list_card All f w c = rows_card All f (PairEntry Or (negated w) c)
 

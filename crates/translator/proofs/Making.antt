@@ -14,7 +14,7 @@ use Rattle.card.specs.Card.{entries}
 use Rattle.card.specs.Layout.{card_length}
 use Rattle.rule.specs.Condition.{Rule}
 use Rattle.rule.specs.Calls.{rule_of}
-use Rattle.names.specs.Code.{parts_size}
+use Rattle.names.specs.declared.RulePart.{RulePart}
 use Rattle.parser.specs.Code.{parsed_answer, refusal_in, parse_call}
 use Rattle.parser.specs.declared.Parsed.{Parsed}
 use Rattle.parser.proofs.Known.{Read, parse_refused}
@@ -40,7 +40,7 @@ module _ (text file out : List ℕ) where
   same_rule x y e f = cc
 
   -- a rule was read
-  module _ {p : List ℕ} {m n : ℕ} (q : Read text file p m n) where
+  module _ {p : List RulePart} {m n : ℕ} (q : Read text file p m n) where
     claim : CardClaim text file q.rule out
     claim =
         let w = demand_3_claim text file q.accepted in
@@ -57,17 +57,14 @@ module _ (text file out : List ℕ) where
       pub card_short : length out < card_length t n → Makes (Refused 12) out
       card_short h = lent _ (claim.short (omega (arith, long)))
 
-      module _ (size : length p ≡ parts_size) (room : card_length t n ≤ length out) where
+      module _ (room : card_length t n ≤ length out) where
         pub card_ready : CardReady p file n out
         card_ready =
             record {
-              size = size;
               sized = q.sized;
               rule = q.rule;
               few = omega (arith, q.count, q.few_parts);
-              deep = q.few_froms;
               written = q.written;
-              fits = q.fits;
               count = count;
               most = q.few_entries;
               room = omega arith;

@@ -9,14 +9,13 @@ use lib.Seq.{length-take-le}
 use Rattle.tables.specs.Lists.{placed}
 use Rattle.tables.specs.Bytes.{bytes16}
 use Rattle.tables.specs.Tables.{table_count, columns_of}
-use Rattle.tables.specs.Values.{most_entries, judged_levels}
+use Rattle.tables.specs.Values.{most_entries}
 use Rattle.tables.proofs.Placed.{placed_length, placed_start, taken_start, placed_next, placed_before, placed_lent}
 use Rattle.tables.proofs.Sizes.{columns_count}
+use Rattle.card.specs.declared.Interpretation.TheVariants.{AsNo}
 use Rattle.card.specs.Layout.{record_size, kind_bytes, records_from, card_bytes}
 use Rattle.card.proofs.Walk.{kinds_length, records_length}
-use Rattle.rule.specs.Condition.{parts}
-use Rattle.parts.specs.Parts.{SmallParts}
-use Rattle.parser.proofs.Known.{rule_parts}
+use Rattle.names.specs.declared.RulePart.{RulePart}
 use Rattle.translation.specs.Translation.{rule_card}
 use Rattle.entries.specs.Code.{card_as, Writable, Wrote, WroteTo}
 use Rattle.translator.specs.Code.{CardReady}
@@ -41,11 +40,7 @@ abbrev pub around : List ℕ → ℕ → ℕ → List ℕ → List ℕ
 around bytes tables n records =
     take (records_at tables n) bytes ++ (records ++ drop (end_at tables n - records_at tables n) (drop (records_at tables n) bytes))
 
-module _ {p file out : List ℕ} {n : ℕ} (h : CardReady p file n out) where
-  -- the parts of a rule that fits its tables
-  small : SmallParts p (parts h.rule)
-  small = (rule_parts file p h.rule h.sized h.few h.deep h.fits h.written).0
-
+module _ {p : List RulePart} {file out : List ℕ} {n : ℕ} (h : CardReady p file n out) where
   -- with the sizes written
   module _ {tables : ℕ} {bytes : List ℕ} (count : tables ≡ table_count file) (sizes : bytes ≡ placed out 0 (sizes_of file n)) where
     whole : length bytes ≡ length out
@@ -57,29 +52,17 @@ module _ {p file out : List ℕ} {n : ℕ} (h : CardReady p file n out) where
         let rest = length-drop (records_at tables n) bytes in
         length-take-le (end_at tables n - records_at tables n) (drop (records_at tables n) bytes) (omega (arith, whole, h.room)) ∙ size
 
-    pub writable : (kinds : List ℕ) → length kinds ≡ most_entries → Writable p 0 false false kinds (lent bytes tables n) 0
+    pub writable : Writable (card_as false AsNo) p 0 (lent bytes tables n) 0
     unfolding card_as
-    writable kinds size =
+    writable =
         record {
-          rule = h.rule;
-          size = h.size;
-          stands = rule_stands p h.rule h.written;
-          count = parts h.rule;
-          few = h.few;
-          within = omega arith;
-          part_few = omega arith;
-          entry_few = omega arith;
-          small = small;
-          columns = columns_of file;
-          levels = judged_levels;
-          deep = omega (arith, h.deep);
-          fits = h.fits;
-          room = record { kinds_size = size; kinds_fit = omega (arith, h.count, h.most); records_fit = omega (arith, h.count, lent_length) };
+          at = record { rule = h.rule; stands = rule_stands p h.rule h.written; within = omega (arith, h.few) };
+          room = record { kinds_fit = omega (arith, h.count, h.most); records_fit = omega (arith, h.count, lent_length) };
         }
 
     -- and with the entries written
     module _ {kinds kinds' records' : List ℕ} {r : ℕ} (size : length kinds ≡ most_entries)
-        (wrote : WroteTo p 0 false false kinds (lent bytes tables n) kinds' records' 0 r) where
+        (wrote : WroteTo (card_as false AsNo) p 0 kinds (lent bytes tables n) kinds' records' 0 r) where
       abbrev ks : List ℕ
       ks = kind_bytes (rule_card h.rule)
 
@@ -88,7 +71,7 @@ module _ {p file out : List ℕ} {n : ℕ} (h : CardReady p file n out) where
 
       wrote_card : Wrote 0 (rule_card h.rule) kinds (lent bytes tables n) kinds' records' r
       unfolding card_as writable
-      wrote_card = wrote (writable kinds size)
+      wrote_card = wrote writable
 
       kinds_count : length ks ≡ n
       kinds_count = kinds_length (rule_card h.rule) ∙ sym h.count

@@ -1,4 +1,3 @@
-pub mod Held
 pub mod Numbers
 pub mod Rows
 pub mod Ranging

@@ -1,42 +1,13 @@
--- What the functions of src/ promise their callers, in the terms of the code: a value as numbers, a row as the number of its first cell. The contract of a
+-- What the functions of src/ promise their callers, in the terms of the code: a row as the number of its first cell. The contract of a
 -- public call cites nothing of this file.
-use Rattle.std.specs.Prelude.{◌≡◌, cond, List, [], ◌∷◌, ℕ, ◌+◌, ◌<◌, ◌≤◌, T, eqb, length, get_or}
+use Rattle.std.specs.Prelude.{◌≡◌, List, [], ℕ, ◌+◌, ◌<◌, ◌≤◌, T, length, get_or}
 use Rattle.tables.specs.Lists.{tabulate, numbered}
 use Rattle.tables.specs.Tables.{Row, cell_at, cell_count, columns_of}
-use Rattle.tables.specs.Values.{most_levels, constant_tag, Value, Constant, Column, Env, cell_of, value_fits}
-use Rattle.cells.specs.Code.{words32, from_excess, Sized, Places, seen_cell}
+use Rattle.tables.specs.Values.{most_levels, Env, cell_of, value_fits}
+use Rattle.tables.specs.declared.Value.{Value}
+use Rattle.cells.specs.Code.{Sized, Places, seen_cell}
 use Rattle.cells.specs.declared.Seen.{Seen}
-use Rattle.values.specs.declared.HeldValue.{HeldValue}
-
--- ---- values as they are held
-
--- what stands where there is no value
-abbrev pub unused_held : HeldValue
-unused_held = record { tag = 0; number = 0 }
-
--- how many elements of an array a value takes, what they are, and the value that stands there from element i on
-abbrev pub held_size : ℕ
-held_size = 2
-
-abbrev pub held_numbers : HeldValue → List ℕ
-held_numbers v = v.tag ∷ v.number ∷ []
-
-abbrev pub held_at : List ℕ → ℕ → HeldValue
-held_at numbers i = record { tag = get_or numbers i 0; number = get_or numbers (i + 1) 0 }
-
--- each of its numbers has 32 bits
-pub record Held32 (v : HeldValue) : Type 0 where
-  pub tag_small : v.tag < words32
-  pub number_small : v.number < words32
-
--- they fit the bytes of a value: its tag has one, its number four
-pub record FitsBytes (v : HeldValue) : Type 0 where
-  pub tag_byte : v.tag < 256
-  pub number_small : v.number < words32
-
--- the value that is held so: a constant plus 2 ^ 31, or a column of the level that is its tag
-unfoldable pub value_in : HeldValue → Value
-value_in v = cond (eqb v.tag constant_tag) (Constant (from_excess v.number)) (Column v.tag v.number)
+use Rattle.cells.specs.declared.Layout.{Layout}
 
 -- ---- rows and levels
 
@@ -56,20 +27,20 @@ pub record Levels (file w levels : List ℕ) (env : Env) : Type 0 where
   pub rows_too : length env ≡ length levels
   pub at : (l : ℕ) → l < length levels → LevelAt file (get_or w l 0) (get_or levels l 0) (get_or env l [])
 
--- the cells of a file can be read: its sizes are right, g has the places of its tables, and each level stands at a row
-pub record Readable (g file w levels : List ℕ) (env : Env) : Type 0 where
+-- the cells of a file can be read: its sizes are right, layout is that of its tables, and each level stands at a row
+pub record Readable (layout : Layout) (file w levels : List ℕ) (env : Env) : Type 0 where
   pub sized : Sized file
-  pub places : Places file g
+  pub places : Places file layout
   pub standing : Levels file w levels env
 
 -- ---- what looking at a value asks, and answers: for whatever levels and rows the numbers stand for
 
-pub record ValueReady (g file w : List ℕ) (v : HeldValue) : Type 0 where
+pub record ValueReady (layout : Layout) (file w : List ℕ) (v : Value) : Type 0 where
   pub levels : List ℕ
   pub env : Env
-  pub readable : Readable g file w levels env
-  pub fits : T (value_fits (columns_of file) levels (value_in v))
+  pub readable : Readable layout file w levels env
+  pub fits : T (value_fits (columns_of file) levels v)
 
 -- the cell of the value; which number is seen under a blank or a declined one is open, and no answer depends on it
-abbrev pub Sees : (g file w : List ℕ) → HeldValue → Seen → Type 0
-Sees g file w v r = (h : ValueReady g file w v) → seen_cell r ≡ cell_of h.env (value_in v)
+abbrev pub Sees : (layout : Layout) (file w : List ℕ) → Value → Seen → Type 0
+Sees layout file w v r = (h : ValueReady layout file w v) → seen_cell r ≡ cell_of h.env v

@@ -1,5 +1,5 @@
 -- What a window shows: where a table stands, that its cells lie within the file, the cell that is seen, and the cell of the table that the file holds.
-use mathlib.Core.Path.{◌≡◌, refl, sym, ap, ap₂, ◌∙◌}
+use mathlib.Core.Path.{◌≡◌, refl, sym, ap, ◌∙◌}
 use mathlib.Core.List.{List, []}
 use Prim.Native.Nat.{ℕ, zero, suc, ◌+◌, ◌*◌, ◌<◌}
 use native.Mathlib.Nat.{mul-le-mul_right, suc-mul}
@@ -7,28 +7,22 @@ use native.Mathlib.Omega.{arith}
 use lib.ListN.{get_or}
 use Rattle.tables.specs.Lists.{tabulate}
 use Rattle.tables.specs.Bytes.{signed}
-use Rattle.tables.specs.Tables.{Blank, Present, Row, Table, table_count, size_at, cells_before, values_at, marks_at, cell_from, cell_at, table_from, tables_of, rows_of, cell_in}
-use Rattle.cells.specs.Code.{to_excess, Sized, Places, place_in, seen_cell}
-use Rattle.cells.specs.declared.Seen.{Seen}
+use Rattle.tables.specs.Tables.{Blank, Row, Table, table_count, size_at, cells_before, values_at, marks_at, cell_from, cell_at, table_from, tables_of, rows_of, cell_in}
+use Rattle.cells.specs.Code.{Sized, Places, place_in, seen_cell}
 use Rattle.cells.specs.declared.Place.{Place}
+use Rattle.cells.specs.declared.Layout.{Layout}
 use Rattle.tables.proofs.Tabulated.{tabulate_at}
-use Rattle.cells.proofs.Signed.{from_to, signed_in}
 use Rattle.tables.proofs.Numbering.{cells_within}
-use Rattle.cells.proofs.Cells.{sized_is, place_of_lem, values_of, marks_of}
-use Rattle.window.specs.Window.{cell_number, mark_at, bits_at, value_at, Inside, seen_of, shown, seen_at, place_of_table}
+use Rattle.cells.proofs.Cells.{sized_is}
+use Rattle.window.specs.Window.{cell_number, mark_at, bits_at, Inside, seen_of, shown, seen_at, place_of_table}
 use Rattle.window.specs.Claims.{WindowClaim}
 
 -- ---- the cell that is seen
 
-seen_is : (mark raw : ℕ) → seen_cell (seen_of mark (to_excess (signed raw))) ≡ cell_from mark raw
-seen_is zero raw = ap Present (from_to (signed raw) (signed_in raw))
+seen_is : (mark raw : ℕ) → seen_cell (seen_of mark (signed raw)) ≡ cell_from mark raw
+seen_is zero raw = refl
 seen_is (suc zero) raw = refl
 seen_is (suc (suc m)) raw = refl
-
-pub seen_at_lem : (file : List ℕ) (at : Place) (row column mark number : ℕ) (r : Seen)
-    → mark ≡ mark_at file at.marks (cell_number at.first at.columns row column) → number ≡ value_at file at.values (cell_number at.first at.columns row column)
-    → r ≡ seen_of mark number → r ≡ seen_at file at row column
-seen_at_lem file at row column mark number r p q e = e ∙ ap₂ seen_of p q
 
 pub seen_shown : (file : List ℕ) (at : Place) (row column : ℕ) → seen_cell (seen_at file at row column) ≡ shown file at row column
 unfolding shown
@@ -51,18 +45,9 @@ shown_from file k columns rows row column =
 
 -- ---- the window on a table
 
--- where the array g has the places of a file's tables
-pub place_is : (file g : List ℕ) (j : ℕ) → Places file g → j < table_count file → place_in g (suc j) ≡ place_of_table file j
-place_is file g j places h =
-    let none : 3 * suc j ≡ 3 * suc j + 0 = omega arith in
-    let first : get_or g (3 * suc j) 0 ≡ cells_before file j = ap (λ (q : ℕ). get_or g q 0) none ∙ place_of_lem file g places (suc j) 0 h (omega arith) in
-    rw (
-      values_of file g places,
-      marks_of file g places,
-      first,
-      place_of_lem file g places (suc j) 1 h (omega arith),
-      place_of_lem file g places (suc j) 2 h (omega arith),
-    )
+-- by the layout of a file
+pub place_is : (file : List ℕ) (layout : Layout) (j : ℕ) → Places file layout → j < table_count file → place_in layout (suc j) ≡ place_of_table file j
+place_is file layout j places h = rw (places.values, places.marks, places.tables j h)
 
 pub table_inside : (file : List ℕ) (j row column : ℕ) → Sized file → j < table_count file → row < (size_at file j).rows → column < (size_at file j).columns
     → Inside file (place_of_table file j) row column

@@ -3,12 +3,13 @@ use Rattle.std.specs.Prelude.{◌≡◌, true, List, [], ℕ, suc, ◌<◌, get_
 use Rattle.tables.specs.Tables.{table_count, size_at, sizes_fit, tables_of, rows_of, cell_in}
 use Rattle.cells.specs.Code.{Places, place_in, seen_cell}
 use Rattle.cells.specs.declared.Place.{Place}
+use Rattle.cells.specs.declared.Layout.{Layout}
 use Rattle.window.specs.Window.{Inside, shown, seen_at, place_of_table}
 
 -- the window on a table; the file numbers tables and columns from 1 and rows from 0, here all count from 0
 pub record WindowClaim : Type 0 where
-  -- it can be made: where the array g has the places of a file's tables, what `cells::table_place` gives of table j + 1 is where it stands
-  pub made : (file g : List ℕ) (j : ℕ) → Places file g → j < table_count file → place_in g (suc j) ≡ place_of_table file j
+  -- it can be made: what `cells::table_place` gives of table j + 1, by the layout of a file, is where it stands
+  pub made : (file : List ℕ) (layout : Layout) (j : ℕ) → Places file layout → j < table_count file → place_in layout (suc j) ≡ place_of_table file j
   -- each of the table's cells can be read through it, in a file that is not refused with 1
   pub inside : (file : List ℕ) (j row column : ℕ) → sizes_fit file ≡ true → j < table_count file → row < (size_at file j).rows → column < (size_at file j).columns
       → Inside file (place_of_table file j) row column

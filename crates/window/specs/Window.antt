@@ -1,10 +1,9 @@
 -- Document 01, Tables: a window on one table shows its rows and columns without copying. It is the bytes of a tables file and where the cells of the table,
 -- or of a part of it, stand in them; rows and columns count from 0 here.
-use Rattle.std.specs.Prelude.{List, ℕ, ◌+◌, ◌*◌, ◌<◌, length}
+use Rattle.std.specs.Prelude.{List, ℕ, ℤ, ◌+◌, ◌*◌, ◌<◌, length}
 use Rattle.std.specs.Borrow.{Bor}
 use Rattle.tables.specs.Bytes.{byte_at, word32, signed}
 use Rattle.tables.specs.Tables.{Cell, size_at, cells_before, values_at, marks_at, cell_from}
-use Rattle.cells.specs.Code.{to_excess}
 use Rattle.cells.specs.declared.Seen.{Seen}
 use Rattle.cells.specs.declared.Place.{Place}
 use Rattle.window.specs.declared.Window.{Window}
@@ -20,9 +19,9 @@ mark_at file marks k = byte_at file (marks + k)
 abbrev pub bits_at : List ℕ → ℕ → ℕ → ℕ
 bits_at file values k = word32 file (values + 4 * k)
 
--- its number plus 2 ^ 31
-abbrev pub value_at : List ℕ → ℕ → ℕ → ℕ
-value_at file values k = to_excess (signed (bits_at file values k))
+-- its number
+abbrev pub value_at : List ℕ → ℕ → ℕ → ℤ
+value_at file values k = signed (bits_at file values k)
 
 -- the window on the cells that stand there, and where the cells of a window stand
 abbrev pub window_of : Bor (List ℕ) → Place → Window
@@ -45,8 +44,8 @@ shown file at row column =
     let k = cell_number at.first at.columns row column in
     cell_from (mark_at file at.marks k) (bits_at file at.values k)
 
--- what a cell with this mark and this number, plus 2 ^ 31, is seen as
-abbrev pub seen_of : ℕ → ℕ → Seen
+-- what a cell with this mark and this number is seen as
+abbrev pub seen_of : ℕ → ℤ → Seen
 seen_of mark number = record { mark = mark; number = number }
 
 -- what is seen in a row and a column; of a blank or declined cell, the number is that of its value bytes

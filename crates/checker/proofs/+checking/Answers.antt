@@ -1,54 +1,50 @@
+use mathlib.Core.Bool.{true≢false}
 use native.Mathlib.Omega.{arith}
-use Rattle.decoder.proofs.Grouped.{pair_number, row_number, leaf_number}
-use Rattle.checker.proofs.Checking.{kind_before, kind_behind, pair_short, pair_left_no, pair_last, rows_no, rows_short, rows_last}
+use Rattle.std.proofs.Common.{◌≡◌, sym, ◌∙◌, rules}
+use Rattle.std.proofs.Math.Option.{some}
+use Rattle.card.specs.Layout.{tables_in}
+use Rattle.card.specs.declared.Head.TheVariants.{LeafHead}
+use Rattle.decoder.specs.Code.{head_at}
+use Rattle.tables.specs.Bytes.{between}
+use Rattle.tables.proofs.Tests.{is_so, bounds, between_yes}
+use Rattle.decoder.proofs.Coded.{coded_less}
+use Rattle.checker.proofs.Checking.{leaf_checks, pair_short, pair_left_no, pair_last, rows_no, rows_last}
+use Rattle.checker.proofs.+checking.Goals.{check_rows-then-e-s-via-then-e-s, check_rows-then-e-s-via-else-e-s+then-not-contains, check_rows-then-e-s-via-else-e-s+else-not-contains+then-levels-gt-MOST_ROW_ENTRIES}
 use Rattle.checker.proofs.+checking.Goals as goal
 
-pub check_entry-check_pair-requires : goal.check_entry-check_pair-requires
-check_entry-check_pair-requires t c =
-    (omega arith, (c.requires, (pair_number _ (omega arith) (omega arith), c.if-d-s.false)))
-
-pub check_entry-check_rows-requires : goal.check_entry-check_rows-requires
-check_entry-check_rows-requires t c =
-    (omega arith, (c.requires, (row_number _ (omega arith) (omega arith), c.if-d-s.false)))
-
-pub check_entry-check_leaf-requires-clause-fact_2 : goal.check_entry-check_leaf-requires-clause-fact_2
-check_entry-check_leaf-requires-clause-fact_2 t c = leaf_number _ (omega arith) (omega arith)
-
-pub check_entry-returns-in_default : goal.check_entry-returns-in_default
-check_entry-returns-in_default t c = kind_before (omega arith)
-
-pub check_entry-returns-in_default-2 : goal.check_entry-returns-in_default-2
-check_entry-returns-in_default-2 t c = kind_behind (omega arith)
+pub check_entry-returns-then-e-s : goal.check_entry-returns-then-e-s
+check_entry-returns-then-e-s t c =
+    let says : head_at c.args.d.now c.args.s ≡ some (LeafHead c.in-Some-LeafHead.leaf) = search rules in
+    leaf_checks _ says c.if-d-s.false c.if-e-s.true c.leaf_fits.ensures
 
 pub check_pair-returns-then-e-s : goal.check_pair-returns-then-e-s
-check_pair-returns-then-e-s t c = pair_short _ _ _ _ _ c.requires.1.0 (λ l r. omega arith)
+check_pair-returns-then-e-s t c = pair_short c.requires.fact_2.1 (λ l r. omega arith)
 
 pub check_pair-returns-then-m-s : goal.check_pair-returns-then-m-s
-check_pair-returns-then-m-s t c = pair_short _ _ _ _ _ c.requires.1.0 (λ l r. omega arith)
+check_pair-returns-then-m-s t c = pair_short c.requires.fact_2.1 (λ l r. omega (arith, c.then-m-s.either))
 
-pub check_pair-returns-then-e-m : goal.check_pair-returns-then-e-m
-check_pair-returns-then-e-m t c = pair_short _ _ _ _ _ c.requires.1.0 (λ l r. omega arith)
+pub check_pair-returns-then-check_entry : goal.check_pair-returns-then-check_entry
+check_pair-returns-then-check_entry t c =
+    pair_last c.requires.fact_2.1 c.check_entry.ensures c.if-check_entry.true c.requires.fact_3 c.check_entry-then-check_entry.ensures
 
-pub check_pair-returns-then-not-left : goal.check_pair-returns-then-not-left
-check_pair-returns-then-not-left t c =
-    pair_left_no _ _ _ _ _ c.requires.1.0 c.check_entry-left.ensures c.if-not-left.true
+pub check_pair-returns-else-check_entry : goal.check_pair-returns-else-check_entry
+check_pair-returns-else-check_entry t c = pair_left_no c.requires.fact_2.1 c.check_entry.ensures c.if-check_entry.false
 
-pub check_pair-returns : goal.check_pair-returns
-check_pair-returns t c =
-    pair_last _ _ _ _ _ c.requires.1.0 c.check_entry-left.ensures c.if-not-left.false c.requires.1.1 c.check_entry.ensures
-
-pub check_rows-returns-then-e-s : goal.check_rows-returns-then-e-s
-check_rows-returns-then-e-s t c = rows_short _ _ _ _ _ _ c.requires.1.0 c.requires.0.levels (omega arith)
-
-pub check_rows-returns-then-t-lt1 : goal.check_rows-returns-then-t-lt1
-check_rows-returns-then-t-lt1 t c = rows_no _ _ _ _ _ _ c.requires.1.0 c.requires.0.levels (λ x. omega (arith, x.table_low))
-
-pub check_rows-returns-then-byte-t : goal.check_rows-returns-then-byte-t
-check_rows-returns-then-byte-t t c = rows_no _ _ _ _ _ _ c.requires.1.0 c.requires.0.levels (λ x. omega (arith, x.table_high, c.byte.ensures.is))
-
-pub check_rows-returns-then-depth-gt-MOST_ROW_ENTRIES : goal.check_rows-returns-then-depth-gt-MOST_ROW_ENTRIES
-check_rows-returns-then-depth-gt-MOST_ROW_ENTRIES t c = rows_no _ _ _ _ _ _ c.requires.1.0 c.requires.0.levels (λ x. omega (arith, x.few))
-
+-- the tests of a row entry, where they pass
 pub check_rows-returns : goal.check_rows-returns
 check_rows-returns t c =
-    rows_last _ _ _ _ _ _ c.requires.1.0 c.requires.0.levels (omega arith) (omega arith) (omega arith) c.requires.1.1 c.check_entry.ensures
+    let there : c.contains.result ≡ between 1 (tables_in c.args.card.now) c.args.table = search rules in
+    let (low, high) = bounds 1 (tables_in c.args.card.now) c.args.table (is_so _ (sym there ∙ c.if-not-contains.false)) in
+    rows_last c.requires.fact_2.1 (omega arith) c.requires.fact_1.levels_in low high c.if-levels-gt-MOST_ROW_ENTRIES.false c.requires.fact_3 c.deeper.ensures c.check_entry.ensures
+
+-- and where one of them fails
+pub check_rows-returns-then-e-s : goal.check_rows-returns-then-e-s
+check_rows-returns-then-e-s t c =
+    rows_no c.requires.fact_2.1 (omega arith) c.requires.fact_1.levels_in (λ x.
+    elim c.then-e-s.branch [
+      | check_rows-then-e-s-via-then-e-s w ↦ omega (arith, coded_less x.inner.coded)
+      | check_rows-then-e-s-via-else-e-s+then-not-contains w ↦
+          let there : w.contains.result ≡ between 1 (tables_in c.args.card.now) c.args.table = search rules in
+          true≢false (sym (between_yes 1 _ c.args.table x.table_low x.table_high) ∙ sym there ∙ w.if-not-contains.true)
+      | check_rows-then-e-s-via-else-e-s+else-not-contains+then-levels-gt-MOST_ROW_ENTRIES w ↦ omega (arith, x.few)
+    ])

@@ -1,28 +1,11 @@
--- The value is a constant, or its level and its column exist.
-use mathlib.Core.Path.{ap, ◌∙◌}
-use native.Mathlib.Omega.{arith}
-use lib.Dec.{leb}
-use Rattle.checker.proofs.Checking.{constant_fits, level_missing, column_missing, column_last}
+-- The column of a level that there is exists, if its table has that many.
+use Rattle.std.proofs.Common.{arith, ◌≡◌, ap, sym, ◌∙◌, rules}
+use Rattle.tables.specs.Bytes.{between}
+use Rattle.tables.specs.Values.{value_fits}
+use Rattle.checker.proofs.Checking.{column_fits}
 use Rattle.checker.proofs.value_fits.Goals as goal
 
-pub returns-then-tag-eq-CONSTANT : goal.returns-then-tag-eq-CONSTANT
-returns-then-tag-eq-CONSTANT c = constant_fits _ _ _ c.if-tag-eq-CONSTANT.true c.requires.fact_2
-
-pub returns-then-depth-tag : goal.returns-then-depth-tag
-returns-then-depth-tag c = level_missing _ _ _ _ c.requires.fact_1 c.if-tag-eq-CONSTANT.false (omega arith)
-
-pub returns-then-v-lt1 : goal.returns-then-v-lt1
-returns-then-v-lt1 c = column_missing _ _ _ _ c.requires.fact_1 c.if-tag-eq-CONSTANT.false (omega arith) (omega arith)
-
-pub overflow_add-t : goal.overflow_add-t
-overflow_add-t c =
-    omega (arith, c.requires.fact_1.table_high c.args.v.tag (omega arith), c.requires.fact_1.laid_out.tables_high)
-
-pub byte-requires : goal.byte-requires
-byte-requires c =
-    omega (arith, c.requires.fact_1.table_high c.args.v.tag (omega arith), c.requires.fact_1.laid_out.long)
-
-pub returns : goal.returns
-returns c =
-    ap (leb c.args.v.number) c.byte.ensures.is
-    ∙ column_last _ _ _ _ c.requires.fact_1 c.if-tag-eq-CONSTANT.false (omega arith) (omega arith)
+pub returns-then-level-levels : goal.returns-then-level-levels
+returns-then-level-levels c =
+    let contains : c.contains.result ≡ between 1 c.byte.result c.in-Column.column = search rules in
+    contains ∙ ap (λ n. between 1 n c.in-Column.column) c.byte.ensures.is ∙ column_fits _ _ (omega arith) c.requires _ _ c.if-level-levels.true ∙ ap (value_fits _ _) (sym c.in-Column.is)

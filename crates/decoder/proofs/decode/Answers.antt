@@ -1,27 +1,24 @@
-use mathlib.Core.Path.{refl, ◌∙◌}
-use native.Mathlib.Omega.{arith}
-use lib.ListN.{length}
-use Rattle.cells.proofs.Holding.{holds_none, holds_same}
-use Rattle.decoder.proofs.Decoding.{entry_more}
+use Rattle.std.proofs.Common.{arith, ◌≡◌, ◌<◌, ◌+◌, ◌-◌, ◌*◌, ℕ, get_or, set, take, drop, ap, ap₂, List, sym, subst, ◌∙◌, length}
+use lib.Seq.{get_or-set_same, get_or-set_other}
+use borrow.Author.Count.{below_more}
+use Rattle.card.specs.Layout.{record_size, entry_count, tables_in, kind_at, record_at}
+use Rattle.decoder.specs.Code.{no_entry, EntryOf}
+use Rattle.tables.specs.Bytes.{byte_at}
 use Rattle.decoder.proofs.decode.Goals as goal
-
-pub loop-i-init : goal.loop-i-init
-loop-i-init c =
-    let room = c.requires.fact_2 c.requires.fact_1 in
-    (omega arith, omega arith, refl, holds_none _ _)
 
 pub loop-i-preserved : goal.loop-i-preserved
 loop-i-preserved c =
-    let inv = c.loop-i.invariant in
-    let more =
-    entry_more c.args.card.now c.loop-i.i c.byte-kinds.result c.read16-n.result c.byte-kinds.ensures.is c.read16-n.ensures.is
-    (length c.loop-i.d) (omega arith) _ _ _ _ _ _ refl inv.3
-    c.byte.ensures.is (c.known_kind.ensures.is, c.known_kind.ensures.small)
-    (c.read16.ensures.is, c.read16.ensures.small) (c.byte-in-loop-i.ensures.is, c.byte-in-loop-i.ensures.small)
-    (c.byte-in-loop-i-2.ensures.is, c.byte-in-loop-i-2.ensures.small)
-    (c.value_at.ensures.is, c.value_at.ensures.small) (c.value_at-in-loop-i.ensures.is, c.value_at-in-loop-i.ensures.small)
-    _ _ c.put_held.ensures c.put_held-in-loop-i.ensures in
-    (omega arith, omega (arith, more.0), more.0 ∙ inv.2, more.1)
-
-pub returns : goal.returns
-returns c = record { room = omega arith; fields = holds_same _ _ _ _ c.loop-i.invariant.3 (omega arith) }
+    let card = c.args.card.now in
+    let i = c.loop-i.i in
+    let room = c.requires.fact_2 c.requires.fact_1 in
+    let there : i < length c.loop-i.d = omega arith in
+    let place : 3 + c.byte-kinds.result + c.read16-n.result + record_size * i ≡ 3 + tables_in card + entry_count card + record_size * i = omega arith in
+    let size : 3 + c.byte-kinds.result + c.read16-n.result + record_size * i + record_size - (3 + c.byte-kinds.result + c.read16-n.result + record_size * i) ≡ record_size = omega arith in
+    let kind : c.byte.result ≡ byte_at card (3 + tables_in card + i) = c.byte.ensures.is ∙ ap (λ (t : ℕ). byte_at card (3 + t + i)) c.byte-kinds.ensures.is in
+    let read : (n m : ℕ) → List ℕ = λ n m. take n (drop m card) in
+    let here : EntryOf (kind_at card i) (record_at card i) c.entry_at.result =
+    subst (λ (k : ℕ). EntryOf k (record_at card i) c.entry_at.result) kind
+    (subst (λ (r : List ℕ). EntryOf c.byte.result r c.entry_at.result) (ap₂ read size place) c.entry_at.ensures) in
+    below_more (λ k. EntryOf (kind_at card k) (record_at card k) (get_or (set c.loop-i.d i c.entry_at.result) k no_entry)) i
+    (λ k l. subst (EntryOf (kind_at card k) (record_at card k)) (sym (get_or-set_other c.loop-i.d i k c.entry_at.result no_entry (λ e. omega arith))) (c.loop-i.invariant k l))
+    (subst (EntryOf (kind_at card i) (record_at card i)) (sym (get_or-set_same c.loop-i.d i c.entry_at.result no_entry there)) here)

@@ -1,24 +1,11 @@
-use mathlib.Core.Path.{sym, ◌∙◌}
-use native.Mathlib.Omega.{arith}
-use borrow.Author.Count.{below_more}
-use Rattle.decoder.proofs.Decoding.{zeros_yes, zeros_no}
+use Rattle.std.proofs.Common.{◌∙◌, rules, tests}
+use Rattle.std.proofs.lemmas.Iterator.{YieldsList-from_slice}
+use Rattle.std.proofs.lemmas.Iterator.Search.{all_from_yields_List}
+use lib.Dec.{eqb}
+use Rattle.decoder.proofs.Decoding.{list_all_is}
 use Rattle.decoder.proofs.zero_bytes.Goals as goal
-
-pub loop-k-init : goal.loop-k-init
-loop-k-init c = (omega arith, omega arith, λ q l m. absurd (omega arith))
-
-pub returns-then-byte-ne0 : goal.returns-then-byte-ne0
-returns-then-byte-ne0 c =
-    zeros_no c.args.card.now c.args.r c.args.i c.args.j
-    (omega arith) (omega arith) c.loop-k.k (omega arith) (omega arith)
-    (λ z. c.if-byte-ne0.true (c.byte.ensures.is ∙ z))
-
-pub loop-k-preserved : goal.loop-k-preserved
-loop-k-preserved c =
-    let zero = sym c.byte.ensures.is ∙ c.if-byte-ne0.false in
-    (omega arith, omega arith, below_more _ _ c.loop-k.invariant.2 (λ m. zero))
 
 pub returns : goal.returns
 returns c =
-    zeros_yes c.args.card.now c.args.r c.args.i c.args.j (omega arith) (omega arith)
-    (λ q l m. c.loop-k.invariant.2 q (omega arith) m)
+    all_from_yields_List (λ x. eqb x 0) _ _ _ c.all.ensures.ran (YieldsList-from_slice c.args.bytes.now c.iter.ensures.rest) (λ x b q k. search (rules, tests))
+    ∙ list_all_is (λ x. eqb x 0) c.args.bytes.now

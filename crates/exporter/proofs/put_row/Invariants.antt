@@ -1,6 +1,5 @@
 -- A line, field by field: the first field, and then each other one behind its comma.
 use mathlib.Core.Path.{◌≡◌}
-use Prim.Native.Nat.{◌-◌}
 use lib.ListN.{length}
 use Rattle.exporter.specs.Code.{first_row}
 use Rattle.exporter.proofs.Rows.{Begun}
@@ -8,7 +7,4 @@ use Rattle.exporter.proofs.put_row.Given as goal
 
 abbrev pub invariant-loop-column : goal.invariant-loop-column
 invariant-loop-column l =
-    (length (first_row l.file l.row) ≡ l.columns) × Begun (first_row l.file l.row) l.i l.initial.out l.initial.next l.column l.out l.next
-
-abbrev pub decreases-loop-column : goal.decreases-loop-column
-decreases-loop-column l = l.columns - l.column
+    (length (first_row l.file l.row) ≡ l.at.columns) × Begun (first_row l.file l.row) l.i l.initial.out l.initial.next l.column l.out l.next

@@ -1,6 +1,6 @@
 -- The bytes of a line, added up field by field.
 use mathlib.Core.Path.{◌≡◌}
-use Prim.Native.Nat.{◌*◌, ◌-◌, ◌≤◌}
+use Prim.Native.Nat.{◌*◌, ◌≤◌}
 use lib.ListN.{length, take}
 use Rattle.tables.specs.Tables.{most_columns}
 use Rattle.lines.specs.Claims.{line_room}
@@ -9,7 +9,4 @@ use Rattle.exporter.proofs.row_length.Given as goal
 
 abbrev pub invariant-loop-column : goal.invariant-loop-column
 invariant-loop-column l =
-    (length (first_row l.file l.row) ≡ l.columns) × (l.columns ≤ most_columns) × (l.column ≤ l.columns) × (l.n ≤ 12 * l.column) × (l.n ≡ line_room (take l.column (first_row l.file l.row)))
-
-abbrev pub decreases-loop-column : goal.decreases-loop-column
-decreases-loop-column l = l.columns - l.column
+    (length (first_row l.file l.row) ≡ l.at.columns) × (l.at.columns ≤ most_columns) × (l.column ≤ l.at.columns) × (l.n ≤ 12 * l.column) × (l.n ≡ line_room (take l.column (first_row l.file l.row)))

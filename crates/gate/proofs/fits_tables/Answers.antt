@@ -1,27 +1,14 @@
-use mathlib.Core.Path.{sym, ◌∙◌}
-use native.Mathlib.Omega.{arith}
-use borrow.Author.Count.{below_none, below_more}
-use Rattle.gate.proofs.Calls.{fits_count, fits_column, fits_all}
+use Rattle.std.proofs.Common.{rules, tests, arith, refl, sym, ◌∙◌}
+use Rattle.std.proofs.lemmas.Iterator.{YieldsList-from_range}
+use Rattle.std.proofs.lemmas.Iterator.Search.{all_from_yields_List}
+use borrow.Author.Tests.{ne_eqb}
+use Rattle.gate.proofs.Calls.{column_fits, fits_count, fits_each}
 use Rattle.gate.proofs.fits_tables.Goals as goal
 
 pub returns-then-byte-n : goal.returns-then-byte-n
-returns-then-byte-n c = fits_count _ _ (λ e. c.if-byte-n.true (c.byte.ensures.is ∙ e ∙ sym c.byte-n.ensures.is))
+returns-then-byte-n c =
+    all_from_yields_List (column_fits c.args.card.now c.args.file.now) _ _ _ c.all.ensures.ran (YieldsList-from_range 0 c.byte-n.result c.byte-n.result refl (omega arith)) (λ x b q k. search (rules, tests))
+    ∙ fits_each _ _ _ (sym c.byte.ensures.is ∙ c.if-byte-n.true) c.byte-n.ensures.is
 
-pub loop-j-init : goal.loop-j-init
-loop-j-init c = (omega arith, below_none _)
-
-pub returns-then-byte-table_columns : goal.returns-then-byte-table_columns
-returns-then-byte-table_columns c =
-    let count = sym c.byte.ensures.is ∙ c.if-byte-n.false ∙ c.byte-n.ensures.is in
-    fits_column _ _ count c.loop-j.j (omega arith)
-    (λ e. c.if-byte-table_columns.true (c.byte-in-loop-j.ensures.is ∙ e ∙ sym c.table_columns.ensures.is))
-
-pub loop-j-preserved : goal.loop-j-preserved
-loop-j-preserved c =
-    let here = sym c.byte-in-loop-j.ensures.is ∙ c.if-byte-table_columns.false ∙ c.table_columns.ensures.is in
-    (omega arith, below_more _ _ c.loop-j.invariant.1 here)
-
-pub returns : goal.returns
-returns c =
-    let count = sym c.byte.ensures.is ∙ c.if-byte-n.false ∙ c.byte-n.ensures.is in
-    fits_all _ _ count (λ i h. c.loop-j.invariant.1 i (omega arith))
+pub returns-else-byte-n : goal.returns-else-byte-n
+returns-else-byte-n c = ne_eqb _ _ c.if-byte-n.false ∙ fits_count _ _ (λ e. c.if-byte-n.false (c.byte.ensures.is ∙ e ∙ sym c.byte-n.ensures.is))

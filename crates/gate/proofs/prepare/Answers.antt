@@ -1,39 +1,35 @@
-use mathlib.Core.Path.{sym, ◌∙◌}
+use mathlib.Core.Path.{refl, sym}
+use Rattle.std.specs.Prelude.{Ok}
+use Rattle.std.proofs.lemmas.Result.{err_from_is_err_and}
 use Rattle.cells.proofs.Valid.{checked_sized}
 use Rattle.gate.proofs.Judged.{laid_out}
-use Rattle.gate.proofs.Calls.{not_ready, prepare_tables, prepare_unsound, prepare_columns, prepare_ready}
+use Rattle.gate.proofs.Calls.{prepare_tables, prepare_unsound, prepare_columns, prepare_ready}
 use Rattle.gate.proofs.prepare.Goals as goal
 
-pub returns-in-Invalid : goal.returns-in-Invalid
-returns-in-Invalid c = record { answer = prepare_tables _ _ _ _ c.in-Invalid.is c.check_tables-valid.ensures; opened = not_ready _ }
+pub returns-in_err-check_tables-clause-answer : goal.returns-in_err-check_tables-clause-answer
+returns-in_err-check_tables-clause-answer c =
+    let p = err_from_is_err_and c.from_residual.result c.from_residual.ensures.1 in
+    rw (p.1, p.2) (prepare_tables _ _ _ c.in_err-check_tables.ensures)
 
-pub returns-then-not-sound : goal.returns-then-not-sound
-returns-then-not-sound c = let unsound = sym c.is_sound-sound.ensures.is ∙ c.if-not-sound.true in
-    record { answer = prepare_unsound _ _ _ c.in_default.is c.check_tables-valid.ensures unsound; opened = not_ready _ }
+pub returns-then-not-is_sound-clause-answer : goal.returns-then-not-is_sound-clause-answer
+returns-then-not-is_sound-clause-answer c = prepare_unsound _ _ c.in_ok-check_tables.ensures c.if-not-is_sound.ensures.is
 
-pub fits_tables-fits-requires : goal.fits_tables-fits-requires
-fits_tables-fits-requires c = let sound = sym c.is_sound-sound.ensures.is ∙ c.if-not-sound.false in
-    record { fact_1 = laid_out _ sound; fact_2 = checked_sized _ _ c.in_default.is c.check_tables-valid.ensures }
+pub fits_tables-requires-clause-fact_1 : goal.fits_tables-requires-clause-fact_1
+fits_tables-requires-clause-fact_1 c = laid_out _ (sym c.if-not-is_sound.ensures.is)
 
-pub returns-then-not-fits : goal.returns-then-not-fits
-returns-then-not-fits c = let sound = sym c.is_sound-sound.ensures.is ∙ c.if-not-sound.false in
-    let unfit = sym c.fits_tables-fits.ensures ∙ c.if-not-fits.true in
-    record { answer = prepare_columns _ _ _ c.in_default.is c.check_tables-valid.ensures sound unfit; opened = not_ready _ }
+pub fits_tables-requires-clause-fact_2 : goal.fits_tables-requires-clause-fact_2
+fits_tables-requires-clause-fact_2 c = checked_sized _ (Ok tt) refl c.in_ok-check_tables.ensures
 
-pub places-requires : goal.places-requires
-places-requires c = record { fact_1 = checked_sized _ _ c.in_default.is c.check_tables-valid.ensures; fact_2 = c.requires.fact_2 }
+pub returns-then-not-fits_tables-clause-answer : goal.returns-then-not-fits_tables-clause-answer
+returns-then-not-fits_tables-clause-answer c = prepare_columns _ _ c.in_ok-check_tables.ensures c.if-not-is_sound.ensures.is c.if-not-fits_tables.ensures
 
-pub returns : goal.returns
-returns c = let yes = c.if-not-sound.false in
-    let is_sound = sym c.is_sound-sound.ensures.is ∙ yes in
-    let fits = sym c.fits_tables-fits.ensures ∙ c.if-not-fits.false in
-    record {
-      answer = prepare_ready _ _ _ c.in_default.is c.check_tables-valid.ensures is_sound fits;
-      opened = λ _. record {
-        sized = checked_sized _ _ c.in_default.is c.check_tables-valid.ensures;
-        sound_is = is_sound;
-        fits = fits;
-        decoded = c.is_sound-sound.ensures.decoded yes;
-        places = c.places.ensures;
-      };
-    }
+pub returns-clause-answer : goal.returns-clause-answer
+returns-clause-answer c = prepare_ready _ _ c.in_ok-check_tables.ensures c.if-not-is_sound.ensures.is c.if-not-fits_tables.ensures
+
+pub returns-clause-opened : goal.returns-clause-opened
+returns-clause-opened c = λ _. record {
+  sized = checked_sized _ (Ok tt) refl c.in_ok-check_tables.ensures;
+  sound_is = sym c.if-not-is_sound.ensures.is;
+  fits = sym c.if-not-fits_tables.ensures;
+  decoded = c.if-not-is_sound.ensures.decoded refl;
+}

@@ -1,20 +1,20 @@
 -- The readers call each other while the remaining tokens fall. Assumes nothing.
-use mathlib.Core.Bool.{Bool, true, false}
+use Rattle.tables.specs.declared.Connective.{Connective}
+use Rattle.tables.specs.declared.Connective.TheVariants.{And, Or}
 use mathlib.Core.List.{List}
 use Prim.Native.Nat.{ℕ, ◌+◌, ◌*◌, ◌-◌}
 use lib.ListN.{length}
-use Rattle.grammar.specs.Code.{joined_by}
 use Rattle.grammar.proofs.Chain.{Before}
 use Rattle.grammar.proofs.+reading.Given as goal
 
 -- what falls from call to call: the tokens from a place on, and at one place the rank of a reader; there are nine ranks, since AND's operands and
 -- chains are below a conjunction, and OR's above it
-abbrev pub left : List ℕ → ℕ → ℕ → ℕ
+abbrev pub left : {A : Type 0} → List A → ℕ → ℕ → ℕ
 left s at rank = 9 * (length s - at) + rank
 
-abbrev pub above : Bool → ℕ
-above true = 3
-above false = 0
+abbrev pub above : Connective → ℕ
+above And = 0
+above Or = 3
 
 abbrev pub decreases-read_closed : goal.decreases-read_closed
 decreases-read_closed l = left l.s.now l.at 8
@@ -29,16 +29,16 @@ abbrev pub decreases-read_factor : goal.decreases-read_factor
 decreases-read_factor l = left l.s.now l.at 1
 
 abbrev pub decreases-read_joined : goal.decreases-read_joined
-decreases-read_joined l = left l.s.now l.at (3 + above l.or)
+decreases-read_joined l = left l.s.now l.at (3 + above l.connective)
 
 abbrev pub decreases-read_operand : goal.decreases-read_operand
-decreases-read_operand l = left l.s.now l.at (2 + above l.or)
+decreases-read_operand l = left l.s.now l.at (2 + above l.connective)
 
 abbrev pub decreases-read_test : goal.decreases-read_test
 decreases-read_test l = left l.s.now l.at 0
 
-abbrev pub invariant-read_joined-loop-behind : goal.invariant-read_joined-loop-behind
-invariant-read_joined-loop-behind l = Before (joined_by l.or) l.s l.at l.w l.initial.out l.joins l.out l.next l.n l.d
+abbrev pub invariant-read_joined-loop-step : goal.invariant-read_joined-loop-step
+invariant-read_joined-loop-step l = Before l.connective l.s l.at l.w l.initial.out l.joins l.out l.next l.n l.d
 
-abbrev pub decreases-read_joined-loop-behind : goal.decreases-read_joined-loop-behind
-decreases-read_joined-loop-behind l = length l.s - l.next
+abbrev pub decreases-read_joined-loop-step : goal.decreases-read_joined-loop-step
+decreases-read_joined-loop-step l = length l.s - l.next

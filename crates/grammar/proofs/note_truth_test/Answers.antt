@@ -1,31 +1,13 @@
--- No reading, no IS, an IS that begins no truth test, or a truth test, which is noted.
-use mathlib.Core.Path.{sym, ◌∙◌}
-use native.Mathlib.Omega.{arith}
-use Rattle.grammar.proofs.Tests.{tested_unread, untested_reads, tested_not, tested_reads}
+-- No IS, an IS that begins no truth test, or a truth test, which is noted.
+use Rattle.grammar.proofs.Tests.{untested_reads, tested_not, tested_reads}
 use Rattle.grammar.proofs.note_truth_test.Goals as goal
 
-pub returns-in_default-clause-tested : goal.returns-in_default-clause-tested
-returns-in_default-clause-tested c = rw c.in_default.is (tested_unread c.args.s.now c.args.out.now c.args.out.now)
+pub returns-then-not-is_word : goal.returns-then-not-is_word
+returns-then-not-is_word c = untested_reads c.args.out.now c.args.step (c.is_word.ensures.absent c.if-not-is_word.true)
 
-pub returns-then-token-ne-IS-clause-tested : goal.returns-then-token-ne-IS-clause-tested
-returns-then-token-ne-IS-clause-tested c = rw c.in-Next.is (untested_reads c.args.s.now c.args.out.now _ _ _ (λ h. c.if-token-ne-IS.true (c.token.ensures.is ∙ h)))
+pub returns-in_err-truth : goal.returns-in_err-truth
+returns-in_err-truth c =
+    rw c.from_residual.ensures (tested_not c.args.out.now c.args.step (c.is_word.ensures.there c.if-not-is_word.false) c.args.out.now c.in_err-truth.ensures)
 
-pub overflow_add-at : goal.overflow_add-at
-overflow_add-at c =
-    let f = rw c.in-Next.is at c.requires.fact_3 in
-    omega (arith, f.0, c.requires.fact_1)
-
-pub returns-in_default-read_truth_test-clause-tested : goal.returns-in_default-read_truth_test-clause-tested
-returns-in_default-read_truth_test-clause-tested c =
-    let is = sym c.token.ensures.is ∙ c.if-token-ne-IS.false in
-    rw c.in-Next.is (tested_not c.args.s.now c.args.out.now _ _ _ is c.args.out.now c.in_default-read_truth_test.ensures)
-
-pub overflow_add-result : goal.overflow_add-result
-overflow_add-result c =
-    let f = rw c.in-Next.is at c.requires.fact_3 in
-    omega (arith, f.0, f.1, c.requires.fact_1)
-
-pub returns-clause-tested : goal.returns-clause-tested
-returns-clause-tested c =
-    let is = sym c.token.ensures.is ∙ c.if-token-ne-IS.false in
-    rw c.in-Next.is (tested_reads c.args.s.now c.args.out.now _ _ _ is c.in-Truth.ensures c.plain_note.ensures c.note_part.ensures.noted)
+pub returns : goal.returns
+returns c = tested_reads c.args.out.now c.args.step (c.is_word.ensures.there c.if-not-is_word.false) c.in_ok-truth.ensures c.note_part.ensures

@@ -7,22 +7,22 @@ use Rattle.judge.proofs.judge.Goals as goal
 pub returns-in_default : goal.returns-in_default
 returns-in_default c = judge_refused _ _ _ c.parse-parsed.result _ _ c.parse-parsed.ensures.answer c.in_default.is c.refusal.ensures
 
-pub places-requires : goal.places-requires
-places-requires c = record { fact_1 = file_sized c.args.text.now _ c.args.row c.parse-parsed.result c.parse-parsed.new.parts _ _ c.parse-parsed.ensures.parsed c.in-Rule.is; fact_2 = refl }
+pub layout_of-layout-requires : goal.layout_of-layout-requires
+layout_of-layout-requires c = file_sized c.args.text.now _ c.args.row c.parse-parsed.result c.parse-parsed.new.parts _ _ c.parse-parsed.ensures.parsed c.in-Rule.is
 
 pub returns-then-table-row : goal.returns-then-table-row
 returns-then-table-row c =
-    judge_no_row _ _ _ c.parse-parsed.result c.parse-parsed.new.parts _ _ c.parse-parsed.ensures.parsed c.in-Rule.is _ c.places.ensures c.table_place-table.ensures c.if-table-row.true
+    judge_no_row _ _ _ c.parse-parsed.result c.parse-parsed.new.parts _ _ c.parse-parsed.ensures.parsed c.in-Rule.is _ c.layout_of-layout.ensures c.table_place-table.ensures c.if-table-row.true
 
 pub overflow_mul-w : goal.overflow_mul-w
 overflow_mul-w c =
     let args = c.args in
-    omega (arith, judge_room args.text.now args.file.now args.row c.parse-parsed.result c.parse-parsed.new.parts _ _ c.parse-parsed.ensures.parsed c.in-Rule.is _ c.places.ensures c.table_place-table.ensures c.if-table-row.false)
+    omega (arith, judge_room args.text.now args.file.now args.row c.parse-parsed.result c.parse-parsed.new.parts _ _ c.parse-parsed.ensures.parsed c.in-Rule.is _ c.layout_of-layout.ensures c.table_place-table.ensures c.if-table-row.false)
 
-pub evaluate_part-value-requires : goal.evaluate_part-value-requires
-evaluate_part-value-requires c =
-    whole_rule _ _ _ c.parse-parsed.result c.parse-parsed.new.parts _ _ c.parse-parsed.ensures.parsed c.in-Rule.is _ c.places.ensures c.table_place-table.ensures c.if-table-row.false c.parse-parsed.ensures.size
+pub evaluate_part-requires : goal.evaluate_part-requires
+evaluate_part-requires c =
+    whole_rule _ _ _ c.parse-parsed.result c.parse-parsed.new.parts _ _ c.parse-parsed.ensures.parsed c.in-Rule.is _ c.layout_of-layout.ensures c.table_place-table.ensures c.if-table-row.false _ refl refl refl
 
 pub returns : goal.returns
 returns c =
-    judge_given _ _ _ c.parse-parsed.result c.parse-parsed.new.parts _ _ c.parse-parsed.ensures.parsed c.in-Rule.is _ c.places.ensures c.table_place-table.ensures c.if-table-row.false c.parse-parsed.ensures.size c.evaluate_part-value.result c.evaluate_part-value.ensures _ c.judged_by.ensures
+    judge_given _ _ _ c.parse-parsed.result c.parse-parsed.new.parts _ _ c.parse-parsed.ensures.parsed c.in-Rule.is _ c.layout_of-layout.ensures c.table_place-table.ensures c.if-table-row.false _ refl refl refl c.evaluate_part.result c.evaluate_part.ensures

@@ -1,11 +1,7 @@
-use Rattle.lexer.proofs.Words.{word_long, word_none, word_found}
+-- A word that was found.
+use Rattle.lexer.proofs.Words.{word_found}
 use Rattle.lexer.proofs.word.Goals as goal
 
-pub returns-then-run-i-gt-MOST_CAPITALS : goal.returns-then-run-i-gt-MOST_CAPITALS
-returns-then-run-i-gt-MOST_CAPITALS c = word_long _ _ _ c.spell_run-run.ensures c.if-run-i-gt-MOST_CAPITALS.true
-
-pub returns-then-code-eq0 : goal.returns-then-code-eq0
-returns-then-code-eq0 c = word_none _ _ _ c.spell_run-run.ensures _ c.if-run-i-gt-MOST_CAPITALS.false c.word_code-code.ensures c.if-code-eq0.true
-
 pub returns : goal.returns
-returns c = word_found _ _ _ c.spell_run-run.ensures _ c.if-run-i-gt-MOST_CAPITALS.false c.word_code-code.ensures c.if-code-eq0.false
+returns c =
+    word_found c.args.text.now c.args.i _ c.spell_run-run.ensures c.spelled_word.result c.if-run-i-gt-MOST_CAPITALS.false c.spelled_word.ensures _ _ c.in_ok-word.was c.token_to.ensures

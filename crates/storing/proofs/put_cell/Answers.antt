@@ -1,8 +1,7 @@
--- The value, then the mark.
-use Rattle.storing.proofs.Putting.{cell_put}
+use Rattle.std.proofs.Common.{rules}
+use mathlib.Core.List.{flat_map}
 use Rattle.storing.proofs.put_cell.Goals as goal
 
 pub returns : goal.returns
-returns c =
-    cell_put c.args.bytes.now _ c.args.values c.args.marks c.args.k c.args.bits c.args.mark c.requires.fact_3 c.requires.fact_4
-    c.put32.ensures
+unfolding flat_map
+returns c = search rules

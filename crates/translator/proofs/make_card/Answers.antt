@@ -37,10 +37,10 @@ returns-then-out-length c =
 pub write_card-requires : goal.write_card-requires
 write_card-requires c =
     let read = rule_read _ _ _ c.in-Rule.is c.parse-parsed.ensures.parsed in
-    card_ready _ _ _ read c.byte.ensures.is c.parse-parsed.ensures.size (omega arith)
+    card_ready _ _ _ read c.byte.ensures.is (omega arith)
 
 pub returns : goal.returns
 returns c =
     let read = rule_read _ _ _ c.in-Rule.is c.parse-parsed.ensures.parsed in
-    let p = card_given _ _ _ read c.byte.ensures.is c.parse-parsed.ensures.size (omega arith) _ c.write_card.ensures in
+    let p = card_given _ _ _ read c.byte.ensures.is (omega arith) _ c.write_card.ensures in
     record { answer = p.0; written = p.1 }
