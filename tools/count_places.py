@@ -79,7 +79,7 @@ for name, text in sources():
     for found in re.finditer(r"\b(\w+): &(?:mut )?\[usize(?:; \w+)?\]", code):
         put("6 parameters that are arrays of numbers", found.start(), found.group())
 points["5 facts that stand in three or more contracts"] = [
-    f"{len(places)} times: {clause}" for clause, places in sorted(facts.items(), key=lambda x: -len(x[1])) if len(places) >= 3 and len(clause) > 12]
+    f"{len(places)} times: {clause}" for clause, places in sorted(facts.items(), key=lambda x: -len(x[1])) if len(places) >= 3]
 for point, places in points.items():
     print(f"{len(places):4} {point}")
     if listed:

@@ -157,7 +157,9 @@ fn read_lines(
     Some(rows)
 }
 
-// The tables file with one table, of so many columns and rows, at the start of out; the values and marks of its cells are those that were kept.
+// The tables file with one table, of so many columns and rows, at the start of out; the values and marks of its cells are those that were kept. This and
+// `import_kept` are compiled into `import_with`: there the compiler sees that the arrays lie apart from the buffer, and copies by memcpy, which is all that the archive asks for.
+#[inline(always)]
 fn write_table(out: &mut [u8], columns: usize, rows: usize, values: &[[u8; 4]], marks: &[u8])
     requires fact_1 { (columns ≤ most_columns) × (rows ≤ most_rows) }
     requires fact_2 { rows * columns ≤ length values.now }
@@ -174,6 +176,7 @@ fn write_table(out: &mut [u8], columns: usize, rows: usize, values: &[[u8; 4]], 
 
 // IMPORT with arrays that have room for what the text says, or for as much as is allowed.
 #[tactic(auto, using(crate::proofs::Calls::unread_refused))]
+#[inline(always)]
 fn import_kept(
     text: &[u8],
     columns: usize,
