@@ -64,22 +64,22 @@ pub nothing_at : (text : List ℕ) (i : ℕ) → length text ≤ i → none ≡ 
 unfolding first_number
 nothing_at text i h = sym (ap first_number (drop_of_length-le text h))
 
-module _ (text : List ℕ) (i : ℕ) (h : i < length text) where
+module _ (text : List ℕ) (i b : ℕ) (h : i < length text) (w : b ≡ get_or text i 0) where
   here : drop i text ≡ get_or text i 0 ∷ drop (suc i) text
   here = drop-cons text i 0 h
 
-  pub unsigned_here : (o : MathOption (ℤ × ℕ)) → (get_or text i 0 ≡ minus → ⊥) → o ≡ number_of pos 0 (take_while is_digit (drop i text)) → o ≡ first_number (drop i text)
+  pub unsigned_here : (o : MathOption (ℤ × ℕ)) → (b ≡ minus → ⊥) → o ≡ number_of pos 0 (take_while is_digit (drop i text)) → o ≡ first_number (drop i text)
   unsigned_here o z e =
       e ∙ ap (λ (l : List ℕ). number_of pos 0 (take_while is_digit l)) here
-      ∙ sym (ap first_number here ∙ first_other (get_or text i 0) (drop (suc i) text) z)
+      ∙ sym (ap first_number here ∙ first_other (get_or text i 0) (drop (suc i) text) (λ m. z (w ∙ m)))
 
-  pub minus_here : (r : Option Found) → get_or text i 0 ≡ minus → found_as (i + 1 - 1) r ≡ number_of negative 1 (take_while is_digit (drop (i + 1) text))
+  pub minus_here : (r : Option Found) → b ≡ minus → found_as (i + 1 - 1) r ≡ number_of negative 1 (take_while is_digit (drop (i + 1) text))
       → found_as i r ≡ first_number (drop i text)
   minus_here r z e =
       let start : i ≡ i + 1 - 1 = omega arith in
       let next : i + 1 ≡ suc i = omega arith in
       ap (λ (k : ℕ). found_as k r) start ∙ e ∙ ap (λ (k : ℕ). number_of negative 1 (take_while is_digit (drop k text))) next
-      ∙ sym (ap first_number here ∙ first_minus (get_or text i 0) (drop (suc i) text) z)
+      ∙ sym (ap first_number here ∙ first_minus (get_or text i 0) (drop (suc i) text) (sym w ∙ z))
 
 -- where a number that is found ends
 pub found_ends : (text : List ℕ) (i : ℕ) (n : ℤ) (e : ℕ) → some (n, e - i) ≡ first_number (drop i text) → (i < e) × (e ≤ length text)

@@ -1,5 +1,5 @@
 -- What a run of digits spells in a base, digit by digit.
-use mathlib.Core.Path.{◌≡◌, sym, ap, subst, ◌∙◌}
+use mathlib.Core.Path.{◌≡◌, refl, sym, ap, subst, ◌∙◌}
 use mathlib.Core.Bool.{true}
 use mathlib.Core.List.{List, [], ◌∷◌, ◌++◌}
 use Prim.Native.Nat.{ℕ, zero, suc, ◌+◌, ◌*◌, ◌-◌, ◌≤◌, ◌<◌}
@@ -12,7 +12,7 @@ use Rattle.tables.proofs.Tests.{is_so, bounds}
 use Rattle.numerals.specs.Texts.{take_while}
 use Rattle.numerals.specs.Numerals.{in_base}
 use Rattle.numerals.proofs.Digits.{in_base_append}
-use Rattle.numerals.proofs.Runs.{run_take, Passed, passed_more, run_within}
+use Rattle.numerals.proofs.Runs.{run_take, Passed, passed_none, passed_more, run_within}
 use Rattle.digits.specs.Code.{power, Spellable, RunAt}
 
 power_more : (base j d : ℕ) → 1 ≤ base → power base j ≤ power base (j + d)
@@ -30,6 +30,11 @@ power_up base j k h l = let e : j + (k - j) ≡ k = omega arith in subst (λ (n 
 pub record SpelledTo (text : List ℕ) (i low high base zero_byte most n e : ℕ) : Type 0 where
   pub passed : Passed (between low high) text i e
   pub so_far : e - i ≤ most → (n < power base (e - i)) × (n ≡ in_base base zero_byte 0 (take (e - i) (drop i text)))
+
+pub spelled_none : (text : List ℕ) (i low high base zero_byte most : ℕ) → i ≤ length text → SpelledTo text i low high base zero_byte most 0 i
+spelled_none text i low high base zero_byte most h =
+    let z : i - i ≡ 0 = omega arith in
+    record { passed = passed_none _ text i h; so_far = λ _. (rw z (omega arith), rw z refl) }
 
 module _ (text : List ℕ) (i low high base zero_byte most n e b : ℕ) (s : Spellable low high base zero_byte most) (h : SpelledTo text i low high base zero_byte most n e)
     (l : e < length text) (w : b ≡ get_or text e 0) (in_run : between low high b ≡ true) where

@@ -1,13 +1,10 @@
 -- The digits of a number, counted and written from the last one to the first.
 use mathlib.Core.Path.{◌≡◌, refl, sym, ap, ◌∙◌}
 use mathlib.Core.List.{List, [], ◌∷◌, ◌++◌, append_assoc, append-nil}
-use Prim.Native.Nat.{ℕ, zero, suc, ◌+◌, ◌/◌, ◌%◌, ◌≤◌, ◌<◌}
+use Prim.Native.Nat.{ℕ, zero, suc, ◌+◌, ◌*◌, ◌/◌, ◌%◌, ◌≤◌, ◌<◌}
 use native.Mathlib.Omega.{arith}
-use mathlib.Core.Bool.{Bool, true, false}
-use borrow.Author.Tests.{ltb-true, ltb-false}
-use lib.Dec.{ltb}
 use lib.IntN.{ℤ, pos, negsuc, nat_abs}
-use Rattle.std.specs.Prelude.{◌<ℤ◌}
+use Rattle.std.specs.Prelude.{◌<ℤ◌, ◌≤ℤ◌}
 use Rattle.std.proofs.Common.{rules}
 use lib.ListN.{length, set, length-append, length-set}
 use Rattle.tables.specs.Lists.{placed}
@@ -31,6 +28,18 @@ pub record Passed (n count power : ℕ) : Type 0 where
   pub count_is : count ≡ suc zeros
   pub power_is : power ≡ power10 (suc zeros)
   pub reached : 1 ≤ zeros → power10 zeros ≤ n
+
+pub passed_first : (n : ℕ) → Passed n 1 10
+passed_first n = record { zeros = 0; count_is = refl; power_is = refl; reached = λ h. absurd (omega arith) }
+
+pub passed_next : (n count power : ℕ) → Passed n count power → power ≤ n → Passed n (count + 1) (10 * power)
+passed_next n count power p h =
+    let c = p.count_is in
+    let e = p.power_is in
+    record { zeros = suc p.zeros; count_is = omega arith; power_is = ap (λ (m : ℕ). 10 * m) e; reached = λ l. omega (arith, e) }
+
+pub length_one : (n : ℕ) → n < 10 → length (digits_of most_digits n) ≡ 1
+length_one n h = ap length (digits_one 9 n h)
 
 pub length_tenth : (n : ℕ) → 10 ≤ n → n < words32 → length (digits_of most_digits n) ≡ length (digits_of most_digits (n / 10)) + 1
 length_tenth n l h = ap length (digits_tenth n l (omega arith)) ∙ length-append (digits_all (n / 10)) (digit (n % 10) ∷ [])
@@ -59,75 +68,70 @@ passed_all n count power h p l =
 
 -- ---- written
 
--- the last digit of a number, and those before it: the digits of its tenth, if there are any
-record Parted (n : ℕ) : Type 0 where
-  pub front : List ℕ
-  pub whole : digits_of most_digits n ≡ front ++ (digit (n % 10) ∷ [])
-  pub tenth : 1 ≤ length front → front ≡ digits_of most_digits (n / 10)
-
-parted : (n : ℕ) → n < words32 → Parted n
-parted n h = go (ltb n 10) refl
-  where
-    go : (t : Bool) → ltb n 10 ≡ t → Parted n
-    go true e =
-        let l = ltb-true n 10 e in
-        let z : n % 10 ≡ n = omega arith in
-        record { front = []; whole = rw z (digits_one 9 n l); tenth = λ m. absurd (omega arith) }
-    go false e = record { front = digits_all (n / 10); whole = digits_tenth n (ltb-false n 10 e) (omega arith); tenth = λ m. refl }
-
--- the digits from place `at` on are written; those of the rest, if there are any, go before them
+-- all digits behind those of the rest are written, and the next goes to `at`
 pub record WrittenTo (before : List ℕ) (i n : ℕ) (out : List ℕ) (at rest : ℕ) : Type 0 where
   pub less : rest ≤ n
-  pub front : List ℕ
   pub behind : List ℕ
-  pub whole : digits_of most_digits n ≡ front ++ behind
-  pub rest_is : 1 ≤ length front → front ≡ digits_of most_digits rest
-  pub place : at ≡ i + length front
-  pub is : out ≡ placed before at behind
+  pub whole : digits_of most_digits n ≡ digits_of most_digits rest ++ behind
+  pub place : at + 1 ≡ i + length (digits_of most_digits rest)
+  pub is : out ≡ placed before (at + 1) behind
   pub size : length out ≡ length before
 
-pub written_none : (before : List ℕ) (i n at : ℕ) → at ≡ i + length (digits_of most_digits n) → WrittenTo before i n before at n
+pub written_none : (before : List ℕ) (i n at : ℕ) → at + 1 ≡ i + length (digits_of most_digits n) → WrittenTo before i n before at n
 written_none before i n at e =
-    record {
-      less = omega arith;
-      front = digits_all n;
-      behind = [];
-      whole = sym (append-nil (digits_all n));
-      rest_is = λ h. refl;
-      place = e;
-      is = sym (placed_none before at);
-      size = refl;
-    }
+    record { less = omega arith; behind = []; whole = sym (append-nil (digits_of most_digits n)); place = e; is = sym (placed_none before (at + 1)); size = refl }
 
-module _ (before : List ℕ) (i n : ℕ) (out : List ℕ) (at rest : ℕ) (w : WrittenTo before i n out at rest) where
-  pub written_more : n < words32 → i + length (digits_of most_digits n) ≤ length before → (at' : ℕ) → at ≡ at' + 1 → i ≤ at'
-      → WrittenTo before i n (set out at' (digit (rest % 10))) at' (rest / 10)
-  written_more h room at' e l =
+module _ (before : List ℕ) (i n : ℕ) (out : List ℕ) (at rest : ℕ) (w : WrittenTo before i n out at rest)
+    (room : i + length (digits_of most_digits n) ≤ length before) where
+  all_length : length (digits_all n) ≡ length (digits_all rest) + length w.behind
+  all_length = ap length w.whole ∙ length-append (digits_all rest) w.behind
+
+  pub at_within : at < length before
+  at_within = omega (arith, all_length, w.place)
+
+  -- one byte before those that are written
+  byte_before : (x : ℕ) → set out at x ≡ placed before at (x ∷ w.behind)
+  byte_before x =
+      let h = at_within in
+      let s = w.size in
+      placed_one out at x (omega arith)
+      ∙ ap (λ (o : List ℕ). placed o at (x ∷ [])) w.is
+      ∙ placed_before before at (x ∷ []) (at + 1) w.behind (omega arith) refl
+
+  pub place_more : 10 ≤ rest → n < words32 → 1 ≤ at
+  place_more l h = let m = w.less in omega (arith, w.place, length_tenth rest l (omega arith), digits_some 9 (rest / 10))
+
+  pub written_more : 10 ≤ rest → n < words32 → (at' : ℕ) → at' + 1 ≡ at → WrittenTo before i n (set out at (digit (rest % 10))) at' (rest / 10)
+  written_more l h at' e =
       let m = w.less in
-      let same = w.size in
-      let p = parted rest (omega arith) in
-      let front : w.front ≡ p.front ++ (digit (rest % 10) ∷ []) = w.rest_is (omega (arith, w.place)) ∙ p.whole in
-      let long : length w.front ≡ length p.front + 1 = ap length front ∙ length-append p.front (digit (rest % 10) ∷ []) in
-      let all : length (digits_all n) ≡ length w.front + length w.behind = ap length w.whole ∙ length-append w.front w.behind in
       record {
         less = omega arith;
-        front = p.front;
         behind = digit (rest % 10) ∷ w.behind;
-        whole = w.whole ∙ ap (λ (ds : List ℕ). ds ++ w.behind) front ∙ append_assoc p.front (digit (rest % 10) ∷ []) w.behind;
-        rest_is = p.tenth;
-        place = omega (arith, w.place);
-        is =
-            placed_one out at' (digit (rest % 10)) (omega (arith, w.place))
-            ∙ ap (λ (o : List ℕ). placed o at' (digit (rest % 10) ∷ [])) w.is
-            ∙ placed_before before at' (digit (rest % 10) ∷ []) at w.behind (omega (arith, w.place)) e;
-        size = simp length-set same;
+        whole =
+            w.whole
+            ∙ ap (λ (ds : List ℕ). ds ++ w.behind) (digits_tenth rest l (omega arith))
+            ∙ append_assoc (digits_all (rest / 10)) (digit (rest % 10) ∷ []) w.behind;
+        place = omega (arith, w.place, length_tenth rest l (omega arith));
+        is = byte_before (digit (rest % 10)) ∙ ap (λ (k : ℕ). placed before k (digit (rest % 10) ∷ w.behind)) (sym e);
+        size = simp length-set w.size;
       }
+
+  pub written_all : rest < 10 → set out at (digit rest) ≡ placed before i (digits_of most_digits n)
+  written_all l =
+      let z : at ≡ i = omega (arith, w.place, length_one rest l) in
+      byte_before (digit rest)
+      ∙ ap (λ (k : ℕ). placed before k (digit rest ∷ w.behind)) z
+      ∙ ap (placed before i) (sym (w.whole ∙ ap (λ (ds : List ℕ). ds ++ w.behind) (digits_one 9 rest l)))
 
 -- ---- a number, as it is written
 
 pub numeral_below : (n : ℤ) → n <ℤ pos 0 → numeral n ≡ minus ∷ digits_of most_digits (nat_abs n)
 numeral_below (negsuc n) h = refl
 numeral_below (pos n) h = absurd (search (rules, h))
+
+pub numeral_above : (n : ℤ) → pos 0 ≤ℤ n → numeral n ≡ digits_of most_digits (nat_abs n)
+numeral_above (pos n) h = refl
+numeral_above (negsuc n) h = absurd (search (rules, h))
 
 -- the minus, then the digits
 pub minus_written : (before : List ℕ) (i : ℕ) (n : ℤ) (after : List ℕ) → i < length before → n <ℤ pos 0
