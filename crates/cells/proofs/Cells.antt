@@ -10,7 +10,7 @@ use lib.ListN.{length, get_or, set}
 use Rattle.tables.specs.Lists.{tabulate, all}
 use Rattle.tables.specs.Bytes.{between as among, byte_at}
 use Rattle.tables.specs.Tables.{most_tables, most_cells, highest_mark, table_count, size_at, sizes, cells_before, cell_count, marks_at, mark_of, size_fits, sizes_fit, marks_fit}
-use Rattle.cells.specs.Code.{SizeIn, Sized, extent_of, no_extent}
+use Rattle.cells.specs.Code.{SizeIn, Sized, extent_of, no_extent, SmallExtent}
 use Rattle.cells.specs.declared.Extent.{Extent}
 use Rattle.std.specs.List.{between}
 use Rattle.std.proofs.lemmas.List.Edits.{get_or-between, length-between}
@@ -108,3 +108,14 @@ first_room file n j first rows columns p h q r s = let z = cells_within file j (
 pub extents_more : (file : List ℕ) (tables : List Extent) (j : ℕ) (extent : Extent) → ((k : ℕ) → k < j → get_or tables (suc k) no_extent ≡ extent_of file k)
     → j + 1 < length tables → extent ≡ extent_of file j → (k : ℕ) → k < j + 1 → get_or (set tables (j + 1) extent) (suc k) no_extent ≡ extent_of file k
 extents_more file tables j extent each room is k h = grind (arith, common_steps)
+
+-- the numbers of the extents have 32 bits
+pub extents_small : (file : List ℕ) (tables : List Extent) → Sized file → ((k : ℕ) → k < table_count file → get_or tables (suc k) no_extent ≡ extent_of file k)
+    → (j : ℕ) → j < table_count file → SmallExtent (get_or tables (suc j) no_extent)
+extents_small file tables sized each j h =
+    let size = sized.each j h in
+    let few = sized.cells_high in
+    let within = cells_within file j h in
+    let low = size.columns_high in
+    let high = size.rows_high in
+    rw (each j h) (record { first = omega arith; columns = omega arith; rows = omega arith })

@@ -43,6 +43,19 @@ pub record Places (file : List ℕ) (layout : Layout) : Type 0 where
   pub marks : layout.marks ≡ marks_at file
   pub tables : (j : ℕ) → j < table_count file → get_or layout.tables (suc j) no_extent ≡ extent_of file j
 
+-- the numbers of an extent have 32 bits
+pub record SmallExtent (extent : Extent) : Type 0 where
+  pub first : extent.first < words32
+  pub columns : extent.columns < words32
+  pub rows : extent.rows < words32
+
+-- those of a layout of so many tables have
+pub record SmallLayout (layout : Layout) (count : ℕ) : Type 0 where
+  pub values : layout.values < words32
+  pub marks : layout.marks < words32
+  pub cells : layout.cells < words32
+  pub tables : (j : ℕ) → j < count → SmallExtent (get_or layout.tables (suc j) no_extent)
+
 -- where table t stands, by such a layout
 abbrev pub place_in : Layout → ℕ → Place
 place_in layout t =

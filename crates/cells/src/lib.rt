@@ -4,10 +4,10 @@
 ghost use Rattle.std.specs.Prelude.{◌≡◌, ◌+◌, ◌*◌, ◌<◌, ◌≤◌, length};
 ghost use Rattle.tables.specs.Lists.{placed};
 ghost use Rattle.tables.specs.Bytes.{byte_at, word16, word32, signed};
-ghost use Rattle.tables.specs.Tables.{most_tables, size_at, cell_count, sizes_fit, size_fits, marks_fit};
+ghost use Rattle.tables.specs.Tables.{most_tables, table_count, size_at, cell_count, sizes_fit, size_fits, marks_fit};
 ghost use Rattle.tables.specs.Refusals.{tables_call};
 ghost use Rattle.cells.specs.Reasons.{reason_number, answer_of};
-ghost use Rattle.cells.specs.Code.{words32, Sized, Places, place_in};
+ghost use Rattle.cells.specs.Code.{words32, Sized, Places, SmallLayout, place_in};
 
 // Limits on a tables file.
 pub const MOST_TABLES: usize = 8;
@@ -209,18 +209,22 @@ pub struct Extent {
 // How many extents a layout has: tables are numbered from 1, and the extent at 0 is that of no table.
 const EXTENTS: usize = 1 + MOST_TABLES;
 
-// Where the tables of a file stand: where its values and where its marks start, and the extent of each table, by its number.
+// Where the tables of a file stand: where its values and where its marks start, how many cells there are over all, and the extent of each table, by its
+// number.
 #[derive(Clone, Copy)]
 pub struct Layout {
     pub values: usize,
     pub marks: usize,
+    pub cells: usize,
     pub tables: [Extent; EXTENTS],
 }
 
 // The layout of a file.
 pub fn layout_of(file: &[u8]) -> Layout
     requires { Sized file.now }
-    ensures { Places file.now result }
+    ensures places { Places file.now result }
+    ensures cells { result.cells ≡ cell_count file.now }
+    ensures small { SmallLayout result (table_count file.now) }
 {
     let n = byte(file, 0);
     let none = Extent {
@@ -240,9 +244,11 @@ pub fn layout_of(file: &[u8]) -> Layout
         };
         first += rows * columns;
     }
+    let cells = cell_count(file);
     Layout {
         values: 1 + 3 * n,
-        marks: 1 + 3 * n + 4 * cell_count(file),
+        marks: 1 + 3 * n + 4 * cells,
+        cells,
         tables,
     }
 }

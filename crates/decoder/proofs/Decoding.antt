@@ -1,9 +1,9 @@
 -- A card's entries: when a card is laid out, where a record's bytes stand, and what the decoded entries say.
-use mathlib.Core.Path.{◌≡◌, refl, sym, ap, subst, ◌∙◌}
+use mathlib.Core.Path.{◌≡◌, refl, sym, ap, ap₂, subst, ◌∙◌}
 use mathlib.Core.Bool.{Bool, true, false, ◌&&◌, and-true, and_assoc}
 use mathlib.Core.List.{List, [], ◌∷◌}
 use mathlib.Core.Logic.{◌⊎◌, inl, inr, ⊎_elim}
-use Prim.Native.Nat.{ℕ, ◌+◌, ◌-◌, ◌<◌, ◌≤◌}
+use Prim.Native.Nat.{ℕ, ◌+◌, ◌-◌, ◌<◌, ◌≤◌, max}
 use native.Mathlib.Omega.{arith}
 use borrow.Author.Tests.{eq-eqb, ltb-true, ltb-false}
 use lib.Dec.{T, eqb, ltb, eqb→eq}
@@ -11,6 +11,8 @@ use lib.Ieee.Fits.{and_i}
 use lib.ListN.{length, get_or, take, drop, length-drop}
 use lib.Seq.{length-take-le, get_or-take, get_or-drop}
 use Rattle.std.specs.List.{list_all}
+use Rattle.std.proofs.lemmas.Grind.{common_steps, take_at_read}
+use Rattle.std.proofs.lemmas.List.{take_all}
 use Rattle.tables.specs.Lists.{tabulate, all}
 use Rattle.tables.specs.Bytes.{between, byte_at}
 use Rattle.tables.specs.Tables.{most_tables, most_columns}
@@ -19,7 +21,7 @@ use Rattle.tables.specs.declared.Connective.{Connective}
 use Rattle.tables.specs.declared.Quantifier.{Quantifier}
 use Rattle.tables.specs.declared.MarkTest.{MarkTest}
 use Rattle.tables.proofs.Tests.{is_true, is_so, refuted, both, bounds, between_yes}
-use Rattle.tables.proofs.Tabulated.{tabulate_length, tabulate_part, all_each, all_of, all_read, all_same}
+use Rattle.tables.proofs.Tabulated.{tabulate_length, tabulate_part, all_each, all_of, all_read, all_same, all_append}
 use Rattle.card.specs.Layout.{record_size, table_place, comparison_place, left_place, right_place, uses, card_length, entry_count, tables_in, columns_in, zeros, record_fits}
 use Rattle.card.specs.declared.Interpretation.{Interpretation}
 use Rattle.card.specs.declared.Kind.{Kind}
@@ -192,3 +194,19 @@ module _ (r : List ℕ) where
   fits_mark m e =
       let z = zeros_join r table_place comparison_place left_place (omega arith) (omega arith) in
       fits_as e (rw z (and_assoc (zeros r table_place comparison_place) (zeros r comparison_place left_place) (zeros r right_place record_size)))
+
+-- ---- bytes that are 0
+
+-- of two numbers the higher one is 0 just if both are
+higher_zero : (a b : ℕ) → eqb (max a b) 0 ≡ (eqb a 0 && eqb b 0)
+higher_zero a b = grind (arith, common_steps)
+
+module _ (bytes : List ℕ) (highest i : ℕ) where
+  pub zeros_next : (next : ℕ) → eqb highest 0 ≡ all (λ x. eqb x 0) (take i bytes) → i < length bytes → next ≡ max highest (get_or bytes i 0)
+      → eqb next 0 ≡ all (λ x. eqb x 0) (take (i + 1) bytes)
+  zeros_next next so_far h e =
+      rw (e, (take_at_read bytes i 0 h).1)
+      (higher_zero highest (get_or bytes i 0) ∙ ap₂ ◌&&◌ so_far (sym (and-true (eqb (get_or bytes i 0) 0))) ∙ sym (all_append (λ x. eqb x 0) (take i bytes) (get_or bytes i 0 ∷ [])))
+
+  pub zeros_end : eqb highest 0 ≡ all (λ x. eqb x 0) (take i bytes) → length bytes ≤ i → eqb highest 0 ≡ all (λ x. eqb x 0) bytes
+  zeros_end so_far h = so_far ∙ ap (all (λ x. eqb x 0)) (take_all i bytes h)

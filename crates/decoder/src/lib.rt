@@ -4,6 +4,7 @@
 
 ghost use Rattle.std.specs.Prelude.{◌≡◌, ◌+◌, ◌≤◌, List, eqb, length};
 ghost use Rattle.std.specs.Fn.{CalledAtMut};
+ghost use Rattle.std.proofs.Math.Option.{some};
 ghost use Rattle.tables.specs.Lists.{all};
 ghost use Rattle.tables.specs.Bytes.{between};
 ghost use Rattle.tables.specs.Options.{found};
@@ -70,11 +71,15 @@ pub fn laid_out(card: &[u8]) -> bool
         && columns_fit(&card[3..3 + t])
 }
 
-// Whether all of them are 0.
+// Whether all of them are 0: the highest one is. No byte is asked by itself, so that the compiler takes several at a time.
 fn zero_bytes(bytes: &[u8]) -> bool
     ensures { result ≡ all (λ x. eqb x 0) bytes.now }
 {
-    bytes.iter().all(|&byte| byte == 0)
+    let mut highest: u8 = 0;
+    for &byte in bytes {
+        highest = highest.max(byte);
+    }
+    highest == 0
 }
 
 // Whether the fields of a record are as its kind asks.
@@ -96,15 +101,21 @@ fn fields_fit(bytes: &[u8], kind: Kind) -> bool
     }
 }
 
-// The kind with a published number, if there is one.
+// The kind with a published number, if there is one. Kinds with inner entries are told from the others first: in one `match` of all numbers the compiler jumps
+// through a table.
 fn kind_of(number: usize) -> Option<Kind>
     ensures { found result ≡ kind_with number }
 {
+    if number <= EVERY_ROW {
+        return match number {
+            AND_ENTRY => Some(Kind::PairKind(Connective::And)),
+            OR_ENTRY => Some(Kind::PairKind(Connective::Or)),
+            SOME_ROW => Some(Kind::RowKind(Quantifier::Some)),
+            EVERY_ROW => Some(Kind::RowKind(Quantifier::All)),
+            _ => None,
+        };
+    }
     match number {
-        AND_ENTRY => Some(Kind::PairKind(Connective::And)),
-        OR_ENTRY => Some(Kind::PairKind(Connective::Or)),
-        SOME_ROW => Some(Kind::RowKind(Quantifier::Some)),
-        EVERY_ROW => Some(Kind::RowKind(Quantifier::All)),
         COMPARISON_OR_NO => Some(Kind::ComparisonKind(Interpretation::AsNo)),
         COMPARISON_OR_YES => Some(Kind::ComparisonKind(Interpretation::AsYes)),
         BLANK => Some(Kind::MarkKind(MarkTest::Null)),
@@ -129,52 +140,59 @@ fn value_at(bytes: &[u8], i: usize) -> Value
     }
 }
 
-// What an entry of this kind says by the fields of its record.
-fn head_of(bytes: &[u8], kind: Kind) -> Head
+// What an entry of this kind says by the fields of its record, put where it is to stand: each kind puts the fields that it has. As a value it was put together
+// of all fields that any kind has, and CHECK of a long card took a seventh longer.
+fn put_head(bytes: &[u8], kind: Kind, head: &mut Option<Head>)
     requires { length bytes.now ≡ record_size }
-    ensures { result ≡ head_in kind bytes.now }
+    ensures { found head.new ≡ some (head_in kind bytes.now) }
 {
     match kind {
-        Kind::PairKind(connective) => Head::PairHead(connective),
-        Kind::RowKind(quantifier) => Head::RowHead {
-            quantifier,
-            table: bytes[TABLE_PLACE],
-        },
-        Kind::ComparisonKind(unknown) => Head::LeafHead(Leaf::CompareLeaf {
-            unknown,
-            comparison: comparison_of(byte(bytes, COMPARISON_PLACE)),
-            left: value_at(bytes, LEFT_PLACE),
-            right: value_at(bytes, RIGHT_PLACE),
-        }),
-        Kind::MarkKind(test) => Head::LeafHead(Leaf::MarkLeaf {
-            test,
-            value: value_at(bytes, LEFT_PLACE),
-        }),
+        Kind::PairKind(connective) => *head = Some(Head::PairHead(connective)),
+        Kind::RowKind(quantifier) => {
+            *head = Some(Head::RowHead {
+                quantifier,
+                table: bytes[TABLE_PLACE],
+            })
+        }
+        Kind::ComparisonKind(unknown) => {
+            *head = Some(Head::LeafHead(Leaf::CompareLeaf {
+                unknown,
+                comparison: comparison_of(byte(bytes, COMPARISON_PLACE)),
+                left: value_at(bytes, LEFT_PLACE),
+                right: value_at(bytes, RIGHT_PLACE),
+            }))
+        }
+        Kind::MarkKind(test) => {
+            *head = Some(Head::LeafHead(Leaf::MarkLeaf {
+                test,
+                value: value_at(bytes, LEFT_PLACE),
+            }))
+        }
     }
 }
 
 // What the entry of a record says, by the number of its kind.
 #[tactic(auto, unfolding(card::specs::Layout::head_from))]
-fn head_from(bytes: &[u8], number: usize) -> Option<Head>
+fn read_head(bytes: &[u8], number: usize, head: &mut Option<Head>)
     requires { length bytes.now ≡ record_size }
-    ensures { found result ≡ head_from number bytes.now }
+    ensures { found head.new ≡ head_from number bytes.now }
 {
-    let kind = kind_of(number)?;
-    if !fields_fit(bytes, kind) {
-        return None;
+    if let Some(kind) = kind_of(number)
+        && fields_fit(bytes, kind)
+    {
+        put_head(bytes, kind, head);
+    } else {
+        *head = None;
     }
-    Some(head_of(bytes, kind))
 }
 
 // The entry of a record, by the number of its kind.
-fn entry_at(bytes: &[u8], number: usize) -> Entry
+fn read_entry(bytes: &[u8], number: usize, entry: &mut Entry)
     requires { length bytes.now ≡ record_size }
-    ensures { EntryOf number bytes.now result }
+    ensures { EntryOf number bytes.now entry.new }
 {
-    Entry {
-        end: read16(bytes, 0),
-        head: head_from(bytes, number),
-    }
+    entry.end = read16(bytes, 0);
+    read_head(bytes, number, &mut entry.head);
 }
 
 // The entries of a card, from the start of d on.
@@ -188,7 +206,7 @@ pub fn decode(card: &[u8], d: &mut [Entry])
     let records = kinds + n;
     for i in 0..n {
         let r = records + RECORD_SIZE * i;
-        d[i] = entry_at(&card[r..r + RECORD_SIZE], byte(card, kinds + i));
+        read_entry(&card[r..r + RECORD_SIZE], byte(card, kinds + i), &mut d[i]);
     }
 }
 

@@ -18,14 +18,16 @@ use rule::{FromClause, Head, Test, Truth, Unary};
 use tables::{Comparison, Connective, MarkTest, Quantifier, Value};
 use values::{LEVELS, look};
 
-// A comparison of two cells: unknown where one of them is blank or declined.
+// A comparison of two cells: unknown where one of them is blank or declined. The numbers are compared first, and the two marks are asked in one test: where a
+// mark was asked before, JUDGE of rows of which some are blank took a fifth longer.
 fn compare(comparison: Comparison, x: Seen, y: Seen) -> Truth
     ensures { result ≡ compare3 comparison (seen_cell x) (seen_cell y) }
 {
-    if x.mark != PRESENT_MARK || y.mark != PRESENT_MARK {
+    let holds = values::numbers_hold(comparison, x.number, y.number);
+    if (x.mark != PRESENT_MARK) | (y.mark != PRESENT_MARK) {
         return Truth::Unknown;
     }
-    Truth::from(values::numbers_hold(comparison, x.number, y.number))
+    Truth::from(holds)
 }
 
 // What a test by the mark says of a cell: a declined cell is blank too, so that IS NULL holds of every cell that is not present. A test and its negation share an

@@ -3,8 +3,9 @@
 // written from the last to the first, e being the number of the one that was written before.
 #![tactic(auto)]
 
-ghost use Rattle.std.specs.Prelude.{◌≡◌};
-ghost use Rattle.names.specs.Code.{Placeable, PlacedTo, InnerPlaceable, InnerPlacedTo, Nameable, NamedTo};
+ghost use Rattle.std.specs.Prelude.{◌≡◌, ◌<◌, set};
+ghost use Rattle.rule.specs.Names.{most_parts};
+ghost use Rattle.names.specs.Code.{rule_part, Placeable, PlacedTo, InnerPlaceable, InnerPlacedTo, Nameable, NamedTo};
 
 use grammar::MOST_PARTS;
 use phrases::Note;
@@ -29,6 +30,14 @@ pub const NO_PART: RulePart = RulePart {
     }),
 };
 
+// Writes part number `at`: what it says, and that it and its inner parts end at e.
+fn put_part(parts: &mut [RulePart; MOST_PARTS], at: usize, e: usize, head: Head<Value, u8>)
+    requires { at < most_parts }
+    ensures { parts.new ≡ set parts.old at (rule_part e head) }
+{
+    parts[at] = RulePart { end: e, head };
+}
+
 // The parts of the condition whose notes are the last of the first h, up to number e: the note's own part stands before its inner parts, so these are
 // placed first. It answers the lowest number of the parts that were placed, or None where some name means nothing.
 #[cycle(placing)]
@@ -45,7 +54,7 @@ fn place(
 {
     let NamedHead { head, inside } = name_note(file, scope, notes[h - 1])?;
     let at = place_inner(file, notes, h - 1, parts, e, &inside, &head)? - 1;
-    parts[at] = RulePart { end: e, head };
+    put_part(parts, at, e, head);
     Some(at)
 }
 

@@ -43,15 +43,15 @@ fn asks_marked(test: MarkTest) -> bool
     matches!(test, MarkTest::Null | MarkTest::IsDeclined)
 }
 
-// Whether two cells compare so; unknown is the answer where one of them is blank or declined. The numbers are compared first: one branch is left.
+// Whether two cells compare so; unknown is the answer where one of them is blank or declined. Both answers are made, and a shift takes one of them: which cells
+// are blank cannot be foreseen, and with a branch on the marks RUN over rows of which some are blank took a quarter longer.
 fn cells_hold(unknown: bool, comparison: Comparison, x: Seen, y: Seen) -> bool
     ensures { result ≡ by_numbers unknown (holds comparison) (seen_cell x) (seen_cell y) }
 {
     let h = values::numbers_hold(comparison, x.number, y.number);
-    if (x.mark != PRESENT_MARK) | (y.mark != PRESENT_MARK) {
-        return unknown;
-    }
-    h
+    let absent = (x.mark != PRESENT_MARK) | (y.mark != PRESENT_MARK);
+    let answers = h as u32 + 2 * (unknown as u32);
+    (answers >> absent as u32) % 2 == 1
 }
 
 // A card's entries, and the tables that they are run over, with where these stand.

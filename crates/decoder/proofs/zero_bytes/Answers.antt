@@ -1,11 +1,12 @@
-use Rattle.std.proofs.Common.{◌∙◌, rules, tests}
-use Rattle.std.proofs.lemmas.Iterator.{YieldsList-from_slice}
-use Rattle.std.proofs.lemmas.Iterator.Search.{all_from_yields_List}
-use lib.Dec.{eqb}
-use Rattle.decoder.proofs.Decoding.{list_all_is}
+use Rattle.std.proofs.Common.{refl}
+use Rattle.decoder.proofs.Decoding.{zeros_next, zeros_end}
 use Rattle.decoder.proofs.zero_bytes.Goals as goal
 
+pub loop-byte-init : goal.loop-byte-init
+loop-byte-init c = refl
+
+pub loop-byte-preserved : goal.loop-byte-preserved
+loop-byte-preserved c = zeros_next c.args.bytes.now c.loop-byte.highest c.loop-byte.byte-index _ c.loop-byte.invariant c.loop-byte-test.true c.max-highest.ensures
+
 pub returns : goal.returns
-returns c =
-    all_from_yields_List (λ x. eqb x 0) _ _ _ c.all.ensures.ran (YieldsList-from_slice c.args.bytes.now c.iter.ensures.rest) (λ x b q k. search (rules, tests))
-    ∙ list_all_is (λ x. eqb x 0) c.args.bytes.now
+returns c = zeros_end c.args.bytes.now c.loop-byte.highest c.loop-byte.byte-index c.loop-byte.invariant c.loop-byte-test.false

@@ -13,12 +13,12 @@ returns-in_err-prepare c =
 pub returns-then-table-row : goal.returns-then-table-row
 returns-then-table-row c =
     run_no_row _ _ _ c.in_ok-prepare.ensures.answer
-    (omega (arith, one_rows (c.in_ok-prepare.ensures.opened refl).sized c.layout_of-layout.ensures c.table_place-table.ensures))
+    (omega (arith, one_rows (c.in_ok-prepare.ensures.opened refl).sized c.layout_of-layout.ensures.places c.table_place-table.ensures))
 
 pub says_yes-requires-clause-below : goal.says_yes-requires-clause-below
-says_yes-requires-clause-below c = omega (arith, one_rows (c.in_ok-prepare.ensures.opened refl).sized c.layout_of-layout.ensures c.table_place-table.ensures)
+says_yes-requires-clause-below c = omega (arith, one_rows (c.in_ok-prepare.ensures.opened refl).sized c.layout_of-layout.ensures.places c.table_place-table.ensures)
 
 pub returns : goal.returns
 returns c =
     run_says _ _ _ c.in_ok-prepare.ensures.answer
-    (omega (arith, one_rows (c.in_ok-prepare.ensures.opened refl).sized c.layout_of-layout.ensures c.table_place-table.ensures)) c.says_yes.ensures
+    (omega (arith, one_rows (c.in_ok-prepare.ensures.opened refl).sized c.layout_of-layout.ensures.places c.table_place-table.ensures)) c.says_yes.ensures

@@ -1,4 +1,4 @@
-use Rattle.std.proofs.Common.{arith, rules}
+use Rattle.std.proofs.Common.{arith}
 use Rattle.names.proofs.Placing.{has_notes, letters_fit, head_missing, inner_run, inner_missing, inner_room, placed, join_count, one_count, one_run, one_result, right_run, right_missing, right_room, left_run, left_result}
 use Rattle.names.proofs.+placing.Goals as goal
 
@@ -34,22 +34,17 @@ place-overflow_sub-at t c =
     let run = inner_run c.requires _ _ c.in_ok-head.ensures.is c.in_ok-head.ensures.fits in
     (inner_room c.requires _ _ c.in_ok-head.ensures.is c.in_ok-head.ensures.fits (c.in_ok-at.ensures run)).0
 
-pub place-offset_bounds-parts-at : goal.place-offset_bounds-parts-at
-place-offset_bounds-parts-at t c =
+pub place-put_part-requires : goal.place-put_part-requires
+place-put_part-requires t c =
     let run = inner_run c.requires _ _ c.in_ok-head.ensures.is c.in_ok-head.ensures.fits in
-    let room = inner_room c.requires _ _ c.in_ok-head.ensures.is c.in_ok-head.ensures.fits (c.in_ok-at.ensures run) in
-    search rules
-
-pub place-bounds-parts-at : goal.place-bounds-parts-at
-place-bounds-parts-at t c =
-    let run = inner_run c.requires _ _ c.in_ok-head.ensures.is c.in_ok-head.ensures.fits in
+    let few = c.requires.few_parts in
     omega (arith, inner_room c.requires _ _ c.in_ok-head.ensures.is c.in_ok-head.ensures.fits (c.in_ok-at.ensures run))
 
 pub place-returns : goal.place-returns
 place-returns t c =
     λ q.
     let run = inner_run q _ _ c.in_ok-head.ensures.is c.in_ok-head.ensures.fits in
-    placed q _ _ c.in_ok-head.ensures.is c.in_ok-head.ensures.fits (c.in_ok-at.ensures run) c.place_inner.array_long
+    rw c.put_part.ensures (placed q _ _ c.in_ok-head.ensures.is c.in_ok-head.ensures.fits (c.in_ok-at.ensures run) c.place_inner.array_long)
 
 -- ---- place_inner
 
